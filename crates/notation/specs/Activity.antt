@@ -1,0 +1,58 @@
+-- Which steps are active, computed element by element. The plain definition is `Active` (Fit); a law says that both agree.
+use Prim.Native.Nat.{ℕ, zero, suc}
+use mathlib.Core.Bool.{Bool, true, false, _&&_, _||_}
+use mathlib.Core.List.{List, [], _∷_, reverse}
+use lib.Dec.{leb, eqb}
+use lib.ListN.{length}
+use Rattle.notation.specs.Names.{Name}
+use Rattle.notation.specs.Sets.{Axis, child, descendant, Test, label, star, Path, axisOf, testOf}
+use Rattle.notation.specs.Fit.{stepAt}
+
+unfoldable pub sameName : List ℕ → List ℕ → Bool
+sameName [] [] = true
+sameName [] (b ∷ bs) = false
+sameName (a ∷ rest) [] = false
+sameName (a ∷ rest) (b ∷ bs) = eqb a b && sameName rest bs
+
+abbrev pub takes : Test → Name → Bool
+takes (label l) n = sameName l n
+takes star n = true
+
+-- whether the step after k others may stand here: below says of each step whether it is active on the element around this one,
+-- above whether it is on that one or any further out
+abbrev pub byAxis : Axis → Bool → Bool → Bool
+byAxis child below above = below
+byAxis descendant below above = above
+
+abbrev pub allowed : Path → Bool → (ℕ → Bool) → (ℕ → Bool) → ℕ → Bool
+allowed p root below above zero = byAxis (axisOf (stepAt p 1)) root true
+allowed p root below above (suc j) = byAxis (axisOf (stepAt p (suc (suc j)))) (below (suc j)) (above (suc j))
+
+unfoldable pub here : Path → Bool → (ℕ → Bool) → (ℕ → Bool) → Name → ℕ → Bool
+here p root below above e zero = false
+here p root below above e (suc k) =
+    leb (suc k) (length p) && (takes (testOf (stepAt p (suc k))) e && allowed p root below above k)
+
+abbrev pub isEmpty : List Name → Bool
+isEmpty [] = true
+isEmpty (n ∷ ns) = false
+
+-- of names innermost first: step s is active on the innermost; it is active there or on an element further out
+unfoldable mutual
+  pub activeIn : List Name → Path → ℕ → Bool
+  activeIn [] p s = false
+  activeIn (e ∷ outer) p s = here p (isEmpty outer) (activeIn outer p) (seenIn outer p) e s
+
+  pub seenIn : List Name → Path → ℕ → Bool
+  seenIn [] p s = false
+  seenIn (e ∷ outer) p s = here p (isEmpty outer) (activeIn outer p) (seenIn outer p) e s || seenIn outer p s
+
+-- the same of names outermost first
+abbrev pub active : Path → ℕ → List Name → Bool
+active p s names = activeIn (reverse names) p s
+
+abbrev pub seen : Path → ℕ → List Name → Bool
+seen p s names = seenIn (reverse names) p s
+
+abbrev pub fits : Path → List Name → Bool
+fits p names = active p (length p) names

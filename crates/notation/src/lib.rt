@@ -1,0 +1,7 @@
+// The notation: names, folder sets and what a path means.
+
+// A path's place: its index among all paths of the set.
+pub struct PathPlace(pub usize);
+
+// A folder's number, as its line gives it.
+pub struct FolderNumber(pub usize);
