@@ -41,11 +41,11 @@ isEmpty (n ∷ ns) = false
 unfoldable mutual
   pub activeIn : List Name → Path → ℕ → Bool
   activeIn [] p s = false
-  activeIn (e ∷ outer) p s = here p (isEmpty outer) (activeIn outer p) (seenIn outer p) e s
+  activeIn (e ∷ outer) p s = here p (isEmpty outer) (λ i. activeIn outer p i) (λ i. seenIn outer p i) e s
 
   pub seenIn : List Name → Path → ℕ → Bool
   seenIn [] p s = false
-  seenIn (e ∷ outer) p s = here p (isEmpty outer) (activeIn outer p) (seenIn outer p) e s || seenIn outer p s
+  seenIn (e ∷ outer) p s = here p (isEmpty outer) (λ i. activeIn outer p i) (λ i. seenIn outer p i) e s || seenIn outer p s
 
 -- the same of names outermost first
 abbrev pub active : Path → ℕ → List Name → Bool
