@@ -4,5 +4,8 @@ pub mod Names
 pub mod Sets
 pub mod Print
 pub mod Form
+pub mod Scan
+pub mod Layout
+pub mod Emit
 pub mod Fit
 pub mod Activity
