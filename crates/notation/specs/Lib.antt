@@ -1,6 +1,7 @@
 pub mod Limits
 pub mod Refusals
 pub mod Names
+pub mod Classes
 pub mod Sets
 pub mod Print
 pub mod Form

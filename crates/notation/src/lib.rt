@@ -1,6 +1,8 @@
 // The notation: names, folder sets and what a path means.
 pub mod scan;
 
+pub mod names;
+
 // A path's place: its index among all paths of the set.
 pub struct PathPlace(pub usize);
 

@@ -1,0 +1,5 @@
+pub mod Tests
+pub mod Table
+pub mod Classes
+pub mod Names
+pub mod SameName
