@@ -1,1 +1,3 @@
 pub mod Innermost
+pub mod LastStep
+pub mod Fit

@@ -28,6 +28,10 @@ isEmpty-reverse : (names : List Name) → isEmpty (reverse names) ≡ isEmpty na
 isEmpty-reverse [] = refl
 isEmpty-reverse (n ∷ ns) = ap isEmpty (reverse-cons n ns) ∙ isEmpty-more (reverse ns) n
 
+-- names that are not empty end in one
+snoc : (names : List Name) (n : ℕ) → length names ≡ suc n → names ≡ take n names ++ (getD names n [] ∷ [])
+snoc names n e = sym (take-length names) ∙ rw e (take-suc names n [] (omega arith))
+
 past : (p : Path) (s : ℕ) → length p < s → (root : Bool) (below above : ℕ → Bool) (e : Name)
     → here p root below above e s ≡ false
 unfolding here
@@ -80,10 +84,7 @@ module _ (p : Path) (s : ℕ) where
   pub seen-past : length p < s → (names : List Name) → seen p s names ≡ false
   seen-past h names = never (reverse names) (past p s h) .1
 
-  -- names with a last one: what is active by the names before it
-  pub snoc : (names : List Name) (n : ℕ) → length names ≡ suc n → names ≡ take n names ++ (getD names n [] ∷ [])
-  snoc names n e = sym (take-length names) ∙ rw e (take-suc names n [] (omega arith))
-
+  -- the same of names that are not empty
   pub active-last : (names : List Name) (n : ℕ) → length names ≡ suc n
       → active p s names
       ≡ here p (isEmpty (take n names)) (λ i. active p i (take n names)) (λ i. seen p i (take n names)) (getD names n []) s
