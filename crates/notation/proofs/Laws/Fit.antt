@@ -1,9 +1,9 @@
 -- The computed test and the definition by positions agree, for every path, step and list of names.
 use Prim.Native.Nat.{ℕ, zero, suc, _≤_, _<_, pred}
 use native.Mathlib.Omega.{arith}
-use mathlib.Core.Path.{_≡_, refl, sym, ap, ap₂, _∙_, subst}
+use mathlib.Core.Path.{_≡_, refl, sym, ap₂, _∙_, subst}
 use mathlib.Core.Logic.{_↔_}
-use mathlib.Core.Bool.{Bool, true, false, _&&_, true≢false, false≢true, and-eq-true-iff}
+use mathlib.Core.Bool.{Bool, true, _&&_, true≢false, false≢true, and-eq-true-iff}
 use mathlib.Core.List.{List, [], _∷_, nil≢cons, cons≢nil, head-eq-of-cons-eq, tail-eq-of-cons-eq}
 use lib.Dec.{leb, eqb}
 use borrow.Author.Tests.{le-leb, leb-true, eq-eqb, eqb-true}
@@ -30,10 +30,12 @@ sameName-is (a ∷ l) (b ∷ bs) = (
       (eq-eqb a b (head-eq-of-cons-eq e), sameName-is l bs .1 (tail-eq-of-cons-eq e)),
 )
 
+-- a test takes a name exactly when it is computed so
 pub takes-is : (t : Test) (n : Name) → (takes t n ≡ true) ↔ Takes t n
 takes-is (label l) n = sameName-is l n
 takes-is star n = (λ e. tt, λ u. refl)
 
+-- what the test of one element says: the step is there, takes the name, and is allowed
 pub here-is : (p : Path) (root : Bool) (below above : ℕ → Bool) (e : Name) (k : ℕ)
     → (here p root below above e (suc k) ≡ true)
     ↔ ((suc k ≤ length p) × Takes (testOf (stepAt p (suc k))) e × (allowed p root below above k ≡ true))
@@ -103,6 +105,7 @@ module _ (p : Path) (names : List Name) (n : ℕ) (e : length names ≡ suc n) w
             (h .0, subst (λ (m : ℕ). Takes (testOf (stepAt p (suc k))) (nameAt names m)) e (h .1), h .2),
       )
 
+-- by induction over the steps, from the last to the first
 sound : (p : Path) (s : ℕ) (names : List Name) → active p s names ≡ true → Active p s names
 sound p zero names t = absurd (true≢false (sym t ∙ active-zero p names))
 sound p (suc zero) names t =
@@ -147,8 +150,10 @@ complete p (suc (suc j)) names a =
       ),
     )
 
+-- a step is active by positions exactly when it is computed so
 pub active-is : (p : Path) (s : ℕ) (names : List Name) → Active p s names ↔ (active p s names ≡ true)
 active-is p s names = (complete p s names, sound p s names)
 
+-- a path fits by positions exactly when it is computed so
 pub fits-is : (p : Path) (names : List Name) → Fits p names ↔ (fits p names ≡ true)
 fits-is p names = active-is p (length p) names

@@ -4,11 +4,11 @@ use Prim.Native.Nat.{ℕ, zero, suc, _≤_, _<_}
 use native.Mathlib.Omega.{arith}
 use mathlib.Core.Path.{_≡_, refl, sym, ap, _∙_}
 use mathlib.Core.Logic.{_↔_}
-use mathlib.Core.Bool.{Bool, true, false, _&&_, _||_, true≢false, false≢true, or-true}
+use mathlib.Core.Bool.{Bool, true, false, _&&_, _||_, true≢false, or-true}
 use mathlib.Core.List.{List, [], _∷_, _++_, reverse, reverse-append, reverse-cons}
 use lib.Dec.{leb}
 use borrow.Author.Tests.{lt-leb, leb-true, leb-false}
-use lib.ListN.{length, take, getD, length-reverse}
+use lib.ListN.{length, take, getD}
 use lib.Seq.{take-suc, take-length}
 use Rattle.notation.specs.Names.{Name}
 use Rattle.notation.specs.Sets.{Path, testOf}
@@ -17,8 +17,8 @@ use Rattle.notation.specs.Activity.{takes, allowed, here, isEmpty, activ
 
 -- cases on a test, with what it gave
 pub cases {ℓ} : {X : Type ℓ} (b : Bool) → (b ≡ true → X) → (b ≡ false → X) → X
-cases true yes' no' = yes' refl
-cases false yes' no' = no' refl
+cases true t f = t refl
+cases false t f = f refl
 
 isEmpty-more : (names : List Name) (e : Name) → isEmpty (names ++ (e ∷ [])) ≡ false
 isEmpty-more [] e = refl
@@ -32,6 +32,7 @@ isEmpty-reverse (n ∷ ns) = ap isEmpty (reverse-cons n ns) ∙ isEmpty-more (re
 snoc : (names : List Name) (n : ℕ) → length names ≡ suc n → names ≡ take n names ++ (getD names n [] ∷ [])
 snoc names n e = sym (take-length names) ∙ rw e (take-suc names n [] (omega arith))
 
+-- a step past the last of the path, and step 0, are active nowhere
 past : (p : Path) (s : ℕ) → length p < s → (root : Bool) (below above : ℕ → Bool) (e : Name)
     → here p root below above e s ≡ false
 unfolding here
@@ -53,6 +54,7 @@ module _ (p : Path) (s : ℕ) where
   unfolding activeIn seenIn
   seen-none = refl
 
+  -- one more element open: active on it by what was active around it
   pub active-more : (names : List Name) (e : Name)
       → active p s (names ++ (e ∷ [])) ≡ here p (isEmpty names) (λ i. active p i names) (λ i. seen p i names) e s
   unfolding activeIn seenIn
@@ -84,7 +86,7 @@ module _ (p : Path) (s : ℕ) where
   pub seen-past : length p < s → (names : List Name) → seen p s names ≡ false
   seen-past h names = never (reverse names) (past p s h) .1
 
-  -- the same of names that are not empty
+  -- active-more, of any names that are not empty
   pub active-last : (names : List Name) (n : ℕ) → length names ≡ suc n
       → active p s names
       ≡ here p (isEmpty (take n names)) (λ i. active p i (take n names)) (λ i. seen p i (take n names)) (getD names n []) s

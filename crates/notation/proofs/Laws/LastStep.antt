@@ -2,14 +2,14 @@
 use Prim.Native.Nat.{ℕ, zero, suc, _≤_, _<_, pred}
 use native.Mathlib.Omega.{arith}
 use mathlib.Core.Path.{_≡_, refl, sym, ap, _∙_, subst}
-use mathlib.Core.Bool.{Bool, true, false, cond}
-use mathlib.Core.List.{List, [], _∷_}
+use mathlib.Core.Bool.{Bool, cond}
+use mathlib.Core.List.{List, []}
 use lib.Dec.{leb}
 use borrow.Author.Tests.{le-leb, lt-leb, leb-true, leb-false}
-use lib.ListN.{length, take, getD}
+use lib.ListN.{length, take}
 use lib.Seq.{length-take-le, getD-take}
 use Rattle.notation.specs.Names.{Name}
-use Rattle.notation.specs.Sets.{Axis, child, Path, axisOf, testOf}
+use Rattle.notation.specs.Sets.{child, Path, axisOf, testOf}
 use Rattle.notation.specs.Fit.{Takes, stepAt, nameAt, Active}
 use Rattle.notation.proofs.Laws.Innermost.{cases}
 
@@ -47,7 +47,7 @@ pub onFirst : (p : Path) (names : List Name) → 1 ≤ length names → 1 ≤ le
 onFirst p names some room takes near = record {
   d = λ i. length names;
   there = (omega arith, room);
-  within = some;
+  within = omega arith;
   rising = λ i pos le. absurd (omega arith);
   innermost = refl;
   taken = one-more (λ (i : ℕ). Takes (testOf (stepAt p i)) (nameAt names (length names))) 0 (λ i pos le. absurd (omega arith)) takes;
@@ -93,6 +93,7 @@ module _ (p : Path) (j : ℕ) (names : List Name) where
     end : b .d (suc j) ≡ k
     end = b .innermost ∙ length-take-le k names (omega arith)
 
+    -- from the step before it, active on one of the first names, the next step is active on the innermost
     pub onward : Active p (suc (suc j)) names
     onward = record {
       d = d';
