@@ -3,3 +3,7 @@ pub mod Table
 pub mod Classes
 pub mod Names
 pub mod SameName
+pub mod Innermost
+pub mod LastStep
+pub mod Fit
+pub mod FitTable

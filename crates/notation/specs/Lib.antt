@@ -10,3 +10,4 @@ pub mod Layout
 pub mod Emit
 pub mod Fit
 pub mod Activity
+pub mod FitTable
