@@ -6,6 +6,7 @@ pub mod Sets
 pub mod Print
 pub mod Form
 pub mod Scan
+pub mod Safe
 pub mod Layout
 pub mod Emit
 pub mod Fit

@@ -29,11 +29,20 @@ inWord word k last b more over = cond (eqb b (getD word k 0)) (cond (eqb k last)
 abbrev pub inNumber : ℕ → ℕ → Mode
 inNumber n b = cond (eqb b 32) PathOpen (cond (digit b && ltb n 1000) (Number (10 * n + (b - 48))) Bent)
 
+abbrev pub lineStart : ℕ → Mode
+lineStart b = cond (eqb b 40) (Word 1) (cond (eqb b 41) LastLine Bent)
+
+abbrev pub numberStart : ℕ → Mode
+numberStart b = cond (within 49 57 b) (Number (b - 48)) Bent
+
+abbrev pub pathEnd : ℕ → Mode
+pathEnd b = cond (eqb b 32) PathOpen (cond (eqb b 41) LineEnd Bent)
+
 unfoldable pub next : Mode → ℕ → Mode
 next (Header k) b = inWord header k 8 b (Header (k + 1)) LineStart
-next LineStart b = cond (eqb b 40) (Word 1) (cond (eqb b 41) LastLine Bent)
+next LineStart b = lineStart b
 next (Word k) b = inWord folderWord k 7 b (Word (k + 1)) NumberStart
-next NumberStart b = cond (within 49 57 b) (Number (b - 48)) Bent
+next NumberStart b = numberStart b
 next (Number n) b = inNumber n b
 next PathOpen b = cond (eqb b 40) PathStart Bent
 next PathStart b = cond (eqb b 47) Slash Bent
@@ -41,7 +50,7 @@ next Slash b = cond (eqb b 47) Slashes (testStart b)
 next Slashes b = testStart b
 next Label b = cond (inName b) Label (testEnd b)
 next Star b = testEnd b
-next PathEnd b = cond (eqb b 32) PathOpen (cond (eqb b 41) LineEnd Bent)
+next PathEnd b = pathEnd b
 next LineEnd b = cond (eqb b 10) LineStart Bent
 next LastLine b = cond (eqb b 10) Done Bent
 next Done b = Bent

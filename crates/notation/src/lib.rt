@@ -1,7 +1,6 @@
 // The notation: names, folder sets and what a path means.
-pub mod scan;
-
 pub mod names;
+pub mod scan;
 
 // A path's place: its index among all paths of the set.
 pub struct PathPlace(pub usize);

@@ -1,0 +1,32 @@
+-- What every scan from the start keeps, so that its sums fit: no count is above the number of bytes read, and places in the fixed
+-- words are within them.
+use Prim.Native.Nat.{ℕ, _≤_}
+use Rattle.notation.specs.declared.scan.Mode.{Mode}
+use Rattle.notation.specs.declared.scan.Mode.the-variants.{Header, LineStart, Word, NumberStart, Number, PathOpen, PathStart, Slash, Slashes, Label, Star, PathEnd, LineEnd, LastLine, Done, Bent}
+use Rattle.notation.specs.declared.scan.Tally.{Tally}
+use Rattle.notation.specs.declared.scan.Scan.{Scan}
+
+abbrev pub SmallMode : Mode → Type 0
+SmallMode (Header k) = k ≤ 8
+SmallMode LineStart = Unit {0}
+SmallMode (Word k) = k ≤ 7
+SmallMode NumberStart = Unit {0}
+SmallMode (Number n) = Unit {0}
+SmallMode PathOpen = Unit {0}
+SmallMode PathStart = Unit {0}
+SmallMode Slash = Unit {0}
+SmallMode Slashes = Unit {0}
+SmallMode Label = Unit {0}
+SmallMode Star = Unit {0}
+SmallMode PathEnd = Unit {0}
+SmallMode LineEnd = Unit {0}
+SmallMode LastLine = Unit {0}
+SmallMode Done = Unit {0}
+SmallMode Bent = Unit {0}
+
+pub record Safe (s : Scan) : Type 0 where
+  pub mode : SmallMode (s .mode)
+  pub folders : s .tally .folders ≤ s .tally .at
+  pub paths : s .tally .paths ≤ s .tally .at
+  pub steps : s .tally .steps ≤ s .tally .at
+  pub labels : s .tally .labels ≤ s .tally .at
