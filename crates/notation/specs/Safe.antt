@@ -1,6 +1,6 @@
 -- What every scan from the start keeps, so that its sums fit: no count is above the number of bytes read, and places in the fixed
 -- words are within them.
-use Prim.Native.Nat.{ℕ, _≤_}
+use Prim.Native.Nat.{ℕ, _≤_, _<_}
 use Rattle.notation.specs.declared.scan.Mode.{Mode}
 use Rattle.notation.specs.declared.scan.Mode.the-variants.{Header, LineStart, Word, NumberStart, Number, PathOpen, PathStart, Slash, Slashes, Label, Star, PathEnd, LineEnd, LastLine, Done, Bent}
 use Rattle.notation.specs.declared.scan.Tally.{Tally}
@@ -23,6 +23,14 @@ SmallMode LineEnd = Unit {0}
 SmallMode LastLine = Unit {0}
 SmallMode Done = Unit {0}
 SmallMode Bent = Unit {0}
+
+-- every count leaves room for one more
+pub record Small (t : Tally) : Type 0 where
+  pub at : t .at < 65536
+  pub folders : t .folders < 65536
+  pub paths : t .paths < 65536
+  pub steps : t .steps < 65536
+  pub labels : t .labels < 65536
 
 pub record Safe (s : Scan) : Type 0 where
   pub mode : SmallMode (s .mode)

@@ -1,4 +1,5 @@
 // The notation: names, folder sets and what a path means.
+pub mod limits;
 pub mod names;
 pub mod scan;
 

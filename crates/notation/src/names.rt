@@ -1,4 +1,5 @@
 // Byte classes, and the name test, which goes by them.
+use crate::limits::MAX_NAME;
 ghost use mathlib.Core.Path.{_≡_};
 ghost use Rattle.notation.specs.Classes.{classOf};
 ghost use Rattle.notation.specs.Names.{beginsName, inName, nameForm, tooLong};
@@ -51,9 +52,6 @@ pub const SQUARE: u8 = 20;
 pub const OTHER: u8 = 21;
 
 pub const FOREIGN: u8 = 22;
-
-// Bytes of a name, at most: the specification's maxName.
-const MAX_NAME: usize = 32;
 
 // Bytes of 128 and more are answered, not looked up.
 pub fn class_of(b: u8) -> u8
