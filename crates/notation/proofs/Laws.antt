@@ -3,6 +3,8 @@ pub mod Table
 pub mod Classes
 pub mod Names
 pub mod SameName
+pub mod Safe
+pub mod Turns
 pub mod Innermost
 pub mod LastStep
 pub mod Fit

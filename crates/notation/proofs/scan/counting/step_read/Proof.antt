@@ -35,11 +35,12 @@ add-then-2 c = search needs
 -- src/scan/counting.rt:77:1
 returns : tie.Need-returns
 unfolding maxSteps
-returns c = rw
-    (c .before .before .or-else2 .ensures,
-    c .before .before .before .or-else .ensures,
-    c .before .before .before .before .when .ensures,
-    c .before .before .before .before .before .minus .ensures)
+returns c = rw (
+  c .before .before .or-else2 .ensures,
+  c .before .before .before .or-else .ensures,
+  c .before .before .before .before .when .ensures,
+  c .before .before .before .before .before .minus .ensures,
+)
 
 pub step-read-spec : {M : Type 1} → statement M
 step-read-spec =

@@ -1,0 +1,17 @@
+-- A scan from a place in the text: one byte more, and its end.
+use Prim.Native.Nat.{ℕ, suc, _+_, _≤_, _<_}
+use mathlib.Core.Path.{_≡_, refl}
+use mathlib.Core.List.{List, [], _∷_}
+use native.Mathlib.Numerals.{add-one}
+use lib.ListN.{length, getD, drop, drop-of-length-le}
+use lib.Seq.{drop-cons}
+use Rattle.notation.specs.Scan.{scan, scanned}
+use Rattle.notation.specs.declared.scan.Scan.{Scan}
+
+pub scan-more : (s : Scan) (text : List ℕ) (i : ℕ) → i < length text → scan s (drop i text) ≡ scan (scanned s (getD text i 0)) (drop (i + 1) text)
+unfolding scan
+scan-more s text i h = rw (add-one, drop-cons text i 0)
+
+pub scan-end : (s : Scan) (text : List ℕ) (i : ℕ) → length text ≤ i → scan s (drop i text) ≡ s
+unfolding scan
+scan-end s text i h = rw drop-of-length-le
