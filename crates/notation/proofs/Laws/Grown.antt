@@ -50,6 +50,7 @@ path a = record {
   prints = ap (λ t. 32 ∷ 40 ∷ t) (simp (append-assoc, a .after .prints, a .prints));
 }
 
+-- where one path or more may follow, any number may
 pub any-paths : {l : List ℕ} → SomePaths l → AnyPaths l
 any-paths a = record { paths = a .paths; good = and-right (nonEmpty (a .paths)) _ (a .good); rest = a .rest; lines = a .lines; prints = a .prints }
 
@@ -69,6 +70,7 @@ a-step x a = record {
   prints = simp (append-assoc, a .after .prints, a .prints);
 }
 
+-- where one step or more may follow, any number may
 pub any-steps : {l : List ℕ} → SomeSteps l → AnySteps l
 unfolding formedPath
 any-steps a = record { path = a .path; good = and-right (nonEmpty (a .path)) _ (a .good); rest = a .rest; after = a .after; prints = a .prints }
@@ -113,6 +115,7 @@ number n pos top a = record {
   prints = ap (λ t. decimal n ++ t) (a .prints);
 }
 
+-- a number by its first digit, and by a further one
 pub digit-begin : (b : ℕ) (l : List ℕ) → within 49 57 b ≡ true → Rest (Number (b - 48)) l → AtNumber (b ∷ l)
 unfolding maxNumber
 digit-begin b l e r =

@@ -27,6 +27,7 @@ paths-good n p f h =
     and-right (nonEmpty p) (every formedPath p)
     (and-right (within 1 maxNumber n) (nonEmpty p && every formedPath p) (and-left (formedFolder (folder n p)) (every formedFolder f) h))
 
+-- what follows a line's first word says which folder it is, and where the line ends
 same-folder : (m n : ℕ) (p q : List Path) (r s : List ℕ) → every formedPath p ≡ true → every formedPath q ≡ true
     → decimal m ++ (printPaths p ++ 41 ∷ r) ≡ decimal n ++ (printPaths q ++ 41 ∷ s) → (folder m p ≡ folder n q) × (r ≡ s)
 same-folder m n p q r s hp hq e =

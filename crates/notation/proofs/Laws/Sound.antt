@@ -45,6 +45,7 @@ in-word w l k last b more over P size le goes ends =
     (λ t r. rw (take-all (suc k) w (omega (arith, eqb-true k last t))) (ends r))
     (λ f r. goes (omega (arith, eqb-false k last f)) r) r))
 
+-- in the first line, in the word that begins a folder's line, and at that word's bracket
 in-header : (k b : ℕ) (l : List ℕ) → Rest (inWord header k 8 b (Header (k + 1)) LineStart) l → k ≤ 8 → OfForm (take k header ++ b ∷ l)
 unfolding header print
 in-header k b l r le =
@@ -62,11 +63,13 @@ word-begin : {l : List ℕ} → (1 ≤ 7 → Lines (take 1 folderWord ++ l)) →
 unfolding folderWord
 word-begin r = r (omega arith)
 
+-- a test ends at the next step or at the path's bracket
 slash-or-end : (b : ℕ) (l : List ℕ) → Rest (testEnd b) l → AnySteps (b ∷ l)
 slash-or-end b l =
     on (eqb b 47) Slash (cond (eqb b 41) PathEnd Bent) l (λ e r. rw (eqb-true b 47 e) (any-steps r))
     (λ f. only (eqb b 41) PathEnd l (λ e r. rw (eqb-true b 41 e) (path-end r)))
 
+-- a label or `*` begins
 a-test : (b : ℕ) (l : List ℕ) → Rest (testStart b) l → AtTest (b ∷ l)
 a-test b l =
     on (beginsName b) Label (cond (eqb b 42) Star Bent) l (λ e r. label-begin b e r)
@@ -102,6 +105,7 @@ back LastLine b l r = only (eqb b 10) Done l (λ e r. rw (eqb-true b 10 e) r) r
 back Done b l r = absurd r
 back Bent b l r = r
 
+-- one induction: what leads to Done is an accepted rest
 accepted : (l : List ℕ) (m : Mode) → isDone (modes m l) ≡ true → Rest m l
 unfolding modes
 accepted [] (Header k) e = absurd (false≢true e)
