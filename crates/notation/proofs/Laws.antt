@@ -9,3 +9,14 @@ pub mod Innermost
 pub mod LastStep
 pub mod Fit
 pub mod FitTable
+pub mod Modes
+pub mod Decimal
+pub mod Accepted
+pub mod Grown
+pub mod Sound
+pub mod Span
+pub mod Number
+pub mod SameStep
+pub mod SamePath
+pub mod SameSet
+pub mod OneSet
