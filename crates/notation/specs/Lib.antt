@@ -9,6 +9,7 @@ pub mod Scan
 pub mod Safe
 pub mod Layout
 pub mod Emit
+pub mod Put
 pub mod Fit
 pub mod Activity
 pub mod FitTable
