@@ -1,6 +1,9 @@
 // The notation: names, folder sets and what a path means.
+pub mod arith;
+pub mod layout;
 pub mod limits;
 pub mod names;
+pub mod put;
 pub mod scan;
 
 // A path's place: its index among all paths of the set.

@@ -1,4 +1,5 @@
 // What the bytes of a set's text add to its counts, one byte at a time.
+use crate::arith::minus;
 use crate::limits::MAX_NAME;
 use crate::limits::MAX_STEPS;
 use crate::names;
@@ -6,7 +7,7 @@ use crate::scan::Mode;
 use crate::scan::Tally;
 ghost use mathlib.Core.Path.{_≡_};
 ghost use mathlib.Core.Bool.{cond};
-ghost use Prim.Native.Nat.{_-_, _<_};
+ghost use Prim.Native.Nat.{_<_};
 ghost use lib.Dec.{eqb};
 ghost use Rattle.notation.specs.Names.{inName};
 ghost use Rattle.notation.specs.Scan.{orElse, folderRead, pathBegun, deepened, labelBegun, labelRead, starRead, stepRead, pathRead, counted};
@@ -24,12 +25,6 @@ fn when(holds: bool, number: u8) -> u8
     ensures { λ r. ⌜ r ≡ cond holds number 0 ⌝ }
 {
     if holds { number } else { 0 }
-}
-
-fn minus(a: usize, b: usize) -> usize
-    ensures { λ r. ⌜ r ≡ a - b ⌝ }
-{
-    if a < b { 0 } else { a - b }
 }
 
 // A folder's number n has ended.

@@ -11,8 +11,6 @@ use mathlib.Core.Path.{_≡_, refl}
 use borrow.Author.Needs.{needs}
 use Rattle.notation.proofs.scan.is_done.Statement.{statement}
 use Rattle.notation.proofs.scan.is_done.Tie as tie
-use Rattle.notation.proofs.scan.is_done.Reads as reads
-use Rattle.notation.proofs.scan.is_done.Lts as lts
 
 -- every mode but the last but one
 abbrev others : List ℕ
@@ -36,15 +34,12 @@ not-done LastLine h = refl
 not-done Done h = absurd (miss others 14 tt h)
 not-done Bent h = refl
 
--- src/scan.rt:131:29
 enum-told : tie.Need-enum-told
 enum-told c = search needs
 
--- src/scan.rt:128:1
 returns : tie.Need-returns
 returns c = search needs
 
--- src/scan.rt:128:1
 returns-2 : tie.Need-returns-2
 returns-2 c = not-done (c .before .args .m) (c .match .keys2)
 

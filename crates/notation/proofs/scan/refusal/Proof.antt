@@ -5,25 +5,17 @@ use borrow.Author.Tests.{lt-ltb, le-ltb}
 use borrow.Author.Needs.{needs}
 use Rattle.notation.proofs.scan.refusal.Statement.{statement}
 use Rattle.notation.proofs.scan.refusal.Tie as tie
-use Rattle.notation.proofs.scan.refusal.Reads as reads
-use Rattle.notation.proofs.scan.refusal.Lts as lts
-use Rattle.notation.proofs.scan.run.Reads as run-reads
-use Rattle.notation.proofs.scan.verdict.Reads as verdict-reads
 
--- src/scan.rt:160:9
 returns : tie.Need-returns
 unfolding refusalOf maxSetBytes
 returns c = rw (lt-ltb _ _ (c .if1 .taken))
 
--- src/scan.rt:162:13
 run-requires : tie.Need-run-requires
 run-requires c κs = search needs
 
--- src/scan.rt:162:5
 verdict-requires : tie.Need-verdict-requires
 verdict-requires c κs = search needs
 
--- src/scan.rt:156:1
 returns-2 : tie.Need-returns-2
 unfolding refusalOf maxSetBytes
 returns-2 c = rw (le-ltb _ _ (c .before .before .if1 .left)) (c .verdict .ensures ∙ ap ended (c .before .run .ensures))

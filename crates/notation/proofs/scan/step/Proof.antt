@@ -3,25 +3,16 @@ use Rattle.notation.specs.Scan.{scanned}
 use borrow.Author.Needs.{needs}
 use Rattle.notation.proofs.scan.step.Statement.{statement}
 use Rattle.notation.proofs.scan.step.Tie as tie
-use Rattle.notation.proofs.scan.step.Reads as reads
-use Rattle.notation.proofs.scan.step.Lts as lts
-use Rattle.notation.proofs.scan.counting.count.Reads as count-reads
-use Rattle.notation.proofs.scan.modes.step_mode.Reads as step-mode-reads
-use Rattle.notation.proofs.scan.tick.Reads as tick-reads
 
--- src/scan.rt:88:15
 step-mode-requires : tie.Need-step-mode-requires
 step-mode-requires c κs = search needs
 
--- src/scan.rt:89:21
 count-requires : tie.Need-count-requires
 count-requires c κs = search needs
 
--- src/scan.rt:89:16
 tick-requires : tie.Need-tick-requires
 tick-requires c κs = rw (c .count .ensures, grown _ _ _ .at) (c .before .before .before .pre .1)
 
--- src/scan.rt:81:1
 returns : tie.Need-returns
 unfolding scanned
 returns c = rw (c .tick .ensures, c .before .count .ensures, c .before .before .step-mode .ensures)

@@ -5,35 +5,26 @@ use borrow.Author.Tests.{eq-eqb, ne-eqb, lt-ltb, le-ltb, not-true, not-false}
 use borrow.Author.Needs.{needs}
 use Rattle.notation.proofs.scan.verdict.Statement.{statement}
 use Rattle.notation.proofs.scan.verdict.Tie as tie
-use Rattle.notation.proofs.scan.verdict.Reads as reads
-use Rattle.notation.proofs.scan.verdict.Lts as lts
-use Rattle.notation.proofs.scan.is_done.Reads as is-done-reads
 
--- src/scan.rt:140:9
 is-done-requires : tie.Need-is-done-requires
 is-done-requires c κs = search needs
 
--- src/scan.rt:141:9
 returns : tie.Need-returns
 unfolding ended
 returns c = rw (sym (c .before .is-done .ensures) ∙ not-true _ (c .if1 .taken))
 
--- src/scan.rt:144:9
 returns-2 : tie.Need-returns-2
 unfolding ended
 returns-2 c = rw (sym (c .before .before .before .is-done .ensures) ∙ not-false _ (c .before .before .if1 .left), ne-eqb _ _ (c .if2 .taken))
 
--- src/scan.rt:147:9
 returns-3 : tie.Need-returns-3
 unfolding ended maxPaths
 returns-3 c = rw (sym (c .before .before .before .before .before .is-done .ensures) ∙ not-false _ (c .before .before .before .before .if1 .left), eq-eqb _ _ (c .before .before .if2 .left), lt-ltb _ _ (c .if3 .taken))
 
--- src/scan.rt:150:9
 returns-4 : tie.Need-returns-4
 unfolding ended maxPaths maxLabels
 returns-4 c = rw (sym (c .before .before .before .before .before .before .before .is-done .ensures) ∙ not-false _ (c .before .before .before .before .before .before .if1 .left), eq-eqb _ _ (c .before .before .before .before .if2 .left), le-ltb _ _ (c .before .before .if3 .left), lt-ltb _ _ (c .if4 .taken))
 
--- src/scan.rt:135:1
 returns-5 : tie.Need-returns-5
 unfolding ended maxPaths maxLabels
 returns-5 c = rw (sym (c .before .before .before .before .before .before .before .is-done .ensures) ∙ not-false _ (c .before .before .before .before .before .before .if1 .left), eq-eqb _ _ (c .before .before .before .before .if2 .left), le-ltb _ _ (c .before .before .if3 .left), le-ltb _ _ (c .if4 .left))

@@ -2,179 +2,133 @@ use Rattle.notation.specs.Scan.{counted}
 use borrow.Author.Needs.{needs}
 use Rattle.notation.proofs.scan.counting.count.Statement.{statement}
 use Rattle.notation.proofs.scan.counting.count.Tie as tie
-use Rattle.notation.proofs.scan.counting.count.Reads as reads
-use Rattle.notation.proofs.scan.counting.count.Lts as lts
-use Rattle.notation.proofs.scan.counting.label_begun.Reads as label-begun-reads
-use Rattle.notation.proofs.scan.counting.label_byte.Reads as label-byte-reads
-use Rattle.notation.proofs.scan.counting.number_byte.Reads as number-byte-reads
-use Rattle.notation.proofs.scan.counting.path_begun.Reads as path-begun-reads
-use Rattle.notation.proofs.scan.counting.slash_byte.Reads as slash-byte-reads
-use Rattle.notation.proofs.scan.counting.star_byte.Reads as star-byte-reads
 
--- src/scan/counting.rt:149:28
 enum-told : tie.Need-enum-told
 enum-told c = search needs
 
--- src/scan/counting.rt:150:28
 enum-told-2 : tie.Need-enum-told-2
 enum-told-2 c = search needs
 
--- src/scan/counting.rt:151:26
 enum-told-3 : tie.Need-enum-told-3
 enum-told-3 c = search needs
 
--- src/scan/counting.rt:152:30
 enum-told-4 : tie.Need-enum-told-4
 enum-told-4 c = search needs
 
--- src/scan/counting.rt:153:22
 enum-known-m : tie.Need-enum-known-m
 enum-known-m c = search needs
 
--- src/scan/counting.rt:153:28
 number-byte-requires : tie.Need-number-byte-requires
 number-byte-requires c κs = search needs
 
--- src/scan/counting.rt:154:27
 enum-told-5 : tie.Need-enum-told-5
 enum-told-5 c = search needs
 
--- src/scan/counting.rt:154:27
 path-begun-requires : tie.Need-path-begun-requires
 path-begun-requires c κs = search needs
 
--- src/scan/counting.rt:155:28
 enum-told-6 : tie.Need-enum-told-6
 enum-told-6 c = search needs
 
--- src/scan/counting.rt:156:24
 enum-told-7 : tie.Need-enum-told-7
 enum-told-7 c = search needs
 
--- src/scan/counting.rt:156:24
 slash-byte-requires : tie.Need-slash-byte-requires
 slash-byte-requires c κs = search needs
 
--- src/scan/counting.rt:157:26
 enum-told-8 : tie.Need-enum-told-8
 enum-told-8 c = search needs
 
--- src/scan/counting.rt:157:26
 label-begun-requires : tie.Need-label-begun-requires
 label-begun-requires c κs = search needs
 
--- src/scan/counting.rt:158:24
 enum-told-9 : tie.Need-enum-told-9
 enum-told-9 c = search needs
 
--- src/scan/counting.rt:158:24
 label-byte-requires : tie.Need-label-byte-requires
 label-byte-requires c κs = search needs
 
--- src/scan/counting.rt:159:23
 enum-told-10 : tie.Need-enum-told-10
 enum-told-10 c = search needs
 
--- src/scan/counting.rt:159:23
 star-byte-requires : tie.Need-star-byte-requires
 star-byte-requires c κs = search needs
 
--- src/scan/counting.rt:160:26
 enum-told-11 : tie.Need-enum-told-11
 enum-told-11 c = search needs
 
--- src/scan/counting.rt:161:26
 enum-told-12 : tie.Need-enum-told-12
 enum-told-12 c = search needs
 
--- src/scan/counting.rt:162:27
 enum-told-13 : tie.Need-enum-told-13
 enum-told-13 c = search needs
 
--- src/scan/counting.rt:163:23
 enum-told-14 : tie.Need-enum-told-14
 enum-told-14 c = search needs
 
--- src/scan/counting.rt:164:23
 enum-told-15 : tie.Need-enum-told-15
 enum-told-15 c = search needs
 
--- src/scan/counting.rt:144:1
 returns : tie.Need-returns
 unfolding counted
 returns c = rw (c .enum-told .given .1)
 
--- src/scan/counting.rt:144:1
 returns-2 : tie.Need-returns-2
 unfolding counted
 returns-2 c = rw (c .enum-told2 .given .1)
 
--- src/scan/counting.rt:144:1
 returns-3 : tie.Need-returns-3
 unfolding counted
 returns-3 c = rw (c .enum-told3 .given .1)
 
--- src/scan/counting.rt:144:1
 returns-4 : tie.Need-returns-4
 unfolding counted
 returns-4 c = rw (c .enum-told4 .given .1)
 
--- src/scan/counting.rt:144:1
 returns-5 : tie.Need-returns-5
 unfolding counted
 returns-5 c = rw (c .before .before .m .given .1) (c .number-byte .ensures)
 
--- src/scan/counting.rt:144:1
 returns-6 : tie.Need-returns-6
 unfolding counted
 returns-6 c = rw (c .before .enum-told5 .given .1) (c .path-begun .ensures)
 
--- src/scan/counting.rt:144:1
 returns-7 : tie.Need-returns-7
 unfolding counted
 returns-7 c = rw (c .enum-told6 .given .1)
 
--- src/scan/counting.rt:144:1
 returns-8 : tie.Need-returns-8
 unfolding counted
 returns-8 c = rw (c .before .enum-told7 .given .1) (c .slash-byte .ensures)
 
--- src/scan/counting.rt:144:1
 returns-9 : tie.Need-returns-9
 unfolding counted
 returns-9 c = rw (c .before .enum-told8 .given .1) (c .label-begun .ensures)
 
--- src/scan/counting.rt:144:1
 returns-10 : tie.Need-returns-10
 unfolding counted
 returns-10 c = rw (c .before .enum-told9 .given .1) (c .label-byte .ensures)
 
--- src/scan/counting.rt:144:1
 returns-11 : tie.Need-returns-11
 unfolding counted
 returns-11 c = rw (c .before .enum-told10 .given .1) (c .star-byte .ensures)
 
--- src/scan/counting.rt:144:1
 returns-12 : tie.Need-returns-12
 unfolding counted
 returns-12 c = rw (c .enum-told11 .given .1)
 
--- src/scan/counting.rt:144:1
 returns-13 : tie.Need-returns-13
 unfolding counted
 returns-13 c = rw (c .enum-told12 .given .1)
 
--- src/scan/counting.rt:144:1
 returns-14 : tie.Need-returns-14
 unfolding counted
 returns-14 c = rw (c .enum-told13 .given .1)
 
--- src/scan/counting.rt:144:1
 returns-15 : tie.Need-returns-15
 unfolding counted
 returns-15 c = rw (c .enum-told14 .given .1)
 
--- src/scan/counting.rt:144:1
 returns-16 : tie.Need-returns-16
 unfolding counted
 returns-16 c = rw (c .enum-told15 .given .1)

@@ -2,29 +2,19 @@ use mathlib.Core.Path.{_∙_, sym}
 use borrow.Author.Needs.{needs}
 use Rattle.notation.proofs.scan.counting.label_byte.Statement.{statement}
 use Rattle.notation.proofs.scan.counting.label_byte.Tie as tie
-use Rattle.notation.proofs.scan.counting.label_byte.Reads as reads
-use Rattle.notation.proofs.scan.counting.label_byte.Lts as lts
-use Rattle.notation.proofs.names.in_name.Reads as in-name-reads
-use Rattle.notation.proofs.scan.counting.label_read.Reads as label-read-reads
-use Rattle.notation.proofs.scan.counting.path_read.Reads as path-read-reads
 
--- src/scan/counting.rt:130:8
 in-name-requires : tie.Need-in-name-requires
 in-name-requires c κs = search needs
 
--- src/scan/counting.rt:131:9
 returns : tie.Need-returns
 returns c = rw (sym (c .before .in-name .ensures) ∙ c .if1 .taken)
 
--- src/scan/counting.rt:133:15
 label-read-requires : tie.Need-label-read-requires
 label-read-requires c κs = search needs
 
--- src/scan/counting.rt:133:5
 path-read-requires : tie.Need-path-read-requires
 path-read-requires c κs = rw (c .label-read .ensures) (c .before .before .before .pre .paths)
 
--- src/scan/counting.rt:126:1
 returns-2 : tie.Need-returns-2
 returns-2 c = rw (sym (c .before .before .before .in-name .ensures) ∙ c .before .before .if1 .left)
     (rw (c .before .label-read .ensures) at (c .path-read .ensures))

@@ -3,18 +3,13 @@ use borrow.Author.Tests.{eq-eqb, ne-eqb}
 use borrow.Author.Needs.{needs}
 use Rattle.notation.proofs.scan.counting.path_read.Statement.{statement}
 use Rattle.notation.proofs.scan.counting.path_read.Tie as tie
-use Rattle.notation.proofs.scan.counting.path_read.Reads as reads
-use Rattle.notation.proofs.scan.counting.path_read.Lts as lts
 
--- src/scan/counting.rt:108:22
 add-then : tie.Need-add-then
 add-then c = search needs
 
--- src/scan/counting.rt:102:1
 returns : tie.Need-returns
 returns c = simp (eq-eqb _ _ (c .before .if1 .taken))
 
--- src/scan/counting.rt:102:1
 returns-2 : tie.Need-returns-2
 returns-2 c = simp (ne-eqb _ _ (c .if1 .left), add-zero)
 

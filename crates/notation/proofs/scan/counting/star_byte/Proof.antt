@@ -1,20 +1,13 @@
 use borrow.Author.Needs.{needs}
 use Rattle.notation.proofs.scan.counting.star_byte.Statement.{statement}
 use Rattle.notation.proofs.scan.counting.star_byte.Tie as tie
-use Rattle.notation.proofs.scan.counting.star_byte.Reads as reads
-use Rattle.notation.proofs.scan.counting.star_byte.Lts as lts
-use Rattle.notation.proofs.scan.counting.path_read.Reads as path-read-reads
-use Rattle.notation.proofs.scan.counting.step_read.Reads as step-read-reads
 
--- src/scan/counting.rt:140:15
 step-read-requires : tie.Need-step-read-requires
 step-read-requires c κs = search needs
 
--- src/scan/counting.rt:140:5
 path-read-requires : tie.Need-path-read-requires
 path-read-requires c κs = rw (c .step-read .ensures) (c .before .pre .paths)
 
--- src/scan/counting.rt:136:1
 returns : tie.Need-returns
 returns c = rw (c .before .step-read .ensures) at (c .path-read .ensures)
 

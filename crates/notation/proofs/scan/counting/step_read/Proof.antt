@@ -2,37 +2,25 @@ use Rattle.notation.specs.Limits.{maxSteps}
 use borrow.Author.Needs.{needs}
 use Rattle.notation.proofs.scan.counting.step_read.Statement.{statement}
 use Rattle.notation.proofs.scan.counting.step_read.Tie as tie
-use Rattle.notation.proofs.scan.counting.step_read.Reads as reads
-use Rattle.notation.proofs.scan.counting.step_read.Lts as lts
-use Rattle.notation.proofs.scan.counting.minus.Reads as minus-reads
-use Rattle.notation.proofs.scan.counting.or_else.Reads as or-else-reads
-use Rattle.notation.proofs.scan.counting.when.Reads as when-reads
 
--- src/scan/counting.rt:81:9
 minus-requires : tie.Need-minus-requires
 minus-requires c κs = search needs
 
--- src/scan/counting.rt:83:49
 when-requires : tie.Need-when-requires
 when-requires c κs = search needs
 
--- src/scan/counting.rt:83:35
 or-else-requires : tie.Need-or-else-requires
 or-else-requires c κs = search needs
 
--- src/scan/counting.rt:83:5
 or-else-requires-2 : tie.Need-or-else-requires-2
 or-else-requires-2 c κs = search needs
 
--- src/scan/counting.rt:85:18
 add-then : tie.Need-add-then
 add-then c = search needs
 
--- src/scan/counting.rt:86:19
 add-then-2 : tie.Need-add-then-2
 add-then-2 c = search needs
 
--- src/scan/counting.rt:77:1
 returns : tie.Need-returns
 unfolding maxSteps
 returns c = rw (

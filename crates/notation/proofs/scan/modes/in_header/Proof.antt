@@ -3,28 +3,21 @@ use borrow.Author.Tests.{eq-eqb, ne-eqb}
 use borrow.Author.Needs.{needs}
 use Rattle.notation.proofs.scan.modes.in_header.Statement.{statement}
 use Rattle.notation.proofs.scan.modes.in_header.Tie as tie
-use Rattle.notation.proofs.scan.modes.in_header.Reads as reads
-use Rattle.notation.proofs.scan.modes.in_header.Lts as lts
 
--- src/scan.rt:88:13
 array-read-if1 : tie.Need-array-read-if1
 array-read-if1 c = search needs
 
--- src/scan.rt:89:9
 returns : tie.Need-returns
 unfolding header
 returns c = simp (ne-eqb _ _ (c .if1 .taken))
 
--- src/scan.rt:94:22
 add-t9 : tie.Need-add-t9
 add-t9 c = search needs
 
--- src/scan.rt:84:1
 returns-2 : tie.Need-returns-2
 unfolding header
 returns-2 c = simp (eq-eqb _ _ (c .before .if1 .left), eq-eqb _ _ (c .if2 .taken))
 
--- src/scan.rt:84:1
 returns-3 : tie.Need-returns-3
 unfolding header
 returns-3 c = simp (eq-eqb _ _ (c .before .if1 .left), ne-eqb _ _ (c .if2 .left))

@@ -2,24 +2,16 @@ use mathlib.Core.Path.{_∙_, sym}
 use borrow.Author.Needs.{needs}
 use Rattle.notation.proofs.scan.modes.in_label.Statement.{statement}
 use Rattle.notation.proofs.scan.modes.in_label.Tie as tie
-use Rattle.notation.proofs.scan.modes.in_label.Reads as reads
-use Rattle.notation.proofs.scan.modes.in_label.Lts as lts
-use Rattle.notation.proofs.names.in_name.Reads as in-name-reads
-use Rattle.notation.proofs.scan.modes.test_end.Reads as test-end-reads
 
--- src/scan.rt:194:8
 in-name-requires : tie.Need-in-name-requires
 in-name-requires c κs = search needs
 
--- src/scan.rt:197:9
 test-end-requires : tie.Need-test-end-requires
 test-end-requires c κs = search needs
 
--- src/scan.rt:191:1
 returns : tie.Need-returns
 returns c = simp (sym (c .before .in-name .ensures) ∙ c .if1 .taken)
 
--- src/scan.rt:191:1
 returns-2 : tie.Need-returns-2
 returns-2 c = c .test-end .ensures ∙ sym (simp (sym (c .before .before .in-name .ensures) ∙ c .before .if1 .left))
 

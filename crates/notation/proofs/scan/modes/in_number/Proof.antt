@@ -3,42 +3,32 @@ use borrow.Author.Tests.{eq-eqb, ne-eqb, le-leb, lt-leb, lt-ltb, le-ltb}
 use borrow.Author.Needs.{needs}
 use Rattle.notation.proofs.scan.modes.in_number.Statement.{statement}
 use Rattle.notation.proofs.scan.modes.in_number.Tie as tie
-use Rattle.notation.proofs.scan.modes.in_number.Reads as reads
-use Rattle.notation.proofs.scan.modes.in_number.Lts as lts
 
--- src/scan.rt:133:9
 returns : tie.Need-returns
 returns c = simp (eq-eqb _ _ (c .if1 .taken))
 
--- src/scan.rt:136:9
 returns-2 : tie.Need-returns-2
 unfolding digit
 returns-2 c = simp (ne-eqb _ _ (c .before .if1 .left), lt-leb _ _ (c .if2 .taken))
 
--- src/scan.rt:139:9
 returns-3 : tie.Need-returns-3
 unfolding digit
 returns-3 c = simp (ne-eqb _ _ (c .before .before .if1 .left), le-leb _ _ (c .before .if2 .left), lt-leb _ _ (c .if3 .taken))
 
--- src/scan.rt:142:22
 mul-t5 : tie.Need-mul-t5
 mul-t5 c = search needs
 
--- src/scan.rt:142:31
 cast-t7 : tie.Need-cast-t7
 cast-t7 c = search needs
 
--- src/scan.rt:142:22
 add-t8 : tie.Need-add-t8
 add-t8 c = search needs
 
--- src/scan.rt:129:1
 returns-4 : tie.Need-returns-4
 unfolding digit
 returns-4 c = simp
     (ne-eqb _ _ (c .before .before .before .if1 .left), le-leb _ _ (c .before .before .if2 .left), le-leb _ _ (c .before .if3 .left), lt-ltb _ _ (c .if4 .taken))
 
--- src/scan.rt:129:1
 returns-5 : tie.Need-returns-5
 unfolding digit
 returns-5 c = simp

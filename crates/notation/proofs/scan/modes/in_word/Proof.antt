@@ -3,28 +3,21 @@ use borrow.Author.Tests.{eq-eqb, ne-eqb}
 use borrow.Author.Needs.{needs}
 use Rattle.notation.proofs.scan.modes.in_word.Statement.{statement}
 use Rattle.notation.proofs.scan.modes.in_word.Tie as tie
-use Rattle.notation.proofs.scan.modes.in_word.Reads as reads
-use Rattle.notation.proofs.scan.modes.in_word.Lts as lts
 
--- src/scan.rt:102:13
 array-read-if1 : tie.Need-array-read-if1
 array-read-if1 c = search needs
 
--- src/scan.rt:103:9
 returns : tie.Need-returns
 unfolding folderWord
 returns c = simp (ne-eqb _ _ (c .if1 .taken))
 
--- src/scan.rt:108:20
 add-t9 : tie.Need-add-t9
 add-t9 c = search needs
 
--- src/scan.rt:98:1
 returns-2 : tie.Need-returns-2
 unfolding folderWord
 returns-2 c = simp (eq-eqb _ _ (c .before .if1 .left), eq-eqb _ _ (c .if2 .taken))
 
--- src/scan.rt:98:1
 returns-3 : tie.Need-returns-3
 unfolding folderWord
 returns-3 c = simp (eq-eqb _ _ (c .before .if1 .left), ne-eqb _ _ (c .if2 .left))

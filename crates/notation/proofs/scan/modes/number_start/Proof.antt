@@ -2,26 +2,19 @@ use borrow.Author.Tests.{le-leb, lt-leb}
 use borrow.Author.Needs.{needs}
 use Rattle.notation.proofs.scan.modes.number_start.Statement.{statement}
 use Rattle.notation.proofs.scan.modes.number_start.Tie as tie
-use Rattle.notation.proofs.scan.modes.number_start.Reads as reads
-use Rattle.notation.proofs.scan.modes.number_start.Lts as lts
 
--- src/scan.rt:121:9
 returns : tie.Need-returns
 returns c = simp (lt-leb _ _ (c .if1 .taken))
 
--- src/scan.rt:124:9
 returns-2 : tie.Need-returns-2
 returns-2 c = simp (le-leb _ _ (c .before .if1 .left), lt-leb _ _ (c .if2 .taken))
 
--- src/scan.rt:126:19
 sub-t3 : tie.Need-sub-t3
 sub-t3 c = search needs
 
--- src/scan.rt:126:18
 cast-t4 : tie.Need-cast-t4
 cast-t4 c = search needs
 
--- src/scan.rt:117:1
 returns-3 : tie.Need-returns-3
 returns-3 c = simp (le-leb _ _ (c .before .if1 .left), le-leb _ _ (c .if2 .left))
 

@@ -1,14 +1,10 @@
 use borrow.Author.Tests.{eq-eqb, ne-eqb}
 use Rattle.notation.proofs.scan.modes.only.Statement.{statement}
 use Rattle.notation.proofs.scan.modes.only.Tie as tie
-use Rattle.notation.proofs.scan.modes.only.Reads as reads
-use Rattle.notation.proofs.scan.modes.only.Lts as lts
 
--- src/scan.rt:75:1
 returns : tie.Need-returns
 returns c = simp (eq-eqb _ _ (c .if1 .taken))
 
--- src/scan.rt:75:1
 returns-2 : tie.Need-returns-2
 returns-2 c = simp (ne-eqb _ _ (c .if1 .left))
 

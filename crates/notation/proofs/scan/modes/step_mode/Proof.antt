@@ -4,216 +4,157 @@ use mathlib.Core.Path.{subst}
 use borrow.Author.Needs.{needs}
 use Rattle.notation.proofs.scan.modes.step_mode.Statement.{statement}
 use Rattle.notation.proofs.scan.modes.step_mode.Tie as tie
-use Rattle.notation.proofs.scan.modes.step_mode.Reads as reads
-use Rattle.notation.proofs.scan.modes.step_mode.Lts as lts
-use Rattle.notation.proofs.scan.modes.after_slash.Reads as after-slash-reads
-use Rattle.notation.proofs.scan.modes.in_header.Reads as in-header-reads
-use Rattle.notation.proofs.scan.modes.in_label.Reads as in-label-reads
-use Rattle.notation.proofs.scan.modes.in_number.Reads as in-number-reads
-use Rattle.notation.proofs.scan.modes.in_word.Reads as in-word-reads
-use Rattle.notation.proofs.scan.modes.line_start.Reads as line-start-reads
-use Rattle.notation.proofs.scan.modes.number_start.Reads as number-start-reads
-use Rattle.notation.proofs.scan.modes.only.Reads as only-reads
-use Rattle.notation.proofs.scan.modes.path_end.Reads as path-end-reads
-use Rattle.notation.proofs.scan.modes.test_end.Reads as test-end-reads
-use Rattle.notation.proofs.scan.modes.test_start.Reads as test-start-reads
 
--- src/scan.rt:207:22
 enum-known-m : tie.Need-enum-known-m
 enum-known-m c = search needs
 
--- src/scan.rt:207:28
 in-header-requires : tie.Need-in-header-requires
 in-header-requires c κs = subst SmallMode (c .before .m .given .1) (c .before .before .before .pre)
 
--- src/scan.rt:208:28
 enum-told : tie.Need-enum-told
 enum-told c = search needs
 
--- src/scan.rt:208:28
 line-start-requires : tie.Need-line-start-requires
 line-start-requires c κs = search needs
 
--- src/scan.rt:209:20
 enum-known-m-2 : tie.Need-enum-known-m-2
 enum-known-m-2 c = search needs
 
--- src/scan.rt:209:26
 in-word-requires : tie.Need-in-word-requires
 in-word-requires c κs = subst SmallMode (c .before .m2 .given .1) (c .before .before .before .pre)
 
--- src/scan.rt:210:30
 enum-told-2 : tie.Need-enum-told-2
 enum-told-2 c = search needs
 
--- src/scan.rt:210:30
 number-start-requires : tie.Need-number-start-requires
 number-start-requires c κs = search needs
 
--- src/scan.rt:211:22
 enum-known-m-3 : tie.Need-enum-known-m-3
 enum-known-m-3 c = search needs
 
--- src/scan.rt:211:28
 in-number-requires : tie.Need-in-number-requires
 in-number-requires c κs = search needs
 
--- src/scan.rt:212:41
 enum-told-3 : tie.Need-enum-told-3
 enum-told-3 c = search needs
 
--- src/scan.rt:212:27
 only-requires : tie.Need-only-requires
 only-requires c κs = search needs
 
--- src/scan.rt:213:42
 enum-told-4 : tie.Need-enum-told-4
 enum-told-4 c = search needs
 
--- src/scan.rt:213:28
 only-requires-2 : tie.Need-only-requires-2
 only-requires-2 c κs = search needs
 
--- src/scan.rt:214:24
 enum-told-5 : tie.Need-enum-told-5
 enum-told-5 c = search needs
 
--- src/scan.rt:214:24
 after-slash-requires : tie.Need-after-slash-requires
 after-slash-requires c κs = search needs
 
--- src/scan.rt:215:26
 enum-told-6 : tie.Need-enum-told-6
 enum-told-6 c = search needs
 
--- src/scan.rt:215:26
 test-start-requires : tie.Need-test-start-requires
 test-start-requires c κs = search needs
 
--- src/scan.rt:216:24
 enum-told-7 : tie.Need-enum-told-7
 enum-told-7 c = search needs
 
--- src/scan.rt:216:24
 in-label-requires : tie.Need-in-label-requires
 in-label-requires c κs = search needs
 
--- src/scan.rt:217:23
 enum-told-8 : tie.Need-enum-told-8
 enum-told-8 c = search needs
 
--- src/scan.rt:217:23
 test-end-requires : tie.Need-test-end-requires
 test-end-requires c κs = search needs
 
--- src/scan.rt:218:26
 enum-told-9 : tie.Need-enum-told-9
 enum-told-9 c = search needs
 
--- src/scan.rt:218:26
 path-end-requires : tie.Need-path-end-requires
 path-end-requires c κs = search needs
 
--- src/scan.rt:219:41
 enum-told-10 : tie.Need-enum-told-10
 enum-told-10 c = search needs
 
--- src/scan.rt:219:26
 only-requires-3 : tie.Need-only-requires-3
 only-requires-3 c κs = search needs
 
--- src/scan.rt:220:42
 enum-told-11 : tie.Need-enum-told-11
 enum-told-11 c = search needs
 
--- src/scan.rt:220:27
 only-requires-4 : tie.Need-only-requires-4
 only-requires-4 c κs = search needs
 
--- src/scan.rt:221:23
 enum-told-12 : tie.Need-enum-told-12
 enum-told-12 c = search needs
 
--- src/scan.rt:222:23
 enum-told-13 : tie.Need-enum-told-13
 enum-told-13 c = search needs
 
--- src/scan.rt:202:1
 returns : tie.Need-returns
 unfolding next
 returns c = rw (c .before .before .m .given .1) (c .in-header .ensures)
 
--- src/scan.rt:202:1
 returns-2 : tie.Need-returns-2
 unfolding next
 returns-2 c = rw (c .before .enum-told .given .1) (c .line-start .ensures)
 
--- src/scan.rt:202:1
 returns-3 : tie.Need-returns-3
 unfolding next
 returns-3 c = rw (c .before .before .m2 .given .1) (c .in-word .ensures)
 
--- src/scan.rt:202:1
 returns-4 : tie.Need-returns-4
 unfolding next
 returns-4 c = rw (c .before .enum-told2 .given .1) (c .number-start .ensures)
 
--- src/scan.rt:202:1
 returns-5 : tie.Need-returns-5
 unfolding next
 returns-5 c = rw (c .before .before .m3 .given .1) (c .in-number .ensures)
 
--- src/scan.rt:202:1
 returns-6 : tie.Need-returns-6
 unfolding next
 returns-6 c = rw (c .before .enum-told3 .given .1) (c .only .ensures)
 
--- src/scan.rt:202:1
 returns-7 : tie.Need-returns-7
 unfolding next
 returns-7 c = rw (c .before .enum-told4 .given .1) (c .only2 .ensures)
 
--- src/scan.rt:202:1
 returns-8 : tie.Need-returns-8
 unfolding next
 returns-8 c = rw (c .before .enum-told5 .given .1) (c .after-slash .ensures)
 
--- src/scan.rt:202:1
 returns-9 : tie.Need-returns-9
 unfolding next
 returns-9 c = rw (c .before .enum-told6 .given .1) (c .test-start .ensures)
 
--- src/scan.rt:202:1
 returns-10 : tie.Need-returns-10
 unfolding next
 returns-10 c = rw (c .before .enum-told7 .given .1) (c .in-label .ensures)
 
--- src/scan.rt:202:1
 returns-11 : tie.Need-returns-11
 unfolding next
 returns-11 c = rw (c .before .enum-told8 .given .1) (c .test-end .ensures)
 
--- src/scan.rt:202:1
 returns-12 : tie.Need-returns-12
 unfolding next
 returns-12 c = rw (c .before .enum-told9 .given .1) (c .path-end .ensures)
 
--- src/scan.rt:202:1
 returns-13 : tie.Need-returns-13
 unfolding next
 returns-13 c = rw (c .before .enum-told10 .given .1) (c .only3 .ensures)
 
--- src/scan.rt:202:1
 returns-14 : tie.Need-returns-14
 unfolding next
 returns-14 c = rw (c .before .enum-told11 .given .1) (c .only4 .ensures)
 
--- src/scan.rt:202:1
 returns-15 : tie.Need-returns-15
 unfolding next
 returns-15 c = rw (c .enum-told12 .given .1)
 
--- src/scan.rt:202:1
 returns-16 : tie.Need-returns-16
 unfolding next
 returns-16 c = rw (c .enum-told13 .given .1)

@@ -1,0 +1,53 @@
+use native.Mathlib.Numerals.{towards-suc}
+use mathlib.Core.Path.{_∙_}
+use Rattle.notation.specs.Layout.{labelsAt, labelSize, setSize}
+use Rattle.notation.specs.Put.{putLabel}
+use Rattle.notation.specs.Limits.{maxLabels}
+use native.Mathlib.Omega.{arith}
+use borrow.Author.Needs.{needs}
+use Rattle.notation.proofs.put.put_label.Statement.{statement}
+use Rattle.notation.proofs.put.put_label.Tie as tie
+
+mul-at : tie.Need-mul-at
+unfolding maxLabels
+mul-at c = omega arith
+
+add-at : tie.Need-add-at
+unfolding maxLabels
+add-at c = omega arith
+
+minus-requires : tie.Need-minus-requires
+minus-requires c κs = search needs
+
+put-pair-requires : tie.Need-put-pair-requires
+unfolding maxLabels setSize
+put-pair-requires c κs = omega arith
+
+add-put16 : tie.Need-add-put16
+unfolding maxLabels
+add-put16 c = omega arith
+
+put16-requires : tie.Need-put16-requires
+unfolding maxLabels setSize
+put16-requires c κs = omega (arith, c .before .before .before .put-pair .kept .0)
+
+same-length : tie.Need-same-length
+same-length c = search needs
+
+returns : tie.Need-returns
+unfolding putLabel labelsAt labelSize
+returns c = c .before .before .put16 .ensures
+    ∙ rw (c .before .before .before .before .before .before .put-pair .ensures, c .before .before .before .before .before .before .before .before .minus .ensures) (simp towards-suc)
+
+pub put-label-spec : {M : Type 1} → statement M
+put-label-spec =
+    tie.close
+    (tie.spec
+    mul-at
+    add-at
+    minus-requires
+    put-pair-requires
+    add-put16
+    put16-requires
+    same-length
+    returns)
