@@ -1,0 +1,4 @@
+pub mod Tests
+pub mod FirstFault
+pub mod Reading
+pub mod Piece
