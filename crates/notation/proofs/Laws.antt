@@ -2,3 +2,4 @@ pub mod Tests
 pub mod FirstFault
 pub mod Reading
 pub mod Piece
+pub mod StepText
