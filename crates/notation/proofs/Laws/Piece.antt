@@ -1,7 +1,7 @@
 -- What reading a piece of text does: the mode and number that it leaves, the entries that it adds and the faults that it has.
 use Prim.Native.Nat.{ℕ, _+_}
 use native.Mathlib.Omega.{arith}
-use mathlib.Core.Path.{_≡_, refl, sym, ap, _∙_}
+use mathlib.Core.Path.{_≡_, refl, sym, ap, _∙_, transport}
 use mathlib.Core.List.{List, [], _∷_, _++_, append-nil, append-assoc}
 use lib.ListN.{length, length-append}
 use Rattle.notation.specs.Refusals.{Refusal}
@@ -83,3 +83,17 @@ module _
         at-mode (λ r. r .state .tally .deep ≡ 0 → Piece r m₁ (r .state .tally .last) noTables [] (readByte r b)) m r h
         (quiet-at (r .state .tally) (r .tables))
         d
+
+-- the same piece, said in other words
+pub tables-same : {x y : Tables} → x .folders ≡ y .folders → x .paths ≡ y .paths → x .steps ≡ y .steps → x .labels ≡ y .labels → x ≡ y
+tables-same f p s l = λ i. record { folders = f i; paths = p i; steps = s i; labels = l i }
+
+pub restated :
+    {r r₁ r₂ : Reading} {m : Mode} {l l₁ : ℕ} {x x₁ : Tables} {fs fs₁ : List Refusal}
+    → Piece r m l x fs r₁
+    → l ≡ l₁
+    → x ≡ x₁
+    → fs ≡ fs₁
+    → r₁ ≡ r₂
+    → Piece r m l₁ x₁ fs₁ r₂
+restated {r} {m = m} p l x fs e = transport (λ i. Piece r m (l i) (x i) (fs i) (e i)) p

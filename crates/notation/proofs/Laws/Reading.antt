@@ -73,7 +73,7 @@ counted-at LastLine b t = refl
 counted-at Done b t = refl
 counted-at Bent b t = refl
 
-byte-at : (r : Reading) (b : ℕ) → readByte r b .state .tally .at ≡ r .state .tally .at + 1
+pub byte-at : (r : Reading) (b : ℕ) → readByte r b .state .tally .at ≡ r .state .tally .at + 1
 unfolding readByte scanned
 byte-at r b = rw (counted-at (r .state .mode) b (r .state .tally))
 
