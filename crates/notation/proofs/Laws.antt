@@ -5,3 +5,5 @@ pub mod Piece
 pub mod StepText
 pub mod StepEnd
 pub mod PathText
+pub mod PathsText
+pub mod NumberText

@@ -100,3 +100,91 @@ module _ (first begin last count end : ℕ) where
       (tables-same refl refl refl (ap (λ n. stepLabel at n s ++ pathLabels (at + length (printStep s)) (suc k) (s₁ ∷ p)) (h .steps)))
       refl
       (sym (ap (λ l. readAll r (afterSlash s ++ l)) (tail-slash s₁ p) ∙ all-append r (afterSlash s) (47 ∷ (afterSlash s₁ ++ tail p))))
+
+-- before a path's bracket: `at` is the place of the space before it, k the steps so far
+pub record Opens (last at k : ℕ) (r : Reading) : Type 0 where
+  pub mode : r .state .mode ≡ PathOpen
+  pub deep : r .state .tally .deep ≡ 0
+  pub at-is : r .state .tally .at ≡ at + 1
+  pub last-is : r .state .tally .last ≡ last
+  pub steps : r .state .tally .steps ≡ k
+
+abbrev pub pathAdds : ℕ → ℕ → Path → Tables
+pathAdds at k p = stepsAdd (pathEntry k (length p) (at + 2) (length (printPath p))) (at + 2) k p
+
+abbrev opened : Tally → Tally
+opened t = record {
+  at = t .at + 1 + 1;
+  last = t .last;
+  begin = t .at + 1;
+  first = t .steps;
+  from = t .from;
+  deep = t .deep;
+  folders = t .folders;
+  paths = t .paths;
+  steps = t .steps;
+  labels = t .labels;
+  fault = t .fault;
+}
+
+opening : (t : Tally) (x : Tables) → readByte (readByte (reading PathOpen t x) 40) 47 ≡ reading Slash (opened t) x
+unfolding readByte scanned next counted emitted
+opening t x = refl
+
+module _ (last at k : ℕ) (t : Tally) (x : Tables) (h : Opens last at k (reading PathOpen t x)) where
+  inner : Inside k (at + 2) last (at + 2) 0 k (reading Slash (opened t) x)
+  inner = record {
+    mode = refl;
+    deep = h .deep;
+    at-is = omega (arith, h .at-is);
+    first-is = h .steps;
+    begin-is = omega (arith, h .at-is);
+    last-is = h .last-is;
+    steps = h .steps;
+    depth = omega arith;
+  }
+
+  path-read-at : (p : Path)
+      → formedPath p ≡ true
+      → Piece (reading PathOpen t x) PathEnd last (pathAdds at k p) (pathFaults 0 p) (readAll (reading PathOpen t x) (40 ∷ tail p))
+  unfolding formedPath readAll
+  path-read-at [] well = absurd (true≢false (sym well))
+  path-read-at (s ∷ p) well =
+      let size : at + 2 + length (printPath (s ∷ p)) - (at + 2) ≡ length (printPath (s ∷ p)) = omega arith in
+      let inside = steps-read k (at + 2) last (suc (length p)) (at + 2 + length (printPath (s ∷ p))) p s (at + 2) 0 k
+      (reading Slash (opened t) x)
+      well
+      inner
+      (omega arith)
+      refl in
+      let same : readAll (reading Slash (opened t) x) (afterSlash s ++ tail p) ≡ readAll (reading PathOpen t x) (40 ∷ tail (s ∷ p)) =
+      sym (ap (λ l. readAll (reading PathOpen t x) (40 ∷ l)) (tail-slash s p) ∙ ap (λ r. readAll r (afterSlash s ++ tail p)) (opening t x)) in
+      restated
+      record {
+        mode = inside .mode;
+        last = inside .last;
+        deep = inside .deep;
+        folders = inside .folders;
+        paths = inside .paths;
+        steps = inside .steps;
+        labels = inside .labels;
+        fault = inside .fault;
+        tables = inside .tables;
+      }
+      refl
+      (tables-same refl (λ i. pathEntry k (suc (length p)) (at + 2) (size i) ∷ []) refl refl)
+      refl
+      same
+
+pub path-read : (last at k : ℕ) (r : Reading) (p : Path)
+    → formedPath p ≡ true
+    → Opens last at k r
+    → Piece r PathEnd last (pathAdds at k p) (pathFaults 0 p) (readAll r (40 ∷ (printPath p ++ (41 ∷ []))))
+path-read last at k r p well h =
+    at-mode
+    (λ r. Opens last at k r → Piece r PathEnd last (pathAdds at k p) (pathFaults 0 p) (readAll r (40 ∷ tail p)))
+    PathOpen
+    r
+    (h .mode)
+    (λ g. path-read-at last at k (r .state .tally) (r .tables) g p well)
+    h

@@ -97,3 +97,11 @@ pub restated :
     → r₁ ≡ r₂
     → Piece r m l₁ x₁ fs₁ r₂
 restated {r} {m = m} p l x fs e = transport (λ i. Piece r m (l i) (x i) (fs i) (e i)) p
+
+-- a piece and then one that adds nothing
+pub then-quiet :
+    {r r₁ r₂ : Reading} {m m₁ : Mode} {l l₁ : ℕ} {x : Tables} {fs : List Refusal}
+    → Piece r m l x fs r₁
+    → Piece r₁ m₁ l₁ noTables [] r₂
+    → Piece r m₁ l₁ x fs r₂
+then-quiet {x = x} {fs = fs} a b = restated (chain a b) refl (sym (plus-none x)) (append-nil fs) refl

@@ -1,0 +1,57 @@
+-- Reading a folder's number: the digits lead to the mode that holds its value.
+use Prim.Native.Nat.{ℕ, zero, suc, _+_, _-_, _*_, _/_, _%_, _≤_, _<_}
+use native.Mathlib.Omega.{arith}
+use mathlib.Core.Path.{_≡_, refl, sym, ap, _∙_}
+use mathlib.Core.Bool.{Bool, true, false, cond, _&&_}
+use mathlib.Core.List.{List, [], _∷_, _++_}
+use lib.Dec.{leb, ltb, eqb}
+use borrow.Author.Tests.{le-leb, lt-ltb, ltb-true, ltb-false, ne-eqb}
+use Rattle.notation.specs.Names.{within, digit}
+use Rattle.notation.specs.Print.{digits, decimal}
+use Rattle.notation.specs.Scan.{next, counted, inNumber}
+use Rattle.notation.specs.Emit.{emitted, noTables}
+use Rattle.notation.specs.Layout.{Tables}
+use Rattle.notation.specs.declared.scan.Mode.{Mode}
+use Rattle.notation.specs.declared.scan.Mode.the-variants.{NumberStart, Number}
+use Rattle.notation.specs.declared.scan.Tally.{Tally}
+use Rattle.notation.specs.declared.scan.Scan.{Scan}
+use Rattle.notation.proofs.Laws.Tests.{cases}
+use Rattle.notation.proofs.Laws.Reading.{Reading, readByte, readAll, all-append}
+use Rattle.notation.proofs.Laws.Piece.{Piece, chain, quiet, restated, tables-same}
+
+first-digit : (n : ℕ) → 1 ≤ n → n < 10 → next NumberStart (48 + n) ≡ Number n
+unfolding next
+first-digit n low high =
+    let e : 48 + n - 48 ≡ n = omega arith in
+    rw (le-leb 49 (48 + n) (omega arith), le-leb (48 + n) 57 (omega arith)) (ap Number e)
+
+module _ (n : ℕ) (high : n ≤ 9999) where
+  no-space : eqb (48 + n % 10) 32 ≡ false
+  no-space = ne-eqb (48 + n % 10) 32 (λ e. omega arith)
+
+  is-digit : digit (48 + n % 10) ≡ true
+  unfolding digit
+  is-digit = rw (le-leb 48 (48 + n % 10) (omega arith), le-leb (48 + n % 10) 57 (omega arith))
+
+  next-digit : next (Number (n / 10)) (48 + n % 10) ≡ Number n
+  unfolding next
+  next-digit =
+      let e : 10 * (n / 10) + (48 + n % 10 - 48) ≡ n = omega arith in
+      rw (no-space, is-digit, lt-ltb (n / 10) 1000 (omega arith)) (ap Number e)
+
+  counts-not : (t : Tally) → counted (Number (n / 10)) (48 + n % 10) t ≡ t
+  unfolding counted
+  counts-not t = rw no-space
+
+  emits-not : (t : Tally) (x : Tables) → emitted (Number (n / 10)) (48 + n % 10) t x ≡ x
+  unfolding emitted
+  emits-not t x = rw no-space
+
+-- one digit, or those before the last and the last
+digits-one : (fuel n : ℕ) → n < 10 → digits (suc fuel) n ≡ (48 + n) ∷ []
+unfolding digits
+digits-one fuel n h = rw (lt-ltb n 10 h, digits)
+
+digits-more : (fuel n : ℕ) → 10 ≤ n → digits (suc fuel) n ≡ digits fuel (n / 10) ++ ((48 + n % 10) ∷ [])
+unfolding digits
+digits-more fuel n h = ?
