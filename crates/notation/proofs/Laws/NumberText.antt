@@ -5,7 +5,7 @@ use mathlib.Core.Path.{_≡_, refl, sym, ap, _∙_}
 use mathlib.Core.Bool.{Bool, true, false, cond, _&&_}
 use mathlib.Core.List.{List, [], _∷_, _++_}
 use lib.Dec.{leb, ltb, eqb}
-use borrow.Author.Tests.{le-leb, lt-ltb, ltb-true, ltb-false, ne-eqb}
+use borrow.Author.Tests.{le-leb, lt-ltb, le-ltb, ltb-true, ltb-false, ne-eqb}
 use Rattle.notation.specs.Names.{within, digit}
 use Rattle.notation.specs.Print.{digits, decimal}
 use Rattle.notation.specs.Scan.{next, counted, inNumber}
@@ -54,4 +54,40 @@ digits-one fuel n h = rw (lt-ltb n 10 h, digits)
 
 digits-more : (fuel n : ℕ) → 10 ≤ n → digits (suc fuel) n ≡ digits fuel (n / 10) ++ ((48 + n % 10) ∷ [])
 unfolding digits
-digits-more fuel n h = ?
+digits-more fuel n h = rw (le-ltb n 10 h, digits)
+
+digits-read : (fuel n : ℕ)
+    → 1 ≤ n
+    → n ≤ 9999
+    → n < fuel
+    → (r : Reading)
+    → r .state .mode ≡ NumberStart
+    → r .state .tally .deep ≡ 0
+    → Piece r (Number n) (r .state .tally .last) noTables [] (readAll r (digits fuel n))
+unfolding readAll counted emitted
+digits-read zero n low high less r m d = absurd (omega arith)
+digits-read (suc fuel) n low high less r m d =
+    cases (ltb n 10)
+    (λ e.
+    let short : n < 10 = ltb-true n 10 e in
+    rw (digits-one fuel n short)
+    (quiet NumberStart (Number n) (48 + n) (first-digit n low short) (λ t. refl) (λ t x. refl) r m d))
+    (λ e.
+    let long : 10 ≤ n = ltb-false n 10 e in
+    let front = digits-read fuel (n / 10) (omega arith) (omega arith) (omega arith) r m d in
+    let end = quiet (Number (n / 10)) (Number n) (48 + n % 10) (next-digit n high) (counts-not n high) (emits-not n high)
+    (readAll r (digits fuel (n / 10)))
+    (front .mode)
+    (front .deep) in
+    restated (chain front end) (front .last) refl refl
+    (sym (ap (λ l. readAll r l) (digits-more fuel n long) ∙ all-append r (digits fuel (n / 10)) ((48 + n % 10) ∷ []))))
+
+pub number-read : (n : ℕ)
+    → 1 ≤ n
+    → n ≤ 9999
+    → (r : Reading)
+    → r .state .mode ≡ NumberStart
+    → r .state .tally .deep ≡ 0
+    → Piece r (Number n) (r .state .tally .last) noTables [] (readAll r (decimal n))
+unfolding decimal
+number-read n low high = digits-read (suc n) n low high (omega arith)
