@@ -7,3 +7,5 @@ pub mod StepEnd
 pub mod PathText
 pub mod PathsText
 pub mod NumberText
+pub mod TableSizes
+pub mod FolderText

@@ -13,7 +13,7 @@ use Rattle.notation.specs.declared.scan.Mode.{Mode}
 use Rattle.notation.specs.declared.scan.Tally.{Tally}
 use Rattle.notation.specs.declared.scan.Scan.{Scan}
 use Rattle.notation.proofs.Laws.FirstFault.{orElse-assoc, orElse-none, first-append}
-use Rattle.notation.proofs.Laws.Reading.{Reading, reading, readByte, at-mode}
+use Rattle.notation.proofs.Laws.Reading.{Reading, reading, placed, readByte, at-mode}
 
 -- the entries of two pieces, one after the other
 abbrev pub plus : Tables → Tables → Tables
@@ -105,3 +105,20 @@ pub then-quiet :
     → Piece r₁ m₁ l₁ noTables [] r₂
     → Piece r m₁ l₁ x fs r₂
 then-quiet {x = x} {fs = fs} a b = restated (chain a b) refl (sym (plus-none x)) (append-nil fs) refl
+
+-- nothing but the place and the mode changed
+pub moved : (m m₁ : Mode) (t : Tally) (x : Tables) (r : Reading) (at : ℕ)
+    → t .deep ≡ 0
+    → r ≡ reading m₁ (placed at (t .from) (t .deep) t) x
+    → Piece (reading m t x) m₁ (t .last) noTables [] r
+moved m m₁ t x r at d e = rw e record {
+  mode = refl;
+  last = refl;
+  deep = d;
+  folders = omega arith;
+  paths = omega arith;
+  steps = omega arith;
+  labels = omega arith;
+  fault = sym (orElse-none (t .fault));
+  tables = plus-none x;
+}

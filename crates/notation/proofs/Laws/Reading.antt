@@ -23,6 +23,22 @@ pub record Reading : Type 0 where
 abbrev pub reading : Mode → Tally → Tables → Reading
 reading m t x = record { state = record { mode = m; tally = t }; tables = x }
 
+-- the tally with another place, begin of a label and axis
+abbrev pub placed : ℕ → ℕ → ℕ → Tally → Tally
+placed at from deep t = record {
+  at = at;
+  last = t .last;
+  begin = t .begin;
+  first = t .first;
+  from = from;
+  deep = deep;
+  folders = t .folders;
+  paths = t .paths;
+  steps = t .steps;
+  labels = t .labels;
+  fault = t .fault;
+}
+
 unfoldable pub readByte : Reading → ℕ → Reading
 readByte r b = record { state = scanned (r .state) b; tables = emitted (r .state .mode) b (r .state .tally) (r .tables) }
 

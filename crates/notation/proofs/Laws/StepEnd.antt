@@ -19,9 +19,9 @@ use Rattle.notation.specs.declared.scan.Mode.{Mode}
 use Rattle.notation.specs.declared.scan.Mode.the-variants.{Slash, Label, Star}
 use Rattle.notation.specs.declared.scan.Tally.{Tally}
 use Rattle.notation.specs.declared.scan.Scan.{Scan}
-use Rattle.notation.proofs.Laws.Reading.{Reading, reading, readByte, readAll, all-append, at-mode}
+use Rattle.notation.proofs.Laws.Reading.{Reading, reading, placed, readByte, readAll, all-append, at-mode}
 use Rattle.notation.proofs.Laws.Piece.{Piece}
-use Rattle.notation.proofs.Laws.StepText.{afterSlash, placed, testMode, pending}
+use Rattle.notation.proofs.Laws.StepText.{afterSlash, testMode, pending}
 
 -- what a step at `at` adds, and its path where b is the bracket
 abbrev pub stepAdds : ℕ → Step → ℕ → Tally → Tables

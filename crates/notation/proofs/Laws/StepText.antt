@@ -19,7 +19,7 @@ use Rattle.notation.specs.declared.scan.Mode.the-variants.{Slash, Slashe
 use Rattle.notation.specs.declared.scan.Tally.{Tally}
 use Rattle.notation.specs.declared.scan.Scan.{Scan}
 use Rattle.notation.proofs.Laws.Tests.{and-left, and-right}
-use Rattle.notation.proofs.Laws.Reading.{Reading, reading, readByte, readAll}
+use Rattle.notation.proofs.Laws.Reading.{Reading, reading, placed, readByte, readAll}
 
 not-slash : (c : ℕ) → beginsName c ≡ true → eqb c 47 ≡ false
 unfolding beginsName letter
@@ -37,22 +37,6 @@ pub step-slash : (s : Step) → printStep s ≡ 47 ∷ afterSlash s
 unfolding printStep afterSlash
 step-slash (step child u) = refl
 step-slash (step descendant u) = refl
-
--- the tally with another place, begin of a label and axis
-abbrev pub placed : ℕ → ℕ → ℕ → Tally → Tally
-placed at from deep t = record {
-  at = at;
-  last = t .last;
-  begin = t .begin;
-  first = t .first;
-  from = from;
-  deep = deep;
-  folders = t .folders;
-  paths = t .paths;
-  steps = t .steps;
-  labels = t .labels;
-  fault = t .fault;
-}
 
 begun-slash : (t : Tally) (x : Tables) (c : ℕ)
     → eqb c 47 ≡ false

@@ -1,0 +1,121 @@
+-- Reading a folder's line.
+use Prim.Native.Nat.{ℕ, suc, _+_}
+use native.Mathlib.Omega.{arith}
+use mathlib.Core.Path.{_≡_, refl, sym, ap, _∙_}
+use mathlib.Core.Bool.{Bool, true, false, cond, true≢false}
+use mathlib.Core.List.{List, [], _∷_, _++_, map, append-nil}
+use lib.Dec.{leb}
+use borrow.Author.Tests.{leb-true}
+use lib.ListN.{length, length-append}
+use Rattle.notation.specs.Limits.{maxNumber}
+use Rattle.notation.specs.Names.{within}
+use Rattle.notation.specs.Sets.{Step, Path, Folder, folder}
+use Rattle.notation.specs.Print.{decimal, printPath, printPaths, folderWord, footer, printFolder}
+use Rattle.notation.specs.Refusals.{Refusal, outOfTurn}
+use Rattle.notation.specs.Form.{every, nonEmpty, formedPath, formedFolder, stepsOf, pathsFaults, firstOf}
+use Rattle.notation.specs.Layout.{Tables, folderEntry, stepEntry, pathTable, labelTable, afterNumber}
+use Rattle.notation.specs.Scan.{next, counted, scanned, orElse}
+use Rattle.notation.specs.Emit.{emitted, noTables}
+use Rattle.notation.specs.declared.scan.Mode.{Mode}
+use Rattle.notation.specs.declared.scan.Mode.the-variants.{LineStart, NumberStart, Number, PathOpen, PathEnd, LineEnd}
+use Rattle.notation.specs.declared.scan.Tally.{Tally}
+use Rattle.notation.specs.declared.scan.Scan.{Scan}
+use Rattle.notation.proofs.Laws.Tests.{and-left, and-right}
+use Rattle.notation.proofs.Laws.Reading.{Reading, reading, readByte, readAll, all-append, all-at, byte-at, at-mode}
+use Rattle.notation.proofs.Laws.Piece.{Piece, chain, then-quiet, quiet, moved, restated, tables-same}
+use Rattle.notation.proofs.Laws.NumberText.{number-read}
+use Rattle.notation.proofs.Laws.PathText.{Opens}
+use Rattle.notation.proofs.Laws.PathsText.{pathsAdd, paths-read}
+
+word-at : (t : Tally) (x : Tables)
+    → t .deep ≡ 0
+    → Piece (reading LineStart t x) NumberStart (t .last) noTables [] (readAll (reading LineStart t x) folderWord)
+unfolding readAll readByte scanned next counted emitted folderWord
+word-at t x d =
+    moved LineStart NumberStart t x (readAll (reading LineStart t x) folderWord) (t .at + 1 + 1 + 1 + 1 + 1 + 1 + 1 + 1) d refl
+
+word-read : (r : Reading)
+    → r .state .mode ≡ LineStart
+    → r .state .tally .deep ≡ 0
+    → Piece r NumberStart (r .state .tally .last) noTables [] (readAll r folderWord)
+word-read r m d =
+    at-mode
+    (λ r. r .state .tally .deep ≡ 0 → Piece r NumberStart (r .state .tally .last) noTables [] (readAll r folderWord))
+    LineStart
+    r
+    m
+    (word-at (r .state .tally) (r .tables))
+    d
+
+-- the space after a number n, `j` paths standing before
+abbrev numberAdds : ℕ → ℕ → Tables
+numberAdds n j = record { folders = folderEntry n j ∷ []; paths = []; steps = []; labels = [] }
+
+abbrev turn : ℕ → ℕ → List Refusal
+turn n last = cond (leb n last) (outOfTurn ∷ []) []
+
+first-of-turn : (c : Bool) → cond c 4 0 ≡ firstOf (cond c (outOfTurn ∷ []) [])
+first-of-turn true = refl
+first-of-turn false = refl
+
+number-end-at : (n : ℕ) (t : Tally) (x : Tables)
+    → t .deep ≡ 0
+    → Piece (reading (Number n) t x) PathOpen n (numberAdds n (t .paths)) (turn n (t .last)) (readByte (reading (Number n) t x) 32)
+unfolding readByte scanned next counted emitted
+number-end-at n t x d = record {
+  mode = refl;
+  last = refl;
+  deep = d;
+  folders = refl;
+  paths = omega arith;
+  steps = omega arith;
+  labels = omega arith;
+  fault = ap (λ f. orElse (t .fault) f) (first-of-turn (leb n (t .last)));
+  tables = simp append-nil;
+}
+
+number-end : (n : ℕ) (r : Reading)
+    → r .state .mode ≡ Number n
+    → r .state .tally .deep ≡ 0
+    → Piece r PathOpen n (numberAdds n (r .state .tally .paths)) (turn n (r .state .tally .last)) (readByte r 32)
+number-end n r m d =
+    at-mode
+    (λ r.
+    r .state .tally .deep ≡ 0
+    → Piece r PathOpen n (numberAdds n (r .state .tally .paths)) (turn n (r .state .tally .last)) (readByte r 32))
+    (Number n)
+    r
+    m
+    (number-end-at n (r .state .tally) (r .tables))
+    d
+
+bracket : (r : Reading)
+    → r .state .mode ≡ PathEnd
+    → r .state .tally .deep ≡ 0
+    → Piece r LineEnd (r .state .tally .last) noTables [] (readByte r 41)
+unfolding next counted emitted
+bracket = quiet PathEnd LineEnd 41 refl (λ t. refl) (λ t x. refl)
+
+lineEnd : (r : Reading)
+    → r .state .mode ≡ LineEnd
+    → r .state .tally .deep ≡ 0
+    → Piece r LineStart (r .state .tally .last) noTables [] (readByte r 10)
+unfolding next counted emitted
+lineEnd = quiet LineEnd LineStart 10 refl (λ t. refl) (λ t x. refl)
+
+-- at a line's start, at `at`: the number before, the paths and the steps so far
+pub record Line (last at j k : ℕ) (r : Reading) : Type 0 where
+  pub mode : r .state .mode ≡ LineStart
+  pub deep : r .state .tally .deep ≡ 0
+  pub at-is : r .state .tally .at ≡ at
+  pub last-is : r .state .tally .last ≡ last
+  pub paths : r .state .tally .paths ≡ j
+  pub steps : r .state .tally .steps ≡ k
+
+abbrev pub folderAdds : ℕ → ℕ → ℕ → ℕ → List Path → Tables
+folderAdds at j k n ps = record {
+  folders = folderEntry n j ∷ [];
+  paths = pathTable (afterNumber at n) k ps;
+  steps = map stepEntry (stepsOf ps);
+  labels = labelTable (afterNumber at n) k ps;
+}
