@@ -9,3 +9,5 @@ pub mod PathsText
 pub mod NumberText
 pub mod TableSizes
 pub mod FolderText
+pub mod SetText
+pub mod Complete

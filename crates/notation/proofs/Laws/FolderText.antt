@@ -119,3 +119,55 @@ folderAdds at j k n ps = record {
   steps = map stepEntry (stepsOf ps);
   labels = labelTable (afterNumber at n) k ps;
 }
+
+word-size : length folderWord ≡ 8
+unfolding folderWord
+word-size = refl
+
+-- a line's text, part by part
+line-parts : (r : Reading) (n : ℕ) (p : Path) (ps : List Path)
+    → readAll r (printFolder (folder n (p ∷ ps))) ≡
+    readByte
+    (readByte (readAll (readByte (readAll (readAll r folderWord) (decimal n)) 32) (40 ∷ (printPath p ++ 41 ∷ printPaths ps))) 41)
+    10
+unfolding readAll printFolder printPaths footer
+line-parts r n p ps =
+    all-append r folderWord (decimal n ++ (printPaths (p ∷ ps) ++ footer)) ∙
+    (all-append (readAll r folderWord) (decimal n) (printPaths (p ∷ ps) ++ footer) ∙
+    all-append (readByte (readAll (readAll r folderWord) (decimal n)) 32) (40 ∷ (printPath p ++ 41 ∷ printPaths ps)) footer)
+
+pub folder-read : (n : ℕ) (ps : List Path) (last at j k : ℕ) (r : Reading)
+    → formedFolder (folder n ps) ≡ true
+    → Line last at j k r
+    → Piece r LineStart n (folderAdds at j k n ps) (turn n last ++ pathsFaults ps) (readAll r (printFolder (folder n ps)))
+unfolding formedFolder maxNumber
+folder-read n [] last at j k r well h = absurd (true≢false (sym (and-right (within 1 maxNumber n) false well)))
+folder-read n (p ∷ ps) last at j k r well h =
+    let bounds = and-left (within 1 maxNumber n) (every formedPath (p ∷ ps)) well in
+    let r₁ : Reading = readAll r folderWord in
+    let word = word-read r (h .mode) (h .deep) in
+    let r₂ : Reading = readAll r₁ (decimal n) in
+    let number = number-read n (leb-true 1 n (and-left (leb 1 n) (leb n maxNumber) bounds))
+    (leb-true n maxNumber (and-right (leb 1 n) (leb n maxNumber) bounds))
+    r₁
+    (word .mode)
+    (word .deep) in
+    let r₃ : Reading = readByte r₂ 32 in
+    let space = number-end n r₂ (number .mode) (number .deep) in
+    let opens : Opens n (afterNumber at n) k r₃ = record {
+      mode = space .mode;
+      deep = space .deep;
+      at-is = omega (arith, byte-at r₂ 32, all-at r₁ (decimal n), all-at r folderWord, word-size, h .at-is);
+      last-is = space .last;
+      steps = omega (arith, space .steps, number .steps, word .steps, h .steps);
+    } in
+    let before : r₂ .state .tally .paths ≡ j = omega (arith, number .paths, word .paths, h .paths) in
+    let paths = paths-read ps p n (afterNumber at n) k r₃ (and-right (within 1 maxNumber n) (every formedPath (p ∷ ps)) well) opens in
+    let r₄ : Reading = readAll r₃ (40 ∷ (printPath p ++ 41 ∷ printPaths ps)) in
+    let close = bracket r₄ (paths .mode) (paths .deep) in
+    let end = lineEnd (readByte r₄ 41) (close .mode) (close .deep) in
+    restated (then-quiet (then-quiet (chain (chain (chain word number) space) paths) close) end)
+    (close .last ∙ paths .last)
+    (tables-same (λ i. folderEntry n (before i) ∷ []) refl refl refl)
+    (ap (λ l. turn n l ++ pathsFaults (p ∷ ps)) (number .last ∙ (word .last ∙ h .last-is)))
+    (sym (line-parts r n p ps))
