@@ -11,3 +11,4 @@ pub mod TableSizes
 pub mod FolderText
 pub mod SetText
 pub mod Complete
+pub mod Faults
