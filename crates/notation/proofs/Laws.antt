@@ -12,3 +12,4 @@ pub mod FolderText
 pub mod SetText
 pub mod Complete
 pub mod Faults
+pub mod FaultNumbers
