@@ -1,25 +1,18 @@
 -- Reading is complete: the text of a well-formed set is read to its end. The counts and the tables are the set's, and the refusal is that
 -- of the set's faults.
-use Prim.Native.Nat.{ℕ, _+_}
 use native.Mathlib.Omega.{arith}
-use mathlib.Core.Path.{_≡_, refl, sym, ap, _∙_}
-use mathlib.Core.Bool.{Bool, true, cond, _||_}
-use mathlib.Core.List.{List, [], _∷_, map}
-use lib.Dec.{ltb}
+use mathlib.Core.Path.{_≡_, sym, _∙_}
+use mathlib.Core.Bool.{true, cond}
 use lib.ListN.{length, length-map}
-use Rattle.notation.specs.Limits.{maxPaths, maxLabels}
 use Rattle.notation.specs.Sets.{FolderSet}
 use Rattle.notation.specs.Print.{print}
 use Rattle.notation.specs.Form.{formed, pathsOf, stepsOf, labelsOf, overBytes, overFull, faults, firstOf}
-use Rattle.notation.specs.Layout.{Tables, stepEntry, tablesOf}
-use Rattle.notation.specs.Scan.{scan, start, ended, refusalOf, orElse, isDone}
+use Rattle.notation.specs.Layout.{stepEntry, tablesOf}
+use Rattle.notation.specs.Scan.{scan, start, ended, refusalOf, orElse}
 use Rattle.notation.specs.Emit.{tablesRead}
-use Rattle.notation.specs.declared.scan.Mode.{Mode}
 use Rattle.notation.specs.declared.scan.Mode.the-variants.{Done}
-use Rattle.notation.specs.declared.scan.Tally.{Tally}
 use Rattle.notation.specs.declared.scan.Scan.{Scan}
-use Rattle.notation.proofs.Laws.Reading.{Reading, readAll, all-state, all-tables, all-at}
-use Rattle.notation.proofs.Laws.Piece.{Piece}
+use Rattle.notation.proofs.Laws.Reading.{readAll, all-state, all-tables, all-at}
 use Rattle.notation.proofs.Laws.TableSizes.{folder-table-size, set-paths-size, set-labels-size}
 use Rattle.notation.proofs.Laws.SetText.{begin, set-read}
 

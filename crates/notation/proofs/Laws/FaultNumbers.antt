@@ -1,14 +1,14 @@
 -- The first fault of a set: none exactly when no condition of 4, 5 and 6 holds; a 4, 5 or 6 only on its condition.
-use Prim.Native.Nat.{ℕ, zero, suc}
+use Prim.Native.Nat.{ℕ, suc}
 use native.Mathlib.Omega.{arith}
-use mathlib.Core.Path.{_≡_, refl, sym, ap, ap₂, _∙_}
+use mathlib.Core.Path.{_≡_, refl, sym, ap₂, _∙_}
 use mathlib.Core.Logic.{_↔_}
 use mathlib.Core.Bool.{Bool, true, false, cond, _&&_, _||_, true≢false, and-assoc}
 use mathlib.Core.List.{List, [], _∷_, _++_}
 use lib.Dec.{leb, eqb}
 use borrow.Author.Tests.{eq-eqb}
 use Rattle.notation.specs.Limits.{maxSteps}
-use Rattle.notation.specs.Sets.{Step, Path, Folder, folder, FolderSet, testOf}
+use Rattle.notation.specs.Sets.{Path, folder, FolderSet, testOf}
 use Rattle.notation.specs.Refusals.{Refusal, shortBuffer, oversize, bentForm, outOfTurn, longName, longPath, full, foreignByte, torn, looseEnd, tooDeep, crossed, noSuchPlace, strangeShape, numberOf}
 use Rattle.notation.specs.Form.{every, longTest, stepFaults, pathFaults, pathsFaults, faultsAfter, faults, firstOf, any, numbersFall, namesLong, pathsLong}
 use Rattle.notation.proofs.Laws.Tests.{and-left}

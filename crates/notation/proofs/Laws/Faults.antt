@@ -1,17 +1,17 @@
 -- The faults of a set against the plain conditions: a 4, 5 or 6 is among them exactly when its condition holds, and nothing else is.
-use Prim.Native.Nat.{ℕ, zero, suc, _+_, _≤_, _<_}
+use Prim.Native.Nat.{ℕ, suc, _+_, _≤_}
 use native.Mathlib.Omega.{arith}
 use mathlib.Core.Path.{_≡_, refl, sym, ap, ap₂, _∙_}
 use mathlib.Core.Bool.{Bool, true, false, cond, _&&_, _||_, or-assoc, or-false, and-true, and-false}
 use mathlib.Core.List.{List, [], _∷_, _++_}
 use lib.Dec.{leb, ltb, eqb}
-use borrow.Author.Tests.{le-leb, lt-leb, lt-ltb, le-ltb, leb-true, leb-false}
+use borrow.Author.Tests.{lt-ltb, le-ltb, leb-true, leb-false}
 use lib.ListN.{length}
 use Rattle.notation.specs.Limits.{maxSteps}
 use Rattle.notation.specs.Names.{tooLong}
-use Rattle.notation.specs.Sets.{Test, label, star, Step, step, Path, Folder, folder, FolderSet, testOf}
+use Rattle.notation.specs.Sets.{Test, label, star, Path, folder, FolderSet, testOf}
 use Rattle.notation.specs.Refusals.{Refusal, outOfTurn, longName, longPath, numberOf}
-use Rattle.notation.specs.Form.{pathsOf, stepsOf, labelsOf, labelOf, longTest, stepFaults, pathFaults, pathsFaults, faultsAfter, faults, firstOf, any, numbersFallAfter, numbersFall, namesLong, pathLong, pathsLong}
+use Rattle.notation.specs.Form.{pathsOf, stepsOf, labelsOf, labelOf, longTest, stepFaults, pathFaults, pathsFaults, faultsAfter, any, numbersFallAfter, pathLong}
 use Rattle.notation.proofs.Laws.Tests.{cases}
 use Rattle.notation.proofs.Laws.TableSizes.{steps-append, labels-append}
 

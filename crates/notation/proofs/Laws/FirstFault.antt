@@ -1,7 +1,6 @@
 -- The first fault of two parts of a text is that of the first part, or else that of the second.
 use Prim.Native.Nat.{ℕ}
 use mathlib.Core.Path.{_≡_, refl, sym}
-use mathlib.Core.Bool.{Bool, true, false, cond}
 use mathlib.Core.List.{List, [], _∷_, _++_}
 use lib.Dec.{eqb}
 use borrow.Author.Tests.{eqb-true}

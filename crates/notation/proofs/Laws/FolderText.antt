@@ -1,31 +1,29 @@
 -- Reading a folder's line.
-use Prim.Native.Nat.{ℕ, suc, _+_}
+use Prim.Native.Nat.{ℕ, _+_}
 use native.Mathlib.Omega.{arith}
 use mathlib.Core.Path.{_≡_, refl, sym, ap, _∙_}
 use mathlib.Core.Bool.{Bool, true, false, cond, true≢false}
 use mathlib.Core.List.{List, [], _∷_, _++_, map, append-nil}
 use lib.Dec.{leb}
 use borrow.Author.Tests.{leb-true}
-use lib.ListN.{length, length-append}
+use lib.ListN.{length}
 use Rattle.notation.specs.Limits.{maxNumber}
 use Rattle.notation.specs.Names.{within}
-use Rattle.notation.specs.Sets.{Step, Path, Folder, folder}
+use Rattle.notation.specs.Sets.{Path, folder}
 use Rattle.notation.specs.Print.{decimal, printPath, printPaths, folderWord, footer, printFolder}
 use Rattle.notation.specs.Refusals.{Refusal, outOfTurn}
-use Rattle.notation.specs.Form.{every, nonEmpty, formedPath, formedFolder, stepsOf, pathsFaults, firstOf}
+use Rattle.notation.specs.Form.{every, formedPath, formedFolder, stepsOf, pathsFaults, firstOf}
 use Rattle.notation.specs.Layout.{Tables, folderEntry, stepEntry, pathTable, labelTable, afterNumber}
 use Rattle.notation.specs.Scan.{next, counted, scanned, orElse}
 use Rattle.notation.specs.Emit.{emitted, noTables}
-use Rattle.notation.specs.declared.scan.Mode.{Mode}
 use Rattle.notation.specs.declared.scan.Mode.the-variants.{LineStart, NumberStart, Number, PathOpen, PathEnd, LineEnd}
 use Rattle.notation.specs.declared.scan.Tally.{Tally}
-use Rattle.notation.specs.declared.scan.Scan.{Scan}
 use Rattle.notation.proofs.Laws.Tests.{and-left, and-right}
 use Rattle.notation.proofs.Laws.Reading.{Reading, reading, readByte, readAll, all-append, all-at, byte-at, at-mode}
 use Rattle.notation.proofs.Laws.Piece.{Piece, chain, then-quiet, quiet, moved, restated, tables-same}
 use Rattle.notation.proofs.Laws.NumberText.{number-read}
 use Rattle.notation.proofs.Laws.PathText.{Opens}
-use Rattle.notation.proofs.Laws.PathsText.{pathsAdd, paths-read}
+use Rattle.notation.proofs.Laws.PathsText.{paths-read}
 
 word-at : (t : Tally) (x : Tables)
     → t .deep ≡ 0

@@ -2,22 +2,20 @@
 use Prim.Native.Nat.{ℕ, zero, suc, _+_, _-_, _*_, _/_, _%_, _≤_, _<_}
 use native.Mathlib.Omega.{arith}
 use mathlib.Core.Path.{_≡_, refl, sym, ap, _∙_}
-use mathlib.Core.Bool.{Bool, true, false, cond, _&&_}
-use mathlib.Core.List.{List, [], _∷_, _++_}
-use lib.Dec.{leb, ltb, eqb}
+use mathlib.Core.Bool.{true, false}
+use mathlib.Core.List.{[], _∷_, _++_}
+use lib.Dec.{ltb, eqb}
 use borrow.Author.Tests.{le-leb, lt-ltb, le-ltb, ltb-true, ltb-false, ne-eqb}
-use Rattle.notation.specs.Names.{within, digit}
+use Rattle.notation.specs.Names.{digit}
 use Rattle.notation.specs.Print.{digits, decimal}
-use Rattle.notation.specs.Scan.{next, counted, inNumber}
+use Rattle.notation.specs.Scan.{next, counted}
 use Rattle.notation.specs.Emit.{emitted, noTables}
 use Rattle.notation.specs.Layout.{Tables}
-use Rattle.notation.specs.declared.scan.Mode.{Mode}
 use Rattle.notation.specs.declared.scan.Mode.the-variants.{NumberStart, Number}
 use Rattle.notation.specs.declared.scan.Tally.{Tally}
-use Rattle.notation.specs.declared.scan.Scan.{Scan}
 use Rattle.notation.proofs.Laws.Tests.{cases}
-use Rattle.notation.proofs.Laws.Reading.{Reading, readByte, readAll, all-append}
-use Rattle.notation.proofs.Laws.Piece.{Piece, chain, quiet, restated, tables-same}
+use Rattle.notation.proofs.Laws.Reading.{Reading, readAll, all-append}
+use Rattle.notation.proofs.Laws.Piece.{Piece, chain, quiet, restated}
 
 first-digit : (n : ℕ) → 1 ≤ n → n < 10 → next NumberStart (48 + n) ≡ Number n
 unfolding next

@@ -2,26 +2,23 @@
 use Prim.Native.Nat.{ℕ, suc, _+_, _-_}
 use native.Mathlib.Omega.{arith}
 use mathlib.Core.Path.{_≡_, refl, sym, ap, _∙_}
-use mathlib.Core.Bool.{Bool, true, false, true≢false}
+use mathlib.Core.Bool.{true, false, true≢false}
 use mathlib.Core.List.{List, [], _∷_, _++_, map, append-nil, append-assoc}
 use lib.ListN.{length, length-append}
 use Rattle.notation.specs.Names.{letter, digit, beginsName, inName}
-use Rattle.notation.specs.Sets.{Step, step, Path}
+use Rattle.notation.specs.Sets.{Step, Path}
 use Rattle.notation.specs.Print.{printStep, printPath}
-use Rattle.notation.specs.Refusals.{Refusal}
-use Rattle.notation.specs.Form.{every, nonEmpty, formedStep, formedPath, pathFaults, stepFaults}
+use Rattle.notation.specs.Form.{every, formedStep, formedPath, pathFaults, stepFaults}
 use Rattle.notation.specs.Layout.{Tables, stepEntry, stepLabel, pathLabels, pathEntry}
 use Rattle.notation.specs.Scan.{next, counted, scanned}
 use Rattle.notation.specs.Emit.{emitted}
-use Rattle.notation.specs.declared.scan.Mode.{Mode}
-use Rattle.notation.specs.declared.scan.Mode.the-variants.{PathOpen, PathStart, Slash, PathEnd}
+use Rattle.notation.specs.declared.scan.Mode.the-variants.{PathOpen, Slash, PathEnd}
 use Rattle.notation.specs.declared.scan.Tally.{Tally}
-use Rattle.notation.specs.declared.scan.Scan.{Scan}
 use Rattle.notation.proofs.Laws.Tests.{and-left, and-right}
 use Rattle.notation.proofs.Laws.Reading.{Reading, reading, readByte, readAll, all-append, all-at, byte-at, at-mode}
 use Rattle.notation.proofs.Laws.Piece.{Piece, chain, restated, tables-same}
 use Rattle.notation.proofs.Laws.StepText.{afterSlash, step-slash}
-use Rattle.notation.proofs.Laws.StepEnd.{StepRead, stepAdds, step-read}
+use Rattle.notation.proofs.Laws.StepEnd.{StepRead, step-read}
 
 slash-ends : inName 47 ≡ false
 unfolding inName beginsName letter digit

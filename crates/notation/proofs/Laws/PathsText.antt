@@ -1,24 +1,21 @@
 -- Reading the paths of a line.
-use Prim.Native.Nat.{ℕ, suc, _+_}
+use Prim.Native.Nat.{ℕ, _+_}
 use native.Mathlib.Omega.{arith}
 use mathlib.Core.Path.{_≡_, refl, sym, ap, _∙_}
-use mathlib.Core.Bool.{Bool, true, false}
+use mathlib.Core.Bool.{true}
 use mathlib.Core.List.{List, [], _∷_, _++_, map, map-append, append-nil, append-assoc}
 use lib.ListN.{length, length-append, length-map}
-use Rattle.notation.specs.Sets.{Step, Path}
+use Rattle.notation.specs.Sets.{Path}
 use Rattle.notation.specs.Print.{printPath, printPaths}
 use Rattle.notation.specs.Form.{every, formedPath, stepsOf, pathFaults, pathsFaults}
 use Rattle.notation.specs.Layout.{Tables, stepEntry, pathTable, labelTable, pathLabels}
 use Rattle.notation.specs.Scan.{next, counted}
 use Rattle.notation.specs.Emit.{emitted, noTables}
-use Rattle.notation.specs.declared.scan.Mode.{Mode}
 use Rattle.notation.specs.declared.scan.Mode.the-variants.{PathOpen, PathEnd}
-use Rattle.notation.specs.declared.scan.Tally.{Tally}
-use Rattle.notation.specs.declared.scan.Scan.{Scan}
 use Rattle.notation.proofs.Laws.Tests.{and-left, and-right}
 use Rattle.notation.proofs.Laws.Reading.{Reading, readByte, readAll, all-append, all-at, byte-at}
 use Rattle.notation.proofs.Laws.Piece.{Piece, chain, then-quiet, quiet, restated, tables-same}
-use Rattle.notation.proofs.Laws.PathText.{Opens, pathAdds, path-read}
+use Rattle.notation.proofs.Laws.PathText.{Opens, path-read}
 
 abbrev pub pathsAdd : ℕ → ℕ → List Path → Tables
 pathsAdd at k ps = record { folders = []; paths = pathTable at k ps; steps = map stepEntry (stepsOf ps); labels = labelTable at k ps }

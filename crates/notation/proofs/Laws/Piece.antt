@@ -1,8 +1,8 @@
 -- What reading a piece of text does: the mode and number that it leaves, the entries that it adds and the faults that it has.
 use Prim.Native.Nat.{ℕ, _+_}
 use native.Mathlib.Omega.{arith}
-use mathlib.Core.Path.{_≡_, refl, sym, ap, _∙_, transport}
-use mathlib.Core.List.{List, [], _∷_, _++_, append-nil, append-assoc}
+use mathlib.Core.Path.{_≡_, refl, sym, transport}
+use mathlib.Core.List.{List, [], _++_, append-nil, append-assoc}
 use lib.ListN.{length, length-append}
 use Rattle.notation.specs.Refusals.{Refusal}
 use Rattle.notation.specs.Form.{firstOf}
@@ -11,7 +11,6 @@ use Rattle.notation.specs.Scan.{next, counted, scanned, orElse}
 use Rattle.notation.specs.Emit.{emitted, noTables}
 use Rattle.notation.specs.declared.scan.Mode.{Mode}
 use Rattle.notation.specs.declared.scan.Tally.{Tally}
-use Rattle.notation.specs.declared.scan.Scan.{Scan}
 use Rattle.notation.proofs.Laws.FirstFault.{orElse-assoc, orElse-none, first-append}
 use Rattle.notation.proofs.Laws.Reading.{Reading, reading, placed, readByte, at-mode}
 

@@ -1,14 +1,13 @@
 -- Scan and tables read together, byte after byte, so that a law about a piece of text speaks of both.
-use Prim.Native.Nat.{ℕ, suc, _+_}
+use Prim.Native.Nat.{ℕ, _+_}
 use native.Mathlib.Omega.{arith}
-use mathlib.Core.Path.{_≡_, refl, sym, _∙_, subst}
-use mathlib.Core.Bool.{Bool, true, false, cond}
+use mathlib.Core.Path.{_≡_, refl, sym, subst}
 use mathlib.Core.List.{List, [], _∷_, _++_}
 use lib.Dec.{eqb}
 use lib.ListN.{length}
 use Rattle.notation.specs.Names.{inName}
 use Rattle.notation.specs.Layout.{Tables}
-use Rattle.notation.specs.Scan.{next, counted, scanned, scan, ticked, folderRead, deepened, labelBegun, pathRead, labelRead}
+use Rattle.notation.specs.Scan.{counted, scanned, scan}
 use Rattle.notation.specs.Emit.{emitted, emit}
 use Rattle.notation.specs.declared.scan.Mode.{Mode}
 use Rattle.notation.specs.declared.scan.Mode.the-variants.{Header, LineStart, Word, NumberStart, Number, PathOpen, PathStart, Slash, Slashes, Label, Star, PathEnd, LineEnd, LastLine, Done, Bent}

@@ -1,27 +1,24 @@
 -- Reading a set's text: its lines, and the whole.
-use Prim.Native.Nat.{ℕ, suc, _+_}
+use Prim.Native.Nat.{ℕ, _+_}
 use native.Mathlib.Omega.{arith}
 use mathlib.Core.Path.{_≡_, refl, sym, ap, _∙_}
-use mathlib.Core.Bool.{Bool, true, false, cond}
-use mathlib.Core.List.{List, [], _∷_, _++_, map, map-append, append-assoc}
+use mathlib.Core.Bool.{true, cond}
+use mathlib.Core.List.{[], _∷_, map, map-append, append-assoc}
 use lib.Dec.{leb}
-use lib.ListN.{length, length-append, length-map}
-use Rattle.notation.specs.Sets.{Step, Path, Folder, folder, FolderSet}
+use lib.ListN.{length, length-map}
+use Rattle.notation.specs.Sets.{folder, FolderSet}
 use Rattle.notation.specs.Print.{printFolder, printFolders, print, header, footer}
-use Rattle.notation.specs.Refusals.{Refusal, outOfTurn}
+use Rattle.notation.specs.Refusals.{outOfTurn}
 use Rattle.notation.specs.Form.{every, formedFolder, formed, pathsOf, stepsOf, pathsFaults, faultsAfter, faults}
-use Rattle.notation.specs.Layout.{Tables, stepEntry, folderTable, pathTable, setPaths, setLabels, afterNumber, tablesOf}
+use Rattle.notation.specs.Layout.{Tables, stepEntry, folderTable, setPaths, setLabels, afterNumber, tablesOf}
 use Rattle.notation.specs.Scan.{next, counted, scanned, start}
 use Rattle.notation.specs.Emit.{emitted, noTables}
-use Rattle.notation.specs.declared.scan.Mode.{Mode}
 use Rattle.notation.specs.declared.scan.Mode.the-variants.{LineStart, LastLine, Done}
-use Rattle.notation.specs.declared.scan.Tally.{Tally}
-use Rattle.notation.specs.declared.scan.Scan.{Scan}
 use Rattle.notation.proofs.Laws.Tests.{and-left, and-right}
-use Rattle.notation.proofs.Laws.Reading.{Reading, reading, readByte, readAll, all-append, all-at}
+use Rattle.notation.proofs.Laws.Reading.{Reading, readByte, readAll, all-append, all-at}
 use Rattle.notation.proofs.Laws.Piece.{Piece, chain, then-quiet, quiet, restated, tables-same}
 use Rattle.notation.proofs.Laws.TableSizes.{steps-append, path-table-size}
-use Rattle.notation.proofs.Laws.FolderText.{Line, folderAdds, folder-read}
+use Rattle.notation.proofs.Laws.FolderText.{Line, folder-read}
 
 -- the number of the last folder
 unfoldable pub lastNumber : ℕ → FolderSet → ℕ

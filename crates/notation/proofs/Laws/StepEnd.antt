@@ -1,25 +1,23 @@
 -- The byte that ends a step: a slash, or its path's bracket. With it a whole step is read.
 use Prim.Native.Nat.{ℕ, suc, _+_, _-_}
 use native.Mathlib.Omega.{arith}
-use mathlib.Core.Path.{_≡_, refl, sym, ap, _∙_, subst}
+use mathlib.Core.Path.{_≡_, refl, ap}
 use mathlib.Core.Bool.{Bool, true, false, cond}
 use mathlib.Core.List.{List, [], _∷_, _++_, append-nil}
 use lib.Dec.{leb, eqb}
 use lib.ListN.{length, length-append}
 use Rattle.notation.specs.Limits.{maxName, maxSteps}
 use Rattle.notation.specs.Names.{inName}
-use Rattle.notation.specs.Sets.{Axis, child, descendant, Test, label, star, Step, step, axisOf, testOf}
-use Rattle.notation.specs.Print.{printAxis, printTest, printStep}
-use Rattle.notation.specs.Refusals.{Refusal, longName, longPath}
+use Rattle.notation.specs.Sets.{Axis, label, star, Step, step, axisOf, testOf}
+use Rattle.notation.specs.Print.{printAxis, printStep}
+use Rattle.notation.specs.Refusals.{longName, longPath}
 use Rattle.notation.specs.Form.{formedStep, stepFaults, firstOf}
-use Rattle.notation.specs.Layout.{Tables, axisBit, stepEntry, stepLabel, pathEntry, labelEntry}
+use Rattle.notation.specs.Layout.{Tables, axisBit, stepEntry, stepLabel, pathEntry}
 use Rattle.notation.specs.Scan.{next, counted, scanned, testEnd, ticked, pathRead, labelRead, orElse}
 use Rattle.notation.specs.Emit.{emitted, withStep, withLabel}
-use Rattle.notation.specs.declared.scan.Mode.{Mode}
-use Rattle.notation.specs.declared.scan.Mode.the-variants.{Slash, Label, Star}
+use Rattle.notation.specs.declared.scan.Mode.the-variants.{Slash, Label}
 use Rattle.notation.specs.declared.scan.Tally.{Tally}
-use Rattle.notation.specs.declared.scan.Scan.{Scan}
-use Rattle.notation.proofs.Laws.Reading.{Reading, reading, placed, readByte, readAll, all-append, at-mode}
+use Rattle.notation.proofs.Laws.Reading.{Reading, reading, placed, readByte, readAll, at-mode}
 use Rattle.notation.proofs.Laws.Piece.{Piece}
 use Rattle.notation.proofs.Laws.StepText.{afterSlash, testMode, pending}
 

@@ -2,12 +2,12 @@
 use Prim.Native.Nat.{ℕ, suc, _+_}
 use native.Mathlib.Omega.{arith}
 use mathlib.Core.Path.{_≡_, refl, sym, ap, _∙_}
-use mathlib.Core.Bool.{Bool, true, false, cond, _&&_, _||_, true≢false}
+use mathlib.Core.Bool.{true, false, true≢false}
 use mathlib.Core.List.{List, [], _∷_, _++_}
-use lib.Dec.{leb, eqb}
+use lib.Dec.{eqb}
 use borrow.Author.Tests.{ne-eqb}
-use lib.ListN.{length, length-append}
-use Rattle.notation.specs.Names.{letter, digit, beginsName, inName, allInName, nameForm}
+use lib.ListN.{length}
+use Rattle.notation.specs.Names.{letter, beginsName, inName, allInName, nameForm}
 use Rattle.notation.specs.Sets.{Axis, child, descendant, Test, label, star, Step, step, testOf, axisOf}
 use Rattle.notation.specs.Print.{printAxis, printTest, printStep}
 use Rattle.notation.specs.Form.{formedTest, formedStep}
@@ -17,9 +17,8 @@ use Rattle.notation.specs.Emit.{emitted}
 use Rattle.notation.specs.declared.scan.Mode.{Mode}
 use Rattle.notation.specs.declared.scan.Mode.the-variants.{Slash, Slashes, Label, Star}
 use Rattle.notation.specs.declared.scan.Tally.{Tally}
-use Rattle.notation.specs.declared.scan.Scan.{Scan}
 use Rattle.notation.proofs.Laws.Tests.{and-left, and-right}
-use Rattle.notation.proofs.Laws.Reading.{Reading, reading, placed, readByte, readAll}
+use Rattle.notation.proofs.Laws.Reading.{reading, placed, readByte, readAll}
 
 not-slash : (c : ℕ) → beginsName c ≡ true → eqb c 47 ≡ false
 unfolding beginsName letter

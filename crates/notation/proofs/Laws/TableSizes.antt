@@ -1,10 +1,10 @@
 -- The tables of a set have an entry for each folder, path, step and label.
 use Prim.Native.Nat.{ℕ, suc, _+_}
 use native.Mathlib.Omega.{arith}
-use mathlib.Core.Path.{_≡_, refl, sym, ap, _∙_}
+use mathlib.Core.Path.{_≡_, refl, sym, ap}
 use mathlib.Core.List.{List, [], _∷_, _++_, append-assoc}
 use lib.ListN.{length, length-append}
-use Rattle.notation.specs.Sets.{Test, label, star, Step, step, Path, Folder, folder, FolderSet, testOf, folderPaths}
+use Rattle.notation.specs.Sets.{label, star, Step, step, Path, folder, FolderSet, testOf}
 use Rattle.notation.specs.Print.{printStep, printPath, printFolder}
 use Rattle.notation.specs.Form.{pathsOf, stepsOf, labelsOf, labelOf}
 use Rattle.notation.specs.Layout.{folderTable, pathTable, stepLabel, pathLabels, labelTable, afterNumber, setPaths, setLabels}
