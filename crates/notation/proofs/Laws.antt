@@ -20,3 +20,17 @@ pub mod SameStep
 pub mod SamePath
 pub mod SameSet
 pub mod OneSet
+pub mod FirstFault
+pub mod Reading
+pub mod Piece
+pub mod StepText
+pub mod StepEnd
+pub mod PathText
+pub mod PathsText
+pub mod NumberText
+pub mod TableSizes
+pub mod FolderText
+pub mod SetText
+pub mod Complete
+pub mod Faults
+pub mod FaultNumbers

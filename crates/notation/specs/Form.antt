@@ -9,7 +9,7 @@ use Rattle.notation.specs.Limits.{maxNumber, maxSteps, maxPaths, maxLabe
 use Rattle.notation.specs.Names.{nameForm, tooLong, within}
 use Rattle.notation.specs.Sets.{Test, label, star, Step, step, Path, Folder, folder, FolderSet, testOf, folderPaths}
 use Rattle.notation.specs.Print.{print}
-use Rattle.notation.specs.Refusals.{Refusal, outOfTurn, longName, longPath}
+use Rattle.notation.specs.Refusals.{Refusal, outOfTurn, longName, longPath, numberOf}
 
 -- the test holds of every element
 unfoldable pub every {ℓ} : {A : Type ℓ} → (A → Bool) → List A → Bool
@@ -95,3 +95,35 @@ faultsAfter last (folder n ps ∷ fs) = cond (leb n last) (outOfTurn ∷ []) [] 
 
 abbrev pub faults : FolderSet → List Refusal
 faults s = faultsAfter 0 s
+
+-- the refusal of a list of faults: the number of the first, 0 for none
+abbrev pub firstOf : List Refusal → ℕ
+firstOf [] = 0
+firstOf (r ∷ rs) = numberOf r
+
+-- the conditions of 4, 5 and 6 by themselves, whatever stands before in the text
+
+-- the test holds of some element
+unfoldable pub any {ℓ} : {A : Type ℓ} → (A → Bool) → List A → Bool
+any f [] = false
+any f (a ∷ l) = f a || any f l
+
+-- some number is not above the one before it; `last` stands before the first
+unfoldable pub numbersFallAfter : ℕ → FolderSet → Bool
+numbersFallAfter last [] = false
+numbersFallAfter last (folder n ps ∷ fs) = leb n last || numbersFallAfter n fs
+
+-- some number is not above the one before it, or the first is 0
+abbrev pub numbersFall : FolderSet → Bool
+numbersFall s = numbersFallAfter 0 s
+
+-- some label is over the length of a name
+unfoldable pub namesLong : FolderSet → Bool
+namesLong s = any tooLong (labelsOf (stepsOf (pathsOf s)))
+
+abbrev pub pathLong : Path → Bool
+pathLong p = ltb maxSteps (length p)
+
+-- some path is over the limit of its steps
+unfoldable pub pathsLong : FolderSet → Bool
+pathsLong s = any pathLong (pathsOf s)
