@@ -34,3 +34,4 @@ pub mod SetText
 pub mod Complete
 pub mod Faults
 pub mod FaultNumbers
+pub mod Counts

@@ -10,6 +10,7 @@ pub mod Safe
 pub mod Layout
 pub mod Emit
 pub mod Put
+pub mod ReadSet
 pub mod Fit
 pub mod Activity
 pub mod FitTable

@@ -1,16 +1,18 @@
 -- What one byte of a set's text writes into the buffer of a read set, beside Scan: the bytes of the entries that Emit adds.
 use Prim.Native.Nat.{ℕ, _+_, _-_, _*_, _≤_, _<_}
 use mathlib.Core.Bool.{Bool, true, false, cond}
-use mathlib.Core.List.{List, [], _∷_}
+use mathlib.Core.List.{List, [], _∷_, _++_}
 use lib.Dec.{eqb}
 use lib.ListN.{set}
 use lib.Seq.{sets}
 use Rattle.notation.specs.Limits.{maxPaths, maxSteps, maxLabels}
 use Rattle.notation.specs.Names.{inName}
-use Rattle.notation.specs.Layout.{folderSize, pathSize, labelSize, foldersAt, pathsAt, stepsAt, labelsAt, setSize, folderEntry, pathEntry, labelEntry}
+use Rattle.notation.specs.Scan.{scanned}
+use Rattle.notation.specs.Layout.{le16, folderSize, pathSize, labelSize, foldersAt, pathsAt, stepsAt, labelsAt, setSize, folderEntry, pathEntry, labelEntry}
 use Rattle.notation.specs.declared.scan.Mode.{Mode}
 use Rattle.notation.specs.declared.scan.Mode.the-variants.{Header, LineStart, Word, NumberStart, Number, PathOpen, PathStart, Slash, Slashes, Label, Star, PathEnd, LineEnd, LastLine, Done, Bent}
 use Rattle.notation.specs.declared.scan.Tally.{Tally}
+use Rattle.notation.specs.declared.scan.Scan.{Scan}
 
 unfoldable pub putFolder : ℕ → Tally → List ℕ → List ℕ
 putFolder n t part = sets part (foldersAt + folderSize * t .folders) (folderEntry n (t .paths))
@@ -53,3 +55,12 @@ pub record Within (t : Tally) : Type 0 where
   pub paths : t .paths ≤ maxPaths
   pub steps : t .steps ≤ maxPaths * maxSteps
   pub labels : t .labels ≤ maxLabels
+
+-- the whole text
+unfoldable pub putAll : Scan → List ℕ → List ℕ → List ℕ
+putAll s [] part = part
+putAll s (b ∷ l) part = putAll (scanned s b) l (put (s .mode) b (s .tally) part)
+
+-- the counts, once the text of this length has been read
+abbrev pub tallied : ℕ → Tally → List ℕ
+tallied size t = le16 size ++ (le16 (t .folders) ++ (le16 (t .paths) ++ (le16 (t .steps) ++ le16 (t .labels))))

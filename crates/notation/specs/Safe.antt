@@ -34,6 +34,7 @@ pub record Small (t : Tally) : Type 0 where
 
 pub record Safe (s : Scan) : Type 0 where
   pub mode : SmallMode (s .mode)
+  pub deep : s .tally .deep < 2
   pub folders : s .tally .folders ≤ s .tally .at
   pub paths : s .tally .paths ≤ s .tally .at
   pub steps : s .tally .steps ≤ s .tally .at

@@ -4,6 +4,7 @@ pub mod layout;
 pub mod limits;
 pub mod names;
 pub mod put;
+pub mod read;
 pub mod scan;
 
 // A path's place: its index among all paths of the set.

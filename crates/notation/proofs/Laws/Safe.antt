@@ -61,13 +61,14 @@ small-next Bent b h = tt
 -- a byte adds at most one to each count, and takes none away
 pub record Grown (t u : Tally) : Type 0 where
   pub at : u .at ≡ t .at
+  pub deep : t .deep < 2 → u .deep < 2
   pub folders : (t .folders ≤ u .folders) × (u .folders ≤ t .folders + 1)
   pub paths : (t .paths ≤ u .paths) × (u .paths ≤ t .paths + 1)
   pub steps : (t .steps ≤ u .steps) × (u .steps ≤ t .steps + 1)
   pub labels : (t .labels ≤ u .labels) × (u .labels ≤ t .labels + 1)
 
 same : (t : Tally) → Grown t t
-same t = record { at = refl; folders = omega arith; paths = omega arith; steps = omega arith; labels = omega arith }
+same t = record { at = refl; deep = λ h. h; folders = omega arith; paths = omega arith; steps = omega arith; labels = omega arith }
 
 grown-cond : (b : Bool) {t x y : Tally} → Grown t x → Grown t y → Grown t (cond b x y)
 grown-cond true p q = p
@@ -79,11 +80,11 @@ bracket-one false p = omega arith
 
 ended-label : (b : ℕ) (t : Tally) → Grown t (pathRead b (labelRead t))
 ended-label b t = record
-    { at = refl; folders = omega arith; paths = bracket-one (eqb b 41) (t .paths); steps = omega arith; labels = omega arith }
+    { at = refl; deep = λ h. omega arith; folders = omega arith; paths = bracket-one (eqb b 41) (t .paths); steps = omega arith; labels = omega arith }
 
 ended-star : (b : ℕ) (t : Tally) → Grown t (pathRead b (starRead t))
 ended-star b t = record
-    { at = refl; folders = omega arith; paths = bracket-one (eqb b 41) (t .paths); steps = omega arith; labels = omega arith }
+    { at = refl; deep = λ h. omega arith; folders = omega arith; paths = bracket-one (eqb b 41) (t .paths); steps = omega arith; labels = omega arith }
 
 pub grown : (m : Mode) (b : ℕ) (t : Tally) → Grown t (counted m b t)
 unfolding counted
@@ -93,15 +94,15 @@ grown (Word k) b t = same t
 grown NumberStart b t = same t
 grown (Number n) b t =
     grown-cond (eqb b 32)
-    (record { at = refl; folders = omega arith; paths = omega arith; steps = omega arith; labels = omega arith })
+    (record { at = refl; deep = λ h. omega arith; folders = omega arith; paths = omega arith; steps = omega arith; labels = omega arith })
     (same t)
-grown PathOpen b t = record { at = refl; folders = omega arith; paths = omega arith; steps = omega arith; labels = omega arith }
+grown PathOpen b t = record { at = refl; deep = λ h. omega arith; folders = omega arith; paths = omega arith; steps = omega arith; labels = omega arith }
 grown PathStart b t = same t
 grown Slash b t =
     grown-cond (eqb b 47)
-    (record { at = refl; folders = omega arith; paths = omega arith; steps = omega arith; labels = omega arith })
-    (record { at = refl; folders = omega arith; paths = omega arith; steps = omega arith; labels = omega arith })
-grown Slashes b t = record { at = refl; folders = omega arith; paths = omega arith; steps = omega arith; labels = omega arith }
+    (record { at = refl; deep = λ h. omega arith; folders = omega arith; paths = omega arith; steps = omega arith; labels = omega arith })
+    (record { at = refl; deep = λ h. omega arith; folders = omega arith; paths = omega arith; steps = omega arith; labels = omega arith })
+grown Slashes b t = record { at = refl; deep = λ h. omega arith; folders = omega arith; paths = omega arith; steps = omega arith; labels = omega arith }
 grown Label b t = grown-cond (inName b) (same t) (ended-label b t)
 grown Star b t = ended-star b t
 grown PathEnd b t = same t
@@ -112,14 +113,14 @@ grown Bent b t = same t
 
 pub safe-start : Safe start
 unfolding start
-safe-start = record { mode = omega arith; folders = omega arith; paths = omega arith; steps = omega arith; labels = omega arith }
+safe-start = record { mode = omega arith; deep = omega arith; folders = omega arith; paths = omega arith; steps = omega arith; labels = omega arith }
 
 pub safe-more : (s : Scan) (b : ℕ) → Safe s → Safe (scanned s b)
 unfolding scanned
 safe-more s b h =
     let g : Grown (s .tally) (counted (s .mode) b (s .tally)) = grown (s .mode) b (s .tally) in
     record
-    { mode = small-next (s .mode) b (h .mode); folders = omega arith; paths = omega arith; steps = omega arith; labels = omega arith }
+    { mode = small-next (s .mode) b (h .mode); deep = g .deep (h .deep); folders = omega arith; paths = omega arith; steps = omega arith; labels = omega arith }
 
 pub at-more : (s : Scan) (b : ℕ) → scanned s b .tally .at ≡ s .tally .at + 1
 unfolding scanned
