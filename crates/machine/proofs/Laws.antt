@@ -1,3 +1,4 @@
 pub mod Basics
 pub mod Words
 pub mod Prefix
+pub mod Walk
