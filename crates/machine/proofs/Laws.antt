@@ -2,3 +2,4 @@ pub mod Basics
 pub mod Words
 pub mod Prefix
 pub mod Walk
+pub mod Calls

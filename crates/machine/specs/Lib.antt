@@ -2,3 +2,5 @@ pub mod Limits
 pub mod Words
 pub mod Prefix
 pub mod Walk
+pub mod Calls
+pub mod History

@@ -16,17 +16,17 @@ abbrev pub Word : Type 0
 Word = List Symbol
 
 -- a run of symbols that a cut or the path's end closes is a keyword, unless it is empty
-abbrev pub closed : Word → List Word
-closed [] = []
-closed (s ∷ w) = (s ∷ w) ∷ []
+abbrev pub ended : Word → List Word
+ended [] = []
+ended (s ∷ w) = (s ∷ w) ∷ []
 
 -- a path cut at every `//` and every `*`; `w` is the run before the steps that are left
 unfoldable pub cut : Word → Path → List Word
-cut w [] = closed w
+cut w [] = ended w
 cut w (step child (label n) ∷ p) = cut (w ++ (name n ∷ [])) p
-cut w (step child star ∷ p) = closed w ++ cut [] p
-cut w (step descendant (label n) ∷ p) = closed w ++ cut (name n ∷ []) p
-cut w (step descendant star ∷ p) = closed w ++ cut [] p
+cut w (step child star ∷ p) = ended w ++ cut [] p
+cut w (step descendant (label n) ∷ p) = ended w ++ cut (name n ∷ []) p
+cut w (step descendant star ∷ p) = ended w ++ cut [] p
 
 -- a path whose first step is `/` gets `#` put before it
 abbrev pub before : Path → Word
