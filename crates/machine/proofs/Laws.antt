@@ -3,3 +3,4 @@ pub mod Words
 pub mod Prefix
 pub mod Walk
 pub mod Calls
+pub mod Sound

@@ -91,11 +91,13 @@ lent-otherwise-close s e = refl
 -- what holds of a state with its accepted calls, and goes on holding at each accepted open and close, holds after every list of calls
 module _ (set : FolderSet) (P : State → List Call → Type 0)
     (at-open : (s : State) (h : List Call) (e : Name) → Openable s e → P s h → P (opened set s e) (openCall asLeft e ∷ h))
-    (at-close : (s : State) (h : List Call) (e : Name) → Closable s e → P s h → P (closed s) (closeCall asLeft e ∷ h)) where
+    (at-close : (s : State) (h : List Call) (e : Name) → (c : Closable s e) → P s h → P (closedFrom (level e (c .before) ∷ c .outer) s) (closeCall asLeft e ∷ h)) where
   at-accepted : (s : State) (h : List Call) (call : Call) → accepted s call ≡ true → P s h → P (done set s call) (call ∷ h)
   at-accepted s h (openCall asLeft e) a p = at-open s h e (open-accepted s e a) p
   at-accepted s h (openCall otherwise e) a p = clash a (lent-otherwise-open s e)
-  at-accepted s h (closeCall asLeft e) a p = at-close s h e (close-accepted s e a) p
+  at-accepted s h (closeCall asLeft e) a p =
+      let c = close-accepted s e a in
+      subst (λ (l : List Level). P (closedFrom l s) (closeCall asLeft e ∷ h)) (sym (c .innermost)) (at-close s h e c p)
   at-accepted s h (closeCall otherwise e) a p = clash a (lent-otherwise-close s e)
 
   at-step : (s : State) (h : List Call) (call : Call) → P s h → P (step set s call) (cond (accepted s call) (call ∷ h) h)
