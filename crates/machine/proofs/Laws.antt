@@ -4,3 +4,5 @@ pub mod Prefix
 pub mod Walk
 pub mod Calls
 pub mod Sound
+pub mod History
+pub mod Matches

@@ -80,11 +80,11 @@ close-accepted s e h =
     let r = innermost-is (s .levels) e d in
     record { before = r .0; outer = r .1; innermost = r .2 }
 
-lent-otherwise-open : (s : State) (e : Name) → accepted s (openCall otherwise e) ≡ false
+pub lent-otherwise-open : (s : State) (e : Name) → accepted s (openCall otherwise e) ≡ false
 unfolding accepted
 lent-otherwise-open s e = refl
 
-lent-otherwise-close : (s : State) (e : Name) → accepted s (closeCall otherwise e) ≡ false
+pub lent-otherwise-close : (s : State) (e : Name) → accepted s (closeCall otherwise e) ≡ false
 unfolding accepted
 lent-otherwise-close s e = refl
 
