@@ -12,12 +12,12 @@ use Rattle.notation.specs.Names.{Name, nameForm, tooLong}
 use Rattle.notation.specs.Sets.{FolderSet}
 use Rattle.notation.specs.Form.{nonEmpty}
 use Rattle.notation.specs.Refusals.{Refusal, torn, longName, looseEnd, tooDeep, full, crossed}
+use Rattle.notation.proofs.Laws.Fit.{sameName-is}
 use Rattle.machine.specs.Limits.{maxDepth, maxOpens}
 use Rattle.machine.specs.Words.{Word}
 use Rattle.machine.specs.Calls.{Lent, asLeft, otherwise, Call, openCall, closeCall, Level, level, State, depth, opened, closedFrom, closed, nothingOpen, deepest, opensSpent, isInnermost, given, refusals, accepted, done, step, after}
 use Rattle.machine.specs.History.{acceptedAfter}
 use Rattle.machine.proofs.Laws.Basics.{cases, clash, both}
-use Rattle.machine.proofs.Laws.Words.{same-name}
 
 abbrev none : List Refusal → Bool
 none l = not (nonEmpty l)
@@ -68,7 +68,7 @@ pub record Closable (s : State) (e : Name) : Type 0 where
 
 innermost-is : (levels : List Level) (e : Name) → isInnermost levels e ≡ true → (w : Word) × (outer : List Level) × (levels ≡ level e w ∷ outer)
 innermost-is [] e h = clash h refl
-innermost-is (level n w ∷ outer) e h = (w, outer, ap (λ (m : Name). level m w ∷ outer) (same-name n e h))
+innermost-is (level n w ∷ outer) e h = (w, outer, ap (λ (m : Name). level m w ∷ outer) (sameName-is n e .0 h))
 
 pub close-accepted : (s : State) (e : Name) → accepted s (closeCall asLeft e) ≡ true → Closable s e
 unfolding accepted refusals

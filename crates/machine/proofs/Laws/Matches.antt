@@ -5,9 +5,11 @@ use mathlib.Core.Bool.{Bool, true, false, _||_, cond}
 use mathlib.Core.Logic.{_⊎_, inl, inr, _↔_}
 use mathlib.Core.List.{List, [], _∷_, _++_}
 use Rattle.notation.specs.Names.{Name}
-use Rattle.notation.specs.Sets.{FolderSet}
+use Rattle.notation.specs.Sets.{Path, FolderSet}
 use Rattle.notation.specs.Activity.{fits}
+use Rattle.notation.proofs.Laws.Fit.{fits-is}
 use Rattle.machine.specs.Calls.{Lent, asLeft, otherwise, Call, openCall, closeCall, Level, level, State, namesOf, openNames, pathAt, fresh, opened, closedFrom, closed, accepted, done, step, after, run}
+use Rattle.machine.specs.History.{FittedAfterOpen}
 use Rattle.machine.proofs.Laws.Basics.{cases, clash, either, or-left, or-right}
 use Rattle.machine.proofs.Laws.Calls.{lent-otherwise-open, lent-otherwise-close}
 
@@ -108,5 +110,45 @@ fresh-matched : (set : FolderSet) (place : ℕ) → fresh set .matched place ≡
 unfolding fresh
 fresh-matched set place = refl
 
-pub run-matched-open : (set : FolderSet) (calls : List Call) (place : ℕ) → (run set calls .matched place ≡ true) ↔ SomeOpenFits set (fresh set) calls place
+run-matched-open : (set : FolderSet) (calls : List Call) (place : ℕ) → (run set calls .matched place ≡ true) ↔ SomeOpenFits set (fresh set) calls place
 run-matched-open set calls place = (λ m. elim (after-matched set calls (fresh set) place m) [ inl p ↦ clash p (fresh-matched set place) | inr f ↦ f ], matched-after set calls (fresh set) place)
+
+one-more : (set : FolderSet) (calls : List Call) (call : Call) → run set (calls ++ (call ∷ [])) ≡ step set (run set calls) call
+unfolding after
+one-more set calls call = after-append set (fresh set) calls (call ∷ [])
+
+-- a path is matched exactly when it fitted right after some accepted open
+pub run-matched : (set : FolderSet) (calls : List Call) (place : ℕ) → (run set calls .matched place ≡ true) ↔ FittedAfterOpen set calls place
+run-matched set calls place = (λ m. out (run-matched-open set calls place .0 m), λ f. run-matched-open set calls place .1 (into f))
+  where
+    path : Path
+    path = pathAt set place
+
+    out : SomeOpenFits set (fresh set) calls place → FittedAfterOpen set calls place
+    out f =
+        let e = f .fit .name in
+        let o = f .fit .isOpen in
+        record {
+          before = f .before;
+          name = e;
+          later = f .later;
+          joined = ap (λ (c : Call). f .before ++ (c ∷ f .later)) (sym o) ∙ f .joined;
+          isAccepted = ap (accepted (run set (f .before))) (sym o) ∙ f .fit .isAccepted;
+          fitted = fits-is path _ .1 (ap (λ (s : State). fits path (openNames s)) (one-more set (f .before) (openCall asLeft e)) ∙ (ap (λ (c : Call). fits path (openNames (step set (run set (f .before)) c))) (sym o) ∙ f .fit .fitted));
+        }
+
+    into : FittedAfterOpen set calls place → SomeOpenFits set (fresh set) calls place
+    into f =
+        let e = f .name in
+        record {
+          before = f .before;
+          call = openCall asLeft e;
+          later = f .later;
+          joined = f .joined;
+          fit = record {
+            name = e;
+            isOpen = refl;
+            isAccepted = f .isAccepted;
+            fitted = ap (λ (s : State). fits path (openNames s)) (sym (one-more set (f .before) (openCall asLeft e))) ∙ fits-is path _ .0 (f .fitted);
+          };
+        }

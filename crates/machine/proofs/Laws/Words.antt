@@ -5,26 +5,19 @@ use mathlib.Core.Bool.{Bool, true, false, _&&_}
 use mathlib.Core.Logic.{_⊎_, inl, inr}
 use mathlib.Core.List.{List, [], _∷_, _++_, append-assoc, List·Memᴰ}
 use native.Mathlib.Omega.{arith}
-use lib.Dec.{eqb}
-use borrow.Author.Tests.{eqb-true, eq-eqb}
 use Rattle.notation.specs.Names.{Name}
 use Rattle.notation.specs.Sets.{Path, FolderSet}
 use Rattle.notation.specs.Form.{pathsOf}
 use Rattle.notation.specs.Activity.{sameName}
+use Rattle.notation.proofs.Laws.Fit.{sameName-is}
 use Rattle.machine.specs.Words.{Symbol, document, name, Word, keywords, Begins, sameSymbol, startsWith, any, begins}
 use Rattle.machine.proofs.Laws.Basics.{both, both-true, any-is, is-any, clash}
 
-pub same-name : (a b : Name) → sameName a b ≡ true → a ≡ b
-unfolding sameName
-same-name [] [] h = refl
-same-name [] (b ∷ bs) h = clash h refl
-same-name (a ∷ r) [] h = clash h refl
-same-name (a ∷ r) (b ∷ bs) h = let t = both (eqb a b) (sameName r bs) h in ap₂ _∷_ (eqb-true a b (t .0)) (same-name r bs (t .1))
+same-name : (a b : Name) → sameName a b ≡ true → a ≡ b
+same-name a b = sameName-is a b .0
 
-pub name-same : (a : Name) → sameName a a ≡ true
-unfolding sameName
-name-same [] = refl
-name-same (a ∷ r) = both-true (eq-eqb a a refl) (name-same r)
+name-same : (a : Name) → sameName a a ≡ true
+name-same a = sameName-is a a .1 refl
 
 same-symbol : (s t : Symbol) → sameSymbol s t ≡ true → s ≡ t
 same-symbol document document h = refl
