@@ -6,3 +6,5 @@ pub mod Calls
 pub mod Sound
 pub mod History
 pub mod Matches
+pub mod Answers
+pub mod Childless

@@ -9,7 +9,7 @@ use Rattle.notation.specs.Names.{Name, nameForm, tooLong}
 use Rattle.notation.specs.Sets.{Path, FolderSet}
 use Rattle.notation.specs.Form.{pathsOf, nonEmpty}
 use Rattle.notation.specs.Refusals.{Refusal, torn, longName, looseEnd, tooDeep, full, crossed}
-use Rattle.notation.specs.Activity.{sameName, fits}
+use Rattle.notation.specs.Activity.{sameName, active, fits}
 use Rattle.machine.specs.Limits.{maxDepth, maxOpens}
 use Rattle.machine.specs.Words.{document, Word, begins}
 use Rattle.machine.specs.Walk.{Walked, movesOf, arrivedAt, walk}
@@ -55,6 +55,10 @@ depth s = length (s .levels)
 -- the path of a place; past the last it is empty, and fits nothing
 abbrev pub pathAt : FolderSet → ℕ → Path
 pathAt set place = getD (pathsOf set) place []
+
+-- step k (from 1) of the path of a place is active on the innermost element (paper 01: it stands)
+abbrev pub activeStep : FolderSet → State → ℕ → ℕ → Bool
+activeStep set s place k = active (pathAt set place) k (openNames s)
 
 -- a fresh run holds `#` if a keyword begins so, else nothing
 unfoldable pub fresh : FolderSet → State

@@ -4,3 +4,4 @@ pub mod Prefix
 pub mod Walk
 pub mod Calls
 pub mod History
+pub mod Elements

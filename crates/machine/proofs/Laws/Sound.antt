@@ -46,11 +46,11 @@ pub names-opened : (set : FolderSet) (s : State) (e : Name) → openNames (opene
 unfolding opened
 names-opened set s e = reverse-cons e (map nameOf (s .levels))
 
-fresh-sound : (set : FolderSet) → Sound set (fresh set)
+pub fresh-sound : (set : FolderSet) → Sound set (fresh set)
 unfolding fresh prefixOf longestEnd
 fresh-sound set = record { prefix = refl; kept = none; shallow = omega arith; few = omega arith; balance = refl; root = refl }
 
-open-sound : (set : FolderSet) (s : State) (e : Name) → Openable s e → Sound set s → Sound set (opened set s e)
+pub open-sound : (set : FolderSet) (s : State) (e : Name) → Openable s e → Sound set s → Sound set (opened set s e)
 unfolding opened
 open-sound set s e o g = record {
   prefix = ap (λ (w : Word). arrivedAt (walk set w e)) (g .prefix) ∙ (walk-current set (openNames s) e ∙ ap (prefixOf set) (sym (names-opened set s e)));
@@ -61,7 +61,7 @@ open-sound set s e o g = record {
   root = o .root ∙ sym (and-false (ltb 0 (suc (s .opens))));
 }
 
-close-sound : (set : FolderSet) (s : State) (e : Name) (c : Closable s e) → Sound set s → Sound set (closedFrom (level e (c .before) ∷ c .outer) s)
+pub close-sound : (set : FolderSet) (s : State) (e : Name) (c : Closable s e) → Sound set s → Sound set (closedFrom (level e (c .before) ∷ c .outer) s)
 unfolding closedFrom
 close-sound set s e c g =
     let k : Kept set (level e (c .before) ∷ c .outer) = subst (Kept set) (c .innermost) (g .kept) in
