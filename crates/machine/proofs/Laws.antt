@@ -8,3 +8,4 @@ pub mod History
 pub mod Matches
 pub mod Answers
 pub mod Childless
+pub mod Moves

@@ -13,6 +13,9 @@ pub data Element : Type 0 where
 pub data Elements : Type 0 where
   elements : List Element → List Element → Elements
 
+abbrev pub openElements : Elements → List Element
+openElements (elements inner gone) = inner
+
 -- an open is accepted while the first of these is innermost
 abbrev pub withChild : List Element → List Element
 withChild [] = []

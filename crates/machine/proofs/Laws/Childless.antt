@@ -1,6 +1,6 @@
 -- The failure moves counted are at most the depths of all childless elements added up. The moves down to a childless element are paid by
 -- its depth: one open makes at most (length before + 1 − length after) of them.
-use Prim.Native.Nat.{ℕ, zero, suc, _+_, _*_, _≤_, _<_, pred}
+use Prim.Native.Nat.{ℕ, zero, suc, _+_, _≤_, pred}
 use mathlib.Core.Path.{_≡_, refl, sym, _∙_, ap, subst}
 use mathlib.Core.Bool.{Bool, true, false}
 use mathlib.Core.List.{List, [], _∷_, _++_, map}
@@ -8,21 +8,15 @@ use native.Mathlib.Omega.{arith}
 use lib.ListN.{length, length-map, length-reverse}
 use Rattle.notation.specs.Names.{Name}
 use Rattle.notation.specs.Sets.{FolderSet}
-use Rattle.machine.specs.Limits.{maxDepth}
 use Rattle.machine.specs.Words.{Word}
 use Rattle.machine.specs.Prefix.{prefixOf}
 use Rattle.machine.specs.Walk.{walk, movesOf, arrivedAt}
 use Rattle.machine.specs.Calls.{asLeft, Call, openCall, closeCall, Level, level, nameOf, State, openNames, depth, fresh, opened, closedFrom, run}
 use Rattle.machine.specs.History.{acceptedCalls}
-use Rattle.machine.specs.Elements.{Element, element, Elements, elements, withChild, opening, closing, elementsOf, childlessDepth, sumDepths, childlessDepths}
-use Rattle.machine.proofs.Laws.Prefix.{length-prefix}
+use Rattle.machine.specs.Elements.{Element, element, Elements, elements, withChild, opening, closing, elementsOf, openElements, sumDepths, childlessDepths}
 use Rattle.machine.proofs.Laws.Walk.{walk-moves}
 use Rattle.machine.proofs.Laws.Calls.{Openable, Closable, always}
-use Rattle.machine.proofs.Laws.Sound.{Sound, fresh-sound, open-sound, close-sound}
-
--- the current prefix has at most one symbol more than elements are open
-pub current-length : (set : FolderSet) (s : State) → Sound set s → length (s .current) ≤ suc (depth s)
-current-length set s g = omega (arith, ap length (g .prefix), length-prefix set (openNames s), length-reverse (map nameOf (s .levels)), length-map (s .levels) nameOf)
+use Rattle.machine.proofs.Laws.Sound.{Sound, fresh-sound, open-sound, close-sound, current-length}
 
 -- `Paid gone moves prefix inner`: of the open elements only the innermost can be childless. While it is, the moves and the prefix, bar
 -- its last symbol, are paid by the childless depths, `gone` being those of the closed elements; else the moves are
@@ -97,3 +91,12 @@ costs set calls = always set (Costs set) (open-costs set) (close-costs set) call
 -- the failure moves counted are at most the depths of all childless elements added up
 pub run-moves-childless : (set : FolderSet) (calls : List Call) → run set calls .moves ≤ childlessDepths (elementsOf (acceptedCalls set calls))
 run-moves-childless set calls = let s = run set calls in paid (elementsOf (acceptedCalls set calls)) (depth s) (s .moves) (length (s .current)) (costs set calls .1)
+
+-- the open elements are as many as the open names
+pub run-elements-open : (set : FolderSet) (calls : List Call) → length (openElements (elementsOf (acceptedCalls set calls))) ≡ length (openNames (run set calls))
+run-elements-open set calls =
+    let s = run set calls in
+    omega (arith, go (elementsOf (acceptedCalls set calls)) (costs set calls .1), length-reverse (map nameOf (s .levels)), length-map (s .levels) nameOf)
+  where
+    go : (es : Elements) → AllPaid es (depth (run set calls)) (run set calls .moves) (length (run set calls .current)) → length (openElements es) ≡ depth (run set calls)
+    go (elements inner gone) a = a .0

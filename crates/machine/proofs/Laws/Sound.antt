@@ -20,6 +20,7 @@ use Rattle.machine.specs.Walk.{walk, arrivedAt}
 use Rattle.machine.specs.Calls.{asLeft, Call, openCall, closeCall, Level, level, nameOf, State, namesOf, openNames, depth, nothingOpen, fresh, opened, closedFrom, run}
 use Rattle.machine.specs.History.{acceptedCalls}
 use Rattle.machine.proofs.Laws.Basics.{cases, clash}
+use Rattle.machine.proofs.Laws.Prefix.{length-prefix}
 use Rattle.machine.proofs.Laws.Walk.{walk-current}
 use Rattle.machine.proofs.Laws.Calls.{Openable, Closable, always}
 
@@ -74,6 +75,10 @@ close-sound set s e c g =
       balance = omega (arith, g .balance);
       root = ap (λ (b : Bool). b && not (nonEmpty (c .outer))) (sym (lt-ltb 0 (s .opens) (omega (arith, g .balance))));
     }
+
+-- the current prefix has at most one symbol more than elements are open
+pub current-length : (set : FolderSet) (s : State) → Sound set s → length (s .current) ≤ suc (depth s)
+current-length set s g = omega (arith, ap length (g .prefix), length-prefix set (openNames s), length-reverse (map nameOf (s .levels)), length-map (s .levels) nameOf)
 
 -- after every list of calls from a fresh machine
 pub sound : (set : FolderSet) (calls : List Call) → Sound set (run set calls)
