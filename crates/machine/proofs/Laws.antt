@@ -9,3 +9,4 @@ pub mod Matches
 pub mod Answers
 pub mod Childless
 pub mod Moves
+pub mod Folders

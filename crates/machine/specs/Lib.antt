@@ -5,3 +5,4 @@ pub mod Walk
 pub mod Calls
 pub mod History
 pub mod Elements
+pub mod Folders
