@@ -10,3 +10,5 @@ pub mod Answers
 pub mod Childless
 pub mod Moves
 pub mod Folders
+pub mod Alike
+pub mod Adding
