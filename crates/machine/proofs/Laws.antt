@@ -12,3 +12,4 @@ pub mod Moves
 pub mod Folders
 pub mod Alike
 pub mod Adding
+pub mod Examples

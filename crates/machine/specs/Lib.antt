@@ -6,3 +6,4 @@ pub mod Calls
 pub mod History
 pub mod Elements
 pub mod Folders
+pub mod Examples
