@@ -35,13 +35,11 @@ pub record WorkedExamples : Type 0 where
   -- a path may end in `*`: `/a/*` matches <a><b/></a>
   pub ends-in-star : run (one (to a ∷ toAny ∷ [])) (inside a (inside b [])) .matched 0 ≡ true
   -- `//a/a/b` on <r><a><a><c/><c/><c/><c/></a></a></r>: 7 opens, 8 failure moves, childless depths 16
-  pub four-opens : run (one (down a ∷ to a ∷ to b ∷ [])) fourChildren .opens ≡ 7
-  pub four-moves : run (one (down a ∷ to a ∷ to b ∷ [])) fourChildren .moves ≡ 8
-  pub four-depths : childlessDepths (elementsOf (acceptedCalls (one (down a ∷ to a ∷ to b ∷ [])) fourChildren)) ≡ 16
+  pub four-children : (run (one (down a ∷ to a ∷ to b ∷ [])) fourChildren .opens ≡ 7) × (run (one (down a ∷ to a ∷ to b ∷ [])) fourChildren .moves ≡ 8) × (childlessDepths (elementsOf (acceptedCalls (one (down a ∷ to a ∷ to b ∷ [])) fourChildren)) ≡ 16)
   -- the filing program: folder 3 with both its paths, not folder 8; 3 opens and 2 failure moves
-  pub filed-paths : map (run filed report .matched) (0 ∷ 1 ∷ 2 ∷ []) ≡ true ∷ true ∷ false ∷ []
-  pub filed-folders : map (folderMatched filed (run filed report)) (3 ∷ 8 ∷ []) ≡ true ∷ false ∷ []
-  pub filed-moves : (run filed report .opens ≡ 3) × (run filed report .moves ≡ 2)
+  pub filing-paths : map (run filed report .matched) (0 ∷ 1 ∷ 2 ∷ []) ≡ true ∷ true ∷ false ∷ []
+  pub filing-folders : map (folderMatched filed (run filed report)) (3 ∷ 8 ∷ []) ≡ true ∷ false ∷ []
+  pub filing-moves : (run filed report .opens ≡ 3) × (run filed report .moves ≡ 2)
   -- 64 nested elements pass, 65 give 11
   pub deepest-passes : length (openNames (run [] (replicate 64 (openCall asLeft a)))) ≡ 64
   pub deeper-refused : refusal (run [] (replicate 64 (openCall asLeft a))) (openCall asLeft a) ≡ some tooDeep
@@ -55,12 +53,10 @@ worked-examples = record {
   undone = refl;
   always-pushed = refl;
   ends-in-star = refl;
-  four-opens = refl;
-  four-moves = refl;
-  four-depths = refl;
-  filed-paths = refl;
-  filed-folders = refl;
-  filed-moves = (refl, refl);
+  four-children = (refl, refl, refl);
+  filing-paths = refl;
+  filing-folders = refl;
+  filing-moves = (refl, refl);
   deepest-passes = refl;
   deeper-refused = refl;
 }
