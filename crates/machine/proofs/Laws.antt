@@ -2,7 +2,9 @@ pub mod Basics
 pub mod Words
 pub mod Prefix
 pub mod Walk
+pub mod Order
 pub mod Calls
+pub mod Steps
 pub mod Sound
 pub mod History
 pub mod Matches

@@ -1,7 +1,7 @@
 -- The machine over open and close calls (paper 01: The shared machine). All that it holds comes from the names called.
 use Prim.Native.Nat.{ℕ, suc, _+_}
 use mathlib.Core.Bool.{Bool, true, false, not, _&&_, _||_, cond}
-use mathlib.Core.List.{List, [], _∷_, _++_, map, reverse, head?}
+use mathlib.Core.List.{List, [], _∷_, _++_, map, reverse}
 use mathlib.Core.Option.{Option}
 use lib.Dec.{leb}
 use lib.ListN.{length, getD}
@@ -12,6 +12,7 @@ use Rattle.notation.specs.Refusals.{Refusal, torn, longName, looseEnd, tooDeep,
 use Rattle.notation.specs.Activity.{sameName, active, fits}
 use Rattle.machine.specs.Limits.{maxDepth, maxOpens}
 use Rattle.machine.specs.Words.{document, Word, begins}
+use Rattle.machine.specs.Order.{Condition, gives, first, isNone}
 use Rattle.machine.specs.Walk.{Walked, movesOf, arrivedAt, walk}
 
 -- what a call was lent: automaton, run and counters as last left, or anything else. One lent anything else is in a list of calls only
@@ -116,21 +117,31 @@ abbrev pub isInnermost : List Level → Name → Bool
 isInnermost [] e = false
 isInnermost (level n w ∷ outer) e = sameName n e
 
-abbrev pub given : Bool → Refusal → List Refusal
-given holds r = cond holds (r ∷ []) []
+-- the order of an open: 9, 5, 10, 11, 7; of a close: 9, 5, 10, 12
+abbrev pub openOrder : State → Name → List Condition
+openOrder s e =
+    gives (not (nameForm e)) torn
+    ∷ gives (tooLong e) longName
+    ∷ gives (s .rootClosed) looseEnd
+    ∷ gives (deepest s) tooDeep
+    ∷ gives (opensSpent s) full
+    ∷ []
 
--- all refusals whose conditions hold, in the call's order: open 9, 5, 10, 11, 7; close 9, 5, 10, 12
-unfoldable pub refusals : State → Call → List Refusal
-refusals s (openCall l e) =
-    given (not (nameForm e)) torn
-    ++ (given (tooLong e) longName ++ (given (s .rootClosed) looseEnd ++ (given (deepest s) tooDeep ++ given (opensSpent s) full)))
-refusals s (closeCall l e) =
-    given (not (nameForm e)) torn
-    ++ (given (tooLong e) longName ++ (given (nothingOpen s) looseEnd ++ given (not (isInnermost (s .levels) e)) crossed))
+abbrev pub closeOrder : State → Name → List Condition
+closeOrder s e =
+    gives (not (nameForm e)) torn
+    ∷ gives (tooLong e) longName
+    ∷ gives (nothingOpen s) looseEnd
+    ∷ gives (not (isInnermost (s .levels) e)) crossed
+    ∷ []
 
--- the first of them, for a call lent all as last left
-abbrev pub refusal : State → Call → Option Refusal
-refusal s call = head? (refusals s call)
+abbrev pub orderOf : State → Call → List Condition
+orderOf s (openCall l e) = openOrder s e
+orderOf s (closeCall l e) = closeOrder s e
+
+-- the refusal of a call lent all as last left, if it is refused
+unfoldable pub refusal : State → Call → Option Refusal
+refusal s call = first (orderOf s call)
 
 abbrev pub lentAsLeft : Lent → Bool
 lentAsLeft asLeft = true
@@ -140,9 +151,9 @@ abbrev pub lentOf : Call → Lent
 lentOf (openCall l e) = l
 lentOf (closeCall l e) = l
 
--- a call is accepted where it is lent all as last left and no refusal's condition holds
+-- a call is accepted where it is lent all as last left and not refused
 unfoldable pub accepted : State → Call → Bool
-accepted s call = lentAsLeft (lentOf call) && not (nonEmpty (refusals s call))
+accepted s call = lentAsLeft (lentOf call) && isNone (refusal s call)
 
 abbrev pub done : FolderSet → State → Call → State
 done set s (openCall l e) = opened set s e

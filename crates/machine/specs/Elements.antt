@@ -16,6 +16,9 @@ pub data Elements : Type 0 where
 abbrev pub openElements : Elements → List Element
 openElements (elements inner gone) = inner
 
+abbrev pub closedElements : Elements → List Element
+closedElements (elements inner gone) = gone
+
 -- an open is accepted while the first of these is innermost
 abbrev pub withChild : List Element → List Element
 withChild [] = []

@@ -8,12 +8,12 @@ use lib.ListN.{length}
 use Rattle.notation.specs.Names.{Name, nameForm, tooLong}
 use Rattle.notation.specs.Sets.{FolderSet}
 use Rattle.notation.specs.Form.{nonEmpty}
-use Rattle.notation.specs.Refusals.{Refusal, torn, longName, looseEnd, tooDeep, full, crossed}
 use Rattle.notation.specs.Activity.{sameName}
 use Rattle.machine.specs.Limits.{maxDepth, maxOpens}
-use Rattle.machine.specs.Calls.{Lent, Call, openCall, closeCall, Level, level, nameOf, State, openNames, depth, fresh, opened, closedFrom, closed, isInnermost, given, refusals, lentAsLeft, lentOf, accepted, done, step, after, run}
+use Rattle.machine.specs.Order.{first}
+use Rattle.machine.specs.Calls.{Lent, Call, openCall, closeCall, Level, level, nameOf, State, openNames, depth, fresh, opened, closedFrom, closed, isInnermost, refusal, accepted, done, step, after, run}
 use Rattle.machine.proofs.Laws.Basics.{cases}
-use Rattle.machine.proofs.Laws.Matches.{step-accepted, step-refused}
+use Rattle.machine.proofs.Laws.Steps.{step-accepted, step-refused}
 
 -- all but prefixes, matches and failure moves
 pub record Alike (s t : State) : Type 0 where
@@ -36,7 +36,7 @@ alike-levels (level n w ∷ l) (level m v ∷ k) h =
     record { count = ap suc (r .count); some = refl; inner = λ e. ap (λ (x : Name). sameName x e) (head-eq-of-cons-eq h) }
 
 alike-accepted : (s t : State) → Alike s t → (call : Call) → accepted s call ≡ accepted t call
-unfolding accepted refusals
+unfolding accepted refusal first
 alike-accepted s t a (openCall l e) = let r = alike-levels (s .levels) (t .levels) (a .names) in rw (a .root, a .opens, r .count)
 alike-accepted s t a (closeCall l e) = let r = alike-levels (s .levels) (t .levels) (a .names) in rw (r .some, r .inner e)
 

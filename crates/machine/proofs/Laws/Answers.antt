@@ -18,9 +18,9 @@ use Rattle.machine.specs.Calls.{asLeft, Call, openCall, State, openNames
 use Rattle.machine.specs.History.{stillOpen}
 use Rattle.machine.proofs.Laws.Prefix.{current-prefix}
 use Rattle.machine.proofs.Laws.Calls.{Openable, accepted-open}
-use Rattle.machine.proofs.Laws.Sound.{names-opened, run-prefix, run-depth, run-names}
+use Rattle.machine.proofs.Laws.Sound.{run-prefix, run-depth, run-names}
 use Rattle.machine.proofs.Laws.History.{run-names-told}
-use Rattle.machine.proofs.Laws.Matches.{step-accepted}
+use Rattle.machine.proofs.Laws.Steps.{step-accepted, names-opened}
 
 -- the current prefix is the one that paper 01 defines for the names opened and not yet closed
 pub run-current-prefix : (set : FolderSet) (calls : List Call) → CurrentPrefix set (stillOpen set calls) (run set calls .current)
@@ -77,12 +77,14 @@ replay-names set calls = fresh-open set (openNames (run set calls)) (run-names s
 pub replay-opens : (set : FolderSet) (calls : List Call) → run set (opensOf (openNames (run set calls))) .opens ≡ length (openNames (run set calls))
 replay-opens set calls = fresh-open set (openNames (run set calls)) (run-names set calls) (run-depth set calls) .1
 
--- and answers the same
+-- names, prefix and active steps are the same after any two lists of calls that leave the same names open
+pub answers-by-names : (set : FolderSet) (calls others : List Call) → openNames (run set calls) ≡ openNames (run set others) → SameAnswers set (run set calls) (run set others)
+answers-by-names set calls others e = record {
+  names = e;
+  prefix = run-prefix set calls ∙ (ap (prefixOf set) e ∙ sym (run-prefix set others));
+  steps = λ place k. ap (λ (names : List Name). active (pathAt set place) k names) e;
+}
+
+-- so a fresh machine given only the opens of the open names answers the same
 pub replay : (set : FolderSet) (calls : List Call) → SameAnswers set (run set calls) (run set (opensOf (openNames (run set calls))))
-replay set calls =
-    let e = replay-names set calls in
-    record {
-      names = sym e;
-      prefix = run-prefix set calls ∙ (ap (prefixOf set) (sym e) ∙ sym (run-prefix set (opensOf (openNames (run set calls)))));
-      steps = λ place k. ap (λ (names : List Name). active (pathAt set place) k names) (sym e);
-    }
+replay set calls = answers-by-names set calls (opensOf (openNames (run set calls))) (sym (replay-names set calls))

@@ -3,35 +3,21 @@ use Prim.Native.Nat.{ℕ, zero, suc, _+_, _≤_, _<_}
 use mathlib.Core.Path.{_≡_, refl, sym, _∙_, ap, ap₂, subst}
 use mathlib.Core.Bool.{Bool, true, false, not, _&&_, _||_, cond}
 use mathlib.Core.Logic.{_⊎_, inl, inr}
-use mathlib.Core.List.{List, [], _∷_, _++_}
+use mathlib.Core.List.{List, [], _∷_, _++_, List·Memᴰ, List·Memᴰ·head, List·Memᴰ·tail}
 use native.Mathlib.Omega.{arith}
 use lib.Dec.{leb}
 use lib.ListN.{length}
 use borrow.Author.Tests.{leb-true, leb-false, lt-leb, not-true, not-false}
 use Rattle.notation.specs.Names.{Name, nameForm, tooLong}
 use Rattle.notation.specs.Sets.{FolderSet}
-use Rattle.notation.specs.Form.{nonEmpty}
-use Rattle.notation.specs.Refusals.{Refusal, torn, longName, looseEnd, tooDeep, full, crossed}
 use Rattle.notation.proofs.Laws.Fit.{sameName-is}
 use Rattle.machine.specs.Limits.{maxDepth, maxOpens}
 use Rattle.machine.specs.Words.{Word}
-use Rattle.machine.specs.Calls.{Lent, asLeft, otherwise, Call, openCall, closeCall, Level, level, State, depth, opened, closedFrom, closed, nothingOpen, deepest, opensSpent, isInnermost, given, refusals, accepted, done, step, after}
+use Rattle.machine.specs.Order.{Condition, holds, first}
+use Rattle.machine.specs.Calls.{Lent, asLeft, otherwise, Call, openCall, closeCall, Level, level, State, depth, opened, closedFrom, closed, nothingOpen, deepest, opensSpent, isInnermost, openOrder, closeOrder, refusal, accepted, done, step, after}
 use Rattle.machine.specs.History.{acceptedAfter}
-use Rattle.machine.proofs.Laws.Basics.{cases, clash, both}
-
-abbrev none : List Refusal → Bool
-none l = not (nonEmpty l)
-
-none-given : (b : Bool) (r : Refusal) (l : List Refusal) → none (given b r ++ l) ≡ true → (b ≡ false) × (none l ≡ true)
-none-given true r l h = (clash h refl, clash h refl)
-none-given false r l h = (refl, h)
-
-none-last : (b : Bool) (r : Refusal) → none (given b r) ≡ true → b ≡ false
-none-last true r h = clash h refl
-none-last false r h = refl
-
-given-none : {b : Bool} (r : Refusal) (l : List Refusal) → b ≡ false → none l ≡ true → none (given b r ++ l) ≡ true
-given-none r l p q = rw (p, q)
+use Rattle.machine.proofs.Laws.Basics.{cases, clash}
+use Rattle.machine.proofs.Laws.Order.{first-none, is-none}
 
 -- what an accepted open tells
 pub record Openable (s : State) (e : Name) : Type 0 where
@@ -42,22 +28,19 @@ pub record Openable (s : State) (e : Name) : Type 0 where
   pub few : s .opens < maxOpens
 
 pub open-accepted : (s : State) (e : Name) → accepted s (openCall asLeft e) ≡ true → Openable s e
-unfolding accepted refusals
+unfolding accepted refusal
 open-accepted s e h =
-    let a = none-given (not (nameForm e)) torn _ h in
-    let b = none-given (tooLong e) longName _ (a .1) in
-    let c = none-given (s .rootClosed) looseEnd _ (b .1) in
-    let d = none-given (deepest s) tooDeep _ (c .1) in
+    let u : (c : Condition) → List·Memᴰ c (openOrder s e) → holds c ≡ false = first-none (openOrder s e) .0 (is-none (first (openOrder s e)) h) in
     record {
-      form = not-false (nameForm e) (a .0);
-      short = b .0;
-      root = c .0;
-      shallow = leb-false maxDepth (depth s) (d .0);
-      few = leb-false maxOpens (s .opens) (none-last (opensSpent s) full (d .1));
+      form = not-false (nameForm e) (u _ (List·Memᴰ·head refl));
+      short = u _ (List·Memᴰ·tail (List·Memᴰ·head refl));
+      root = u _ (List·Memᴰ·tail (List·Memᴰ·tail (List·Memᴰ·head refl)));
+      shallow = leb-false maxDepth (depth s) (u _ (List·Memᴰ·tail (List·Memᴰ·tail (List·Memᴰ·tail (List·Memᴰ·head refl)))));
+      few = leb-false maxOpens (s .opens) (u _ (List·Memᴰ·tail (List·Memᴰ·tail (List·Memᴰ·tail (List·Memᴰ·tail (List·Memᴰ·head refl))))));
     }
 
 pub accepted-open : (s : State) (e : Name) → Openable s e → accepted s (openCall asLeft e) ≡ true
-unfolding accepted refusals
+unfolding accepted refusal first
 accepted-open s e o = rw (o .form, o .short, o .root, lt-leb maxDepth (depth s) (o .shallow), lt-leb maxOpens (s .opens) (o .few))
 
 -- what an accepted close tells: the innermost element has its name
@@ -71,13 +54,10 @@ innermost-is [] e h = clash h refl
 innermost-is (level n w ∷ outer) e h = (w, outer, ap (λ (m : Name). level m w ∷ outer) (sameName-is n e .0 h))
 
 pub close-accepted : (s : State) (e : Name) → accepted s (closeCall asLeft e) ≡ true → Closable s e
-unfolding accepted refusals
+unfolding accepted refusal
 close-accepted s e h =
-    let a = none-given (not (nameForm e)) torn _ h in
-    let b = none-given (tooLong e) longName _ (a .1) in
-    let c = none-given (nothingOpen s) looseEnd _ (b .1) in
-    let d = not-false (isInnermost (s .levels) e) (none-last (not (isInnermost (s .levels) e)) crossed (c .1)) in
-    let r = innermost-is (s .levels) e d in
+    let u : (c : Condition) → List·Memᴰ c (closeOrder s e) → holds c ≡ false = first-none (closeOrder s e) .0 (is-none (first (closeOrder s e)) h) in
+    let r = innermost-is (s .levels) e (not-false (isInnermost (s .levels) e) (u _ (List·Memᴰ·tail (List·Memᴰ·tail (List·Memᴰ·tail (List·Memᴰ·head refl)))))) in
     record { before = r .0; outer = r .1; innermost = r .2 }
 
 pub lent-otherwise-open : (s : State) (e : Name) → accepted s (openCall otherwise e) ≡ false

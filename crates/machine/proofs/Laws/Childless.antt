@@ -12,10 +12,11 @@ use Rattle.machine.specs.Words.{Word}
 use Rattle.machine.specs.Prefix.{prefixOf}
 use Rattle.machine.specs.Walk.{walk, movesOf, arrivedAt}
 use Rattle.machine.specs.Calls.{asLeft, Call, openCall, closeCall, Level, level, nameOf, State, openNames, depth, fresh, opened, closedFrom, run}
-use Rattle.machine.specs.History.{acceptedCalls}
-use Rattle.machine.specs.Elements.{Element, element, Elements, elements, withChild, opening, closing, elementsOf, openElements, sumDepths, childlessDepths}
+use Rattle.machine.specs.History.{acceptedCalls, opensIn}
+use Rattle.machine.specs.Elements.{Element, element, Elements, elements, withChild, opening, closing, elementsOf, openElements, closedElements, sumDepths, childlessDepths}
 use Rattle.machine.proofs.Laws.Walk.{walk-moves}
 use Rattle.machine.proofs.Laws.Calls.{Openable, Closable, always}
+use Rattle.machine.proofs.Laws.History.{run-opens-told}
 use Rattle.machine.proofs.Laws.Sound.{Sound, fresh-sound, open-sound, close-sound, current-length}
 
 -- `Paid gone moves prefix inner`: of the open elements only the innermost can be childless. While it is, the moves and the prefix, bar
@@ -100,3 +101,20 @@ run-elements-open set calls =
   where
     go : (es : Elements) → AllPaid es (depth (run set calls)) (run set calls .moves) (length (run set calls .current)) → length (openElements es) ≡ depth (run set calls)
     go (elements inner gone) a = a .0
+
+-- each accepted open opens an element of its own
+counted-opens : (h : List Call) → length (openElements (elementsOf h)) + length (closedElements (elementsOf h)) ≡ opensIn h
+unfolding elementsOf opensIn
+counted-opens [] = refl
+counted-opens (openCall l n ∷ h) = go (elementsOf h) (counted-opens h)
+  where
+    go : (es : Elements) → length (openElements es) + length (closedElements es) ≡ opensIn h → length (openElements (opening es)) + length (closedElements (opening es)) ≡ suc (opensIn h)
+    go (elements inner gone) e = omega (arith, length-child inner)
+counted-opens (closeCall l n ∷ h) = go (elementsOf h) (counted-opens h)
+  where
+    go : (es : Elements) → length (openElements es) + length (closedElements es) ≡ opensIn h → length (openElements (closing es)) + length (closedElements (closing es)) ≡ opensIn h
+    go (elements [] gone) e = e
+    go (elements (x ∷ inner) gone) e = omega arith
+
+pub run-elements : (set : FolderSet) (calls : List Call) → let es = elementsOf (acceptedCalls set calls) in length (openElements es) + length (closedElements es) ≡ run set calls .opens
+run-elements set calls = counted-opens (acceptedCalls set calls) ∙ sym (run-opens-told set calls)

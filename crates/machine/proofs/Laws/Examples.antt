@@ -15,7 +15,8 @@ use Rattle.machine.specs.Limits.{maxDepth, maxOpens}
 use Rattle.machine.specs.Words.{Symbol, document, name, Word, cut, keywords, startsWith, any, begins}
 use Rattle.machine.specs.Prefix.{longestEnd, failure}
 use Rattle.machine.specs.Walk.{walkIn, walk}
-use Rattle.machine.specs.Calls.{asLeft, Call, openCall, closeCall, State, openNames, fresh, opened, closedFrom, refusals, refusal, accepted, step, after, run}
+use Rattle.machine.specs.Order.{first}
+use Rattle.machine.specs.Calls.{asLeft, Call, openCall, closeCall, State, openNames, fresh, opened, closedFrom, refusal, accepted, step, after, run}
 use Rattle.machine.specs.History.{acceptedAfter, acceptedCalls}
 use Rattle.machine.specs.Elements.{elementsOf, sumDepths, childlessDepths}
 use Rattle.machine.specs.Folders.{countFrom, placesFrom, folderMatched}
@@ -45,7 +46,7 @@ pub record WorkedExamples : Type 0 where
   pub deeper-refused : refusal (run [] (replicate 64 (openCall asLeft a))) (openCall asLeft a) ≡ some tooDeep
 
 pub worked-examples : WorkedExamples
-unfolding letter digit beginsName inName allInName nameForm maxName pathsOf sameName activeIn seenIn here maxDepth maxOpens cut keywords startsWith any begins longestEnd failure walkIn walk fresh opened closedFrom refusals accepted step after acceptedAfter elementsOf sumDepths countFrom placesFrom
+unfolding letter digit beginsName inName allInName nameForm maxName pathsOf sameName activeIn seenIn here maxDepth maxOpens cut keywords startsWith any begins longestEnd failure walkIn walk fresh opened closedFrom first refusal accepted step after acceptedAfter elementsOf sumDepths countFrom placesFrom
 worked-examples = record {
   cut-path = refl;
   star-not-document = refl;

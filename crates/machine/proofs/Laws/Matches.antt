@@ -1,17 +1,23 @@
 -- A path is matched exactly when it fitted right after some accepted open.
-use Prim.Native.Nat.{ℕ}
+use Prim.Native.Nat.{ℕ, _<_}
 use mathlib.Core.Path.{_≡_, refl, sym, _∙_, ap, subst}
 use mathlib.Core.Bool.{Bool, true, false, _||_, cond}
 use mathlib.Core.Logic.{_⊎_, inl, inr, _↔_}
 use mathlib.Core.List.{List, [], _∷_, _++_}
+use native.Mathlib.Omega.{arith}
+use lib.Dec.{ltb}
+use lib.ListN.{length, List·getD-eq-default}
+use borrow.Author.Tests.{ltb-true, ltb-false}
 use Rattle.notation.specs.Names.{Name}
 use Rattle.notation.specs.Sets.{Path, FolderSet}
+use Rattle.notation.specs.Form.{pathsOf}
 use Rattle.notation.specs.Activity.{fits}
 use Rattle.notation.proofs.Laws.Fit.{fits-is}
 use Rattle.machine.specs.Calls.{Lent, asLeft, otherwise, Call, openCall, closeCall, Level, level, State, namesOf, openNames, pathAt, fresh, opened, closedFrom, closed, accepted, done, step, after, run}
 use Rattle.machine.specs.History.{FittedAfterOpen}
 use Rattle.machine.proofs.Laws.Basics.{cases, clash, either, or-left, or-right}
 use Rattle.machine.proofs.Laws.Calls.{lent-otherwise-open, lent-otherwise-close}
+use Rattle.machine.proofs.Laws.Steps.{step-accepted, step-refused, after-append, one-more}
 
 -- this call is an accepted open, and the path fits right after it
 pub record OpenFits (set : FolderSet) (s : State) (call : Call) (place : ℕ) : Type 0 where
@@ -26,19 +32,6 @@ pub record SomeOpenFits (set : FolderSet) (s : State) (calls : List Call) (place
   pub later : List Call
   pub joined : before ++ (call ∷ later) ≡ calls
   pub fit : OpenFits set (after set s before) call place
-
-pub step-accepted : (set : FolderSet) (s : State) (call : Call) → accepted s call ≡ true → step set s call ≡ done set s call
-unfolding step
-step-accepted set s call a = rw a
-
-pub step-refused : (set : FolderSet) (s : State) (call : Call) → accepted s call ≡ false → step set s call ≡ s
-unfolding step
-step-refused set s call a = rw a
-
-pub after-append : (set : FolderSet) (s : State) (xs ys : List Call) → after set s (xs ++ ys) ≡ after set (after set s xs) ys
-unfolding after
-after-append set s [] ys = refl
-after-append set s (x ∷ xs) ys = after-append set (step set s x) xs ys
 
 -- a close changes no match
 closed-matched : (levels : List Level) (s : State) (place : ℕ) → closedFrom levels s .matched place ≡ s .matched place
@@ -113,10 +106,6 @@ fresh-matched set place = refl
 run-matched-open : (set : FolderSet) (calls : List Call) (place : ℕ) → (run set calls .matched place ≡ true) ↔ SomeOpenFits set (fresh set) calls place
 run-matched-open set calls place = (λ m. elim (after-matched set calls (fresh set) place m) [ inl p ↦ clash p (fresh-matched set place) | inr f ↦ f ], matched-after set calls (fresh set) place)
 
-one-more : (set : FolderSet) (calls : List Call) (call : Call) → run set (calls ++ (call ∷ [])) ≡ step set (run set calls) call
-unfolding after
-one-more set calls call = after-append set (fresh set) calls (call ∷ [])
-
 -- a path is matched exactly when it fitted right after some accepted open
 pub run-matched : (set : FolderSet) (calls : List Call) (place : ℕ) → (run set calls .matched place ≡ true) ↔ FittedAfterOpen set calls place
 run-matched set calls place = (λ m. out (run-matched-open set calls place .0 m), λ f. run-matched-open set calls place .1 (into f))
@@ -152,3 +141,10 @@ run-matched set calls place = (λ m. out (run-matched-open set calls place .0 m)
             fitted = ap (λ (s : State). fits path (openNames s)) (sym (one-more set (f .before) (openCall asLeft e))) ∙ fits-is path _ .0 (f .fitted);
           };
         }
+
+-- only a path that is there is matched
+pub run-matched-there : (set : FolderSet) (calls : List Call) (place : ℕ) → run set calls .matched place ≡ true → place < length (pathsOf set)
+run-matched-there set calls place m = cases (ltb place (length (pathsOf set))) (λ t. ltb-true place (length (pathsOf set)) t) (λ h.
+    let f = run-matched set calls place .0 m in
+    let e : pathAt set place ≡ [] = List·getD-eq-default (pathsOf set) [] (ltb-false place (length (pathsOf set)) h) in
+    absurd (omega (arith, f .fitted .there .0, f .fitted .there .1, ap length e)))

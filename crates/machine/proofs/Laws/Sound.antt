@@ -23,6 +23,7 @@ use Rattle.machine.proofs.Laws.Basics.{cases, clash}
 use Rattle.machine.proofs.Laws.Prefix.{length-prefix}
 use Rattle.machine.proofs.Laws.Walk.{walk-current}
 use Rattle.machine.proofs.Laws.Calls.{Openable, Closable, always}
+use Rattle.machine.proofs.Laws.Steps.{names-opened}
 
 -- of the open elements, innermost first: each name is well formed, and each element keeps the current prefix of the names around it
 pub data Kept (set : FolderSet) : List Level → Type 0 where
@@ -42,10 +43,6 @@ pub record Sound (set : FolderSet) (s : State) : Type 0 where
   pub few : s .opens ≤ maxOpens
   pub balance : s .opens ≡ s .closes + depth s
   pub root : s .rootClosed ≡ (ltb 0 (s .opens) && nothingOpen s)
-
-pub names-opened : (set : FolderSet) (s : State) (e : Name) → openNames (opened set s e) ≡ openNames s ++ (e ∷ [])
-unfolding opened
-names-opened set s e = reverse-cons e (map nameOf (s .levels))
 
 pub fresh-sound : (set : FolderSet) → Sound set (fresh set)
 unfolding fresh prefixOf longestEnd

@@ -116,3 +116,13 @@ walk-moves set w e = walk-paid (walk-is set w e)
 -- moves + new length ≤ old length + 1
 pub walk-bound : (set : FolderSet) (w : Word) (e : Name) → movesOf (walk set w e) + length (arrivedAt (walk set w e)) ≤ length w + 1
 walk-bound set w e = omega (arith, walk-moves set w e)
+
+-- the failure function of a word with one name more is where a walk from the word's own failure ends
+pub failure-extends : (set : FolderSet) (s : Symbol) (w : Word) (e : Name) → failure set (followedBy (s ∷ w) e) ≡ arrivedAt (walk set (failure set (s ∷ w)) e)
+unfolding failure
+failure-extends set s w e = sym (walk-longest (walk-is set (longestEnd set w) e) ∙ longest-append set w (name e ∷ []))
+
+-- and of a word of one symbol it is empty
+pub failure-single : (set : FolderSet) (s : Symbol) → failure set (s ∷ []) ≡ []
+unfolding failure longestEnd
+failure-single set s = refl
