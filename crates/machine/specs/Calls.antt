@@ -1,7 +1,7 @@
 -- The machine over open and close calls (paper 01: The shared machine). All that it holds comes from the names called.
 use Prim.Native.Nat.{ℕ, suc, _+_}
 use mathlib.Core.Bool.{Bool, true, false, not, _&&_, _||_, cond}
-use mathlib.Core.List.{List, [], _∷_, _++_, map, reverse}
+use mathlib.Core.List.{List, [], _∷_, map, reverse}
 use mathlib.Core.Option.{Option}
 use lib.Dec.{leb}
 use lib.ListN.{length, getD}
@@ -13,7 +13,7 @@ use Rattle.notation.specs.Activity.{sameName, active, fits}
 use Rattle.machine.specs.Limits.{maxDepth, maxOpens}
 use Rattle.machine.specs.Words.{document, Word, begins}
 use Rattle.machine.specs.Order.{Condition, gives, first, isNone}
-use Rattle.machine.specs.Walk.{Walked, movesOf, arrivedAt, walk}
+use Rattle.machine.specs.Walk.{movesOf, arrivedAt, walk}
 
 -- what a call was lent: automaton, run and counters as last left, or anything else. One lent anything else is in a list of calls only
 -- if it was refused

@@ -1,7 +1,7 @@
 -- The elements that a list of calls opens, their depths, and which are childless (paper 01: no open was accepted while it was innermost).
-use Prim.Native.Nat.{ℕ, zero, suc, _+_}
+use Prim.Native.Nat.{ℕ, suc, _+_}
 use mathlib.Core.Bool.{Bool, true, false}
-use mathlib.Core.List.{List, [], _∷_, _++_}
+use mathlib.Core.List.{List, [], _∷_}
 use lib.ListN.{length}
 use Rattle.machine.specs.Calls.{Call, openCall, closeCall}
 

@@ -1,5 +1,4 @@
 -- The worked examples of paper 01: their names, sets and reports as calls.
-use Prim.Native.Nat.{ℕ}
 use mathlib.Core.List.{List, [], _∷_, _++_}
 use Rattle.notation.specs.Names.{Name}
 use Rattle.notation.specs.Sets.{child, descendant, label, star, Step, step, Path, folder, FolderSet}

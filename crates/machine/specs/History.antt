@@ -1,12 +1,12 @@
 -- What a list of calls says by itself: its accepted calls, how many they are, and which names they opened and did not close.
 use Prim.Native.Nat.{ℕ, zero, suc}
 use mathlib.Core.Path.{_≡_}
-use mathlib.Core.Bool.{Bool, true, cond}
+use mathlib.Core.Bool.{true, cond}
 use mathlib.Core.List.{List, [], _∷_, _++_, reverse}
 use Rattle.notation.specs.Names.{Name}
 use Rattle.notation.specs.Sets.{FolderSet}
 use Rattle.notation.specs.Fit.{Fits}
-use Rattle.machine.specs.Calls.{Lent, asLeft, Call, openCall, closeCall, State, fresh, accepted, step, run, openNames, pathAt}
+use Rattle.machine.specs.Calls.{asLeft, Call, openCall, closeCall, State, fresh, accepted, step, run, openNames, pathAt}
 
 -- the accepted calls, the last first; `earlier` are those before the list
 unfoldable pub acceptedAfter : FolderSet → State → List Call → List Call → List Call

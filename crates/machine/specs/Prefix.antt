@@ -1,13 +1,13 @@
 -- The current prefix (paper 01: the held word) and the failure function, as longest ends of a word.
-use Prim.Native.Nat.{ℕ, _≤_, _<_}
+use Prim.Native.Nat.{_≤_, _<_}
 use mathlib.Core.Path.{_≡_}
-use mathlib.Core.Bool.{Bool, cond}
+use mathlib.Core.Bool.{cond}
 use mathlib.Core.Logic.{_⊎_}
 use mathlib.Core.List.{List, [], _∷_, _++_, map, tail}
 use lib.ListN.{length}
 use Rattle.notation.specs.Names.{Name}
 use Rattle.notation.specs.Sets.{FolderSet}
-use Rattle.machine.specs.Words.{Symbol, document, name, Word, Begins, begins}
+use Rattle.machine.specs.Words.{document, name, Word, Begins, begins}
 
 -- `# n1 .. nm`, for the open names n1 .. nm
 abbrev pub wordOf : List Name → Word

@@ -1,8 +1,7 @@
 -- The walk of an accepted open of name e from the current prefix (paper 01: the held word), with its count of failure moves (fall-backs).
 use Prim.Native.Nat.{ℕ, zero, suc}
-use mathlib.Core.Path.{_≡_}
-use mathlib.Core.Bool.{Bool, true, false, not, cond}
-use mathlib.Core.List.{List, [], _∷_, _++_}
+use mathlib.Core.Bool.{Bool, false, not, cond}
+use mathlib.Core.List.{[], _∷_, _++_}
 use lib.ListN.{length}
 use Rattle.notation.specs.Names.{Name}
 use Rattle.notation.specs.Sets.{FolderSet}

@@ -1,22 +1,20 @@
 -- Adding folders changes no other folder's matches while the larger set is accepted.
-use Prim.Native.Nat.{ℕ, suc, _≤_, _<_}
+use Prim.Native.Nat.{ℕ, _<_}
 use mathlib.Core.Path.{_≡_, refl, sym, _∙_, ap, subst}
 use mathlib.Core.Bool.{Bool, true, false, cond}
-use mathlib.Core.Logic.{_⊎_, inl, inr, _↔_}
+use mathlib.Core.Logic.{_⊎_, inl, inr}
 use mathlib.Core.List.{List, [], _∷_, _++_, cons≢nil, List·Memᴰ, List·Memᴰ·not-nil, List·Memᴰ·cases-cons}
 use native.Mathlib.Omega.{arith}
 use lib.Dec.{leb}
 use borrow.Author.Tests.{leb-false}
 use Rattle.notation.specs.Sets.{Path, Folder, folder, FolderSet, folderNumber, folderPaths}
-use Rattle.notation.specs.Form.{pathsOf, pathsFaults, faultsAfter, faults}
+use Rattle.notation.specs.Form.{pathsFaults, faultsAfter, faults}
 use Rattle.notation.specs.Refusals.{Refusal, outOfTurn}
 use Rattle.notation.specs.Fit.{Fits}
-use Rattle.machine.specs.Calls.{asLeft, Call, openCall, State, openNames, pathAt, run}
-use Rattle.machine.specs.History.{FittedAfterOpen}
-use Rattle.machine.specs.Folders.{placesOf, FolderMatched, folderMatched, HasFolders}
-use Rattle.machine.proofs.Laws.Basics.{cases, clash}
+use Rattle.machine.specs.Calls.{asLeft, Call, openCall, openNames, pathAt, run}
+use Rattle.machine.specs.Folders.{placesOf, folderMatched, HasFolders}
 use Rattle.machine.proofs.Laws.Matches.{run-matched}
-use Rattle.machine.proofs.Laws.Folders.{folder-matched, PathOf, place-path, PlaceOf, path-place}
+use Rattle.machine.proofs.Laws.Folders.{folder-matched, PathOf, place-path, path-place}
 use Rattle.machine.proofs.Laws.Alike.{same-accepted, same-names}
 
 -- a path matched under one set is matched under another that has it, at its place there

@@ -1,17 +1,15 @@
 -- Which calls are accepted, and which names are open, does not depend on the folder set.
-use Prim.Native.Nat.{ℕ, suc}
-use mathlib.Core.Path.{_≡_, refl, sym, _∙_, ap, ap₂}
-use mathlib.Core.Bool.{Bool, true, false, not, _&&_}
-use mathlib.Core.List.{List, [], _∷_, _++_, map, reverse, nil≢cons, cons≢nil, head-eq-of-cons-eq, tail-eq-of-cons-eq}
-use lib.Dec.{leb}
+use Prim.Native.Nat.{suc}
+use mathlib.Core.Path.{_≡_, refl, sym, _∙_, ap}
+use mathlib.Core.Bool.{not}
+use mathlib.Core.List.{List, [], _∷_, map, reverse, nil≢cons, cons≢nil, head-eq-of-cons-eq, tail-eq-of-cons-eq}
 use lib.ListN.{length}
-use Rattle.notation.specs.Names.{Name, nameForm, tooLong}
+use Rattle.notation.specs.Names.{Name}
 use Rattle.notation.specs.Sets.{FolderSet}
 use Rattle.notation.specs.Form.{nonEmpty}
 use Rattle.notation.specs.Activity.{sameName}
-use Rattle.machine.specs.Limits.{maxDepth, maxOpens}
 use Rattle.machine.specs.Order.{first}
-use Rattle.machine.specs.Calls.{Lent, Call, openCall, closeCall, Level, level, nameOf, State, openNames, depth, fresh, opened, closedFrom, closed, isInnermost, refusal, accepted, done, step, after, run}
+use Rattle.machine.specs.Calls.{Call, openCall, closeCall, Level, level, nameOf, State, openNames, fresh, opened, closedFrom, isInnermost, refusal, accepted, done, step, after, run}
 use Rattle.machine.proofs.Laws.Basics.{cases}
 use Rattle.machine.proofs.Laws.Steps.{step-accepted, step-refused}
 

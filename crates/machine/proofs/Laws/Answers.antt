@@ -1,8 +1,8 @@
 -- Current prefix and active steps are those of the names opened and not yet closed, so a fresh machine that is given only the opens of
 -- those names answers the same.
-use Prim.Native.Nat.{ℕ, zero, suc, _+_, _≤_, _<_}
+use Prim.Native.Nat.{ℕ, suc, _+_, _≤_}
 use mathlib.Core.Path.{_≡_, refl, sym, _∙_, ap, subst}
-use mathlib.Core.Bool.{Bool, true, false}
+use mathlib.Core.Bool.{true, false}
 use mathlib.Core.Logic.{_↔_}
 use mathlib.Core.List.{List, [], _∷_, _++_, map, append-assoc, append-nil, List·Memᴰ, List·Memᴰ·head, List·Memᴰ·tail}
 use native.Mathlib.Omega.{arith}
@@ -14,7 +14,7 @@ use Rattle.notation.specs.Activity.{active}
 use Rattle.notation.proofs.Laws.Fit.{active-is}
 use Rattle.machine.specs.Limits.{maxDepth, maxOpens}
 use Rattle.machine.specs.Prefix.{CurrentPrefix, prefixOf}
-use Rattle.machine.specs.Calls.{asLeft, Call, openCall, State, openNames, depth, pathAt, activeStep, fresh, opened, step, after, run}
+use Rattle.machine.specs.Calls.{asLeft, Call, openCall, State, openNames, depth, pathAt, activeStep, fresh, opened, after, run}
 use Rattle.machine.specs.History.{stillOpen}
 use Rattle.machine.proofs.Laws.Prefix.{current-prefix}
 use Rattle.machine.proofs.Laws.Calls.{Openable, accepted-open}

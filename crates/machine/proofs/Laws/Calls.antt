@@ -1,20 +1,16 @@
 -- What acceptance tells, and induction over lists of calls.
-use Prim.Native.Nat.{ℕ, zero, suc, _+_, _≤_, _<_}
-use mathlib.Core.Path.{_≡_, refl, sym, _∙_, ap, ap₂, subst}
-use mathlib.Core.Bool.{Bool, true, false, not, _&&_, _||_, cond}
-use mathlib.Core.Logic.{_⊎_, inl, inr}
-use mathlib.Core.List.{List, [], _∷_, _++_, List·Memᴰ, List·Memᴰ·head, List·Memᴰ·tail}
-use native.Mathlib.Omega.{arith}
-use lib.Dec.{leb}
-use lib.ListN.{length}
-use borrow.Author.Tests.{leb-true, leb-false, lt-leb, not-true, not-false}
+use Prim.Native.Nat.{_<_}
+use mathlib.Core.Path.{_≡_, refl, sym, ap, subst}
+use mathlib.Core.Bool.{true, false, cond}
+use mathlib.Core.List.{List, [], _∷_, List·Memᴰ, List·Memᴰ·head, List·Memᴰ·tail}
+use borrow.Author.Tests.{leb-false, lt-leb, not-false}
 use Rattle.notation.specs.Names.{Name, nameForm, tooLong}
 use Rattle.notation.specs.Sets.{FolderSet}
 use Rattle.notation.proofs.Laws.Fit.{sameName-is}
 use Rattle.machine.specs.Limits.{maxDepth, maxOpens}
 use Rattle.machine.specs.Words.{Word}
 use Rattle.machine.specs.Order.{Condition, holds, first}
-use Rattle.machine.specs.Calls.{Lent, asLeft, otherwise, Call, openCall, closeCall, Level, level, State, depth, opened, closedFrom, closed, nothingOpen, deepest, opensSpent, isInnermost, openOrder, closeOrder, refusal, accepted, done, step, after}
+use Rattle.machine.specs.Calls.{asLeft, otherwise, Call, openCall, closeCall, Level, level, State, depth, opened, closedFrom, isInnermost, openOrder, closeOrder, refusal, accepted, done, step, after}
 use Rattle.machine.specs.History.{acceptedAfter}
 use Rattle.machine.proofs.Laws.Basics.{cases, clash}
 use Rattle.machine.proofs.Laws.Order.{first-none, is-none}

@@ -1,17 +1,15 @@
 -- The failure moves counted are at most the depths of all childless elements added up. The moves down to a childless element are paid by
 -- its depth: one open makes at most (length before + 1 − length after) of them.
-use Prim.Native.Nat.{ℕ, zero, suc, _+_, _≤_, pred}
+use Prim.Native.Nat.{ℕ, suc, _+_, _≤_, pred}
 use mathlib.Core.Path.{_≡_, refl, sym, _∙_, ap, subst}
-use mathlib.Core.Bool.{Bool, true, false}
-use mathlib.Core.List.{List, [], _∷_, _++_, map}
+use mathlib.Core.Bool.{true, false}
+use mathlib.Core.List.{List, [], _∷_, map}
 use native.Mathlib.Omega.{arith}
 use lib.ListN.{length, length-map, length-reverse}
 use Rattle.notation.specs.Names.{Name}
 use Rattle.notation.specs.Sets.{FolderSet}
-use Rattle.machine.specs.Words.{Word}
-use Rattle.machine.specs.Prefix.{prefixOf}
 use Rattle.machine.specs.Walk.{walk, movesOf, arrivedAt}
-use Rattle.machine.specs.Calls.{asLeft, Call, openCall, closeCall, Level, level, nameOf, State, openNames, depth, fresh, opened, closedFrom, run}
+use Rattle.machine.specs.Calls.{asLeft, Call, openCall, closeCall, level, nameOf, State, openNames, depth, fresh, opened, closedFrom, run}
 use Rattle.machine.specs.History.{acceptedCalls, opensIn}
 use Rattle.machine.specs.Elements.{Element, element, Elements, elements, withChild, opening, closing, elementsOf, openElements, closedElements, sumDepths, childlessDepths}
 use Rattle.machine.proofs.Laws.Walk.{walk-moves}

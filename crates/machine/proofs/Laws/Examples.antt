@@ -1,26 +1,24 @@
 -- The worked examples of paper 01, "Where filing errs" and "The filing program", computed from the definitions.
-use Prim.Native.Nat.{ℕ}
 use mathlib.Core.Path.{_≡_, refl}
-use mathlib.Core.Bool.{Bool, true, false}
-use mathlib.Core.List.{List, [], _∷_, _++_, map}
-use mathlib.Core.Option.{Option, some}
+use mathlib.Core.Bool.{true, false}
+use mathlib.Core.List.{[], _∷_, _++_, map}
+use mathlib.Core.Option.{some}
 use lib.ListN.{length, replicate}
 use Rattle.notation.specs.Limits.{maxName}
-use Rattle.notation.specs.Names.{Name, letter, digit, beginsName, inName, allInName, nameForm}
-use Rattle.notation.specs.Sets.{FolderSet}
+use Rattle.notation.specs.Names.{letter, digit, beginsName, inName, allInName, nameForm}
 use Rattle.notation.specs.Form.{pathsOf}
-use Rattle.notation.specs.Refusals.{Refusal, tooDeep, looseEnd, numberOf}
+use Rattle.notation.specs.Refusals.{tooDeep}
 use Rattle.notation.specs.Activity.{sameName, here, activeIn, seenIn}
 use Rattle.machine.specs.Limits.{maxDepth, maxOpens}
-use Rattle.machine.specs.Words.{Symbol, document, name, Word, cut, keywords, startsWith, any, begins}
+use Rattle.machine.specs.Words.{document, name, cut, keywords, startsWith, any, begins}
 use Rattle.machine.specs.Prefix.{longestEnd, failure}
 use Rattle.machine.specs.Walk.{walkIn, walk}
 use Rattle.machine.specs.Order.{first}
-use Rattle.machine.specs.Calls.{asLeft, Call, openCall, closeCall, State, openNames, fresh, opened, closedFrom, refusal, accepted, step, after, run}
+use Rattle.machine.specs.Calls.{asLeft, openCall, openNames, fresh, opened, closedFrom, refusal, accepted, step, after, run}
 use Rattle.machine.specs.History.{acceptedAfter, acceptedCalls}
 use Rattle.machine.specs.Elements.{elementsOf, sumDepths, childlessDepths}
 use Rattle.machine.specs.Folders.{countFrom, placesFrom, folderMatched}
-use Rattle.machine.specs.Examples.{a, b, c, r, lock, clock, drift, to, down, toAny, downAny, one, inside, filed, report, fourChildren}
+use Rattle.machine.specs.Examples.{a, b, c, r, lock, drift, to, down, toAny, downAny, one, inside, filed, report, fourChildren}
 
 pub record WorkedExamples : Type 0 where
   -- a path cut: `/a//b/c/*/drift` has the keywords `# a`, `b c` and `drift`

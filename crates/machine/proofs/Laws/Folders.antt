@@ -1,7 +1,7 @@
 -- A folder is matched exactly when one of its paths is; the places of a folder's number are those of the paths of its folders.
-use Prim.Native.Nat.{ℕ, zero, suc, _+_, _≤_, _<_}
+use Prim.Native.Nat.{ℕ, zero, suc, _+_, _<_}
 use mathlib.Core.Path.{_≡_, refl, sym, _∙_, ap, subst}
-use mathlib.Core.Bool.{Bool, true, false, cond}
+use mathlib.Core.Bool.{Bool, true, cond}
 use mathlib.Core.Logic.{_⊎_, inl, inr, _↔_}
 use mathlib.Core.List.{List, [], _∷_, _++_, append-assoc, List·Memᴰ, List·Memᴰ·head, List·Memᴰ·tail, List·Memᴰ·not-nil, List·Memᴰ·cases-cons, List·Memᴰ·append-cases, Memᴰ·append-left, Memᴰ·append-right, Memᴰ·cast}
 use native.Mathlib.Omega.{arith}
@@ -11,7 +11,6 @@ use lib.Seq.{getD-append-add}
 use borrow.Author.Tests.{eqb-true, eq-eqb}
 use Rattle.notation.specs.Sets.{Path, Folder, folder, FolderSet, folderNumber, folderPaths}
 use Rattle.notation.specs.Form.{pathsOf}
-use Rattle.machine.specs.Words.{any}
 use Rattle.machine.specs.Calls.{State, pathAt}
 use Rattle.machine.specs.Folders.{countFrom, placesFrom, placesOf, FolderMatched, folderMatched}
 use Rattle.machine.proofs.Laws.Basics.{cases, any-is, is-any}

@@ -1,13 +1,13 @@
 -- The state's counts are how many calls were accepted, and its open names those opened and not yet closed.
-use Prim.Native.Nat.{ℕ, zero, suc, _+_, _≤_}
+use Prim.Native.Nat.{ℕ, zero, suc}
 use mathlib.Core.Path.{_≡_, refl, sym, _∙_, ap}
-use mathlib.Core.List.{List, [], _∷_, _++_, map, reverse}
+use mathlib.Core.List.{List, [], _∷_, map, reverse}
 use lib.ListN.{drop}
 use Rattle.notation.specs.Names.{Name}
 use Rattle.notation.specs.Sets.{FolderSet}
 use Rattle.machine.specs.Calls.{asLeft, Call, openCall, closeCall, Level, level, nameOf, State, openNames, fresh, opened, closedFrom, run}
 use Rattle.machine.specs.History.{acceptedCalls, opensIn, closesIn, unclosed, stillOpen}
-use Rattle.machine.proofs.Laws.Calls.{Openable, Closable, always}
+use Rattle.machine.proofs.Laws.Calls.{Closable, always}
 
 record Told (s : State) (h : List Call) : Type 0 where
   opens : s .opens ≡ opensIn h

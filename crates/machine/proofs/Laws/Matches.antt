@@ -1,7 +1,7 @@
 -- A path is matched exactly when it fitted right after some accepted open.
 use Prim.Native.Nat.{ℕ, _<_}
 use mathlib.Core.Path.{_≡_, refl, sym, _∙_, ap, subst}
-use mathlib.Core.Bool.{Bool, true, false, _||_, cond}
+use mathlib.Core.Bool.{true, false, _||_}
 use mathlib.Core.Logic.{_⊎_, inl, inr, _↔_}
 use mathlib.Core.List.{List, [], _∷_, _++_}
 use native.Mathlib.Omega.{arith}
@@ -13,7 +13,7 @@ use Rattle.notation.specs.Sets.{Path, FolderSet}
 use Rattle.notation.specs.Form.{pathsOf}
 use Rattle.notation.specs.Activity.{fits}
 use Rattle.notation.proofs.Laws.Fit.{fits-is}
-use Rattle.machine.specs.Calls.{Lent, asLeft, otherwise, Call, openCall, closeCall, Level, level, State, namesOf, openNames, pathAt, fresh, opened, closedFrom, closed, accepted, done, step, after, run}
+use Rattle.machine.specs.Calls.{asLeft, otherwise, Call, openCall, closeCall, Level, level, State, openNames, pathAt, fresh, opened, closedFrom, accepted, done, step, after, run}
 use Rattle.machine.specs.History.{FittedAfterOpen}
 use Rattle.machine.proofs.Laws.Basics.{cases, clash, either, or-left, or-right}
 use Rattle.machine.proofs.Laws.Calls.{lent-otherwise-open, lent-otherwise-close}

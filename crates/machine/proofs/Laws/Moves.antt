@@ -1,14 +1,11 @@
 -- No open makes more failure moves than elements may be open.
-use Prim.Native.Nat.{ℕ, suc, _+_, _*_, _≤_}
-use mathlib.Core.Path.{_≡_, refl}
+use Prim.Native.Nat.{_*_, _≤_}
 use mathlib.Core.List.{List, [], _∷_}
 use native.Mathlib.Omega.{arith}
-use lib.ListN.{length}
 use Rattle.notation.specs.Names.{Name}
 use Rattle.notation.specs.Sets.{FolderSet}
 use Rattle.machine.specs.Limits.{maxDepth}
 use Rattle.machine.specs.Calls.{asLeft, Call, openCall, level, State, fresh, opened, closedFrom, run}
-use Rattle.machine.specs.History.{acceptedCalls}
 use Rattle.machine.proofs.Laws.Walk.{walk-moves}
 use Rattle.machine.proofs.Laws.Calls.{Openable, Closable, always}
 use Rattle.machine.proofs.Laws.Sound.{Sound, fresh-sound, open-sound, close-sound, current-length}

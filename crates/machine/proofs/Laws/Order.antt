@@ -1,13 +1,12 @@
 -- The computed first refusal is the first whose condition holds, and there is none exactly where no condition holds.
-use Prim.Native.Nat.{ℕ}
-use mathlib.Core.Path.{_≡_, refl, sym, _∙_, ap, subst}
-use mathlib.Core.Bool.{Bool, true, false, cond}
-use mathlib.Core.Logic.{_⊎_, inl, inr, _↔_}
+use mathlib.Core.Path.{_≡_, refl, sym, _∙_, ap}
+use mathlib.Core.Bool.{true, false}
+use mathlib.Core.Logic.{inl, inr, _↔_}
 use mathlib.Core.Option.{Option, none, some, Option·none-ne-some, Option·some-injective, Option·some-ne-none}
-use mathlib.Core.List.{List, [], _∷_, _++_, nil≢cons, List·Memᴰ, List·Memᴰ·head, List·Memᴰ·tail, List·Memᴰ·not-nil, List·Memᴰ·cases-cons}
+use mathlib.Core.List.{List, [], _∷_, _++_, List·Memᴰ, List·Memᴰ·head, List·Memᴰ·tail, List·Memᴰ·not-nil, List·Memᴰ·cases-cons}
 use Rattle.notation.specs.Refusals.{Refusal}
-use Rattle.machine.specs.Order.{Condition, gives, holds, refusalOf, FirstOf, first, isNone}
-use Rattle.machine.proofs.Laws.Basics.{cases, clash}
+use Rattle.machine.specs.Order.{Condition, gives, holds, FirstOf, first, isNone}
+use Rattle.machine.proofs.Laws.Basics.{clash}
 
 pub is-none : (o : Option Refusal) → isNone o ≡ true → o ≡ none
 is-none none h = refl

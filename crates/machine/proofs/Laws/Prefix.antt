@@ -1,14 +1,14 @@
 -- The computed longest end is the longest end that begins a keyword, and the only one; likewise the failure function.
-use Prim.Native.Nat.{ℕ, zero, suc, _+_, _≤_, _<_, pred}
-use mathlib.Core.Path.{_≡_, refl, sym, _∙_, ap, ap₂, subst}
-use mathlib.Core.Bool.{Bool, true, false, cond}
+use Prim.Native.Nat.{suc, _≤_, _<_}
+use mathlib.Core.Path.{_≡_, refl, sym, _∙_, ap, subst}
+use mathlib.Core.Bool.{true, false}
 use mathlib.Core.Logic.{_⊎_, inl, inr}
-use mathlib.Core.List.{List, [], _∷_, _++_, tail, append-nil, append-assoc, tail-eq-of-cons-eq, map}
+use mathlib.Core.List.{List, [], _∷_, _++_, tail-eq-of-cons-eq}
 use native.Mathlib.Omega.{arith}
 use lib.ListN.{length, length-append, length-map}
 use Rattle.notation.specs.Names.{Name}
 use Rattle.notation.specs.Sets.{FolderSet}
-use Rattle.machine.specs.Words.{Symbol, document, name, Word, Begins, begins}
+use Rattle.machine.specs.Words.{Symbol, name, Word, Begins, begins}
 use Rattle.machine.specs.Prefix.{wordOf, EndOf, LongestEnd, LongestProperEnd, CurrentPrefix, longestEnd, prefixOf, failure}
 use Rattle.machine.proofs.Laws.Basics.{cases, clash, length-end}
 use Rattle.machine.proofs.Laws.Words.{begins-is, is-begins, begins-shorter}

@@ -1,12 +1,12 @@
 -- What holds after every list of calls: the current prefix is that of the open names and closing brings back the one before; names are
 -- well formed, depth and opens within their limits, and opens = closes + open elements.
-use Prim.Native.Nat.{ℕ, zero, suc, _+_, _≤_, _<_}
-use mathlib.Core.Path.{_≡_, refl, sym, _∙_, ap, ap₂, subst}
+use Prim.Native.Nat.{suc, _+_, _≤_}
+use mathlib.Core.Path.{_≡_, refl, sym, _∙_, ap, subst}
 use mathlib.Core.Bool.{Bool, true, false, not, _&&_, and-false}
 use mathlib.Core.Logic.{_⊎_, inl, inr}
-use mathlib.Core.List.{List, [], _∷_, _++_, map, reverse, reverse-cons, List·Memᴰ, List·Memᴰ·head, List·Memᴰ·tail, List·Memᴰ·not-nil, List·Memᴰ·cases-cons, List·Memᴰ·append-cases, List·Memᴰ·eq-of-singleton}
+use mathlib.Core.List.{List, [], _∷_, map, reverse, reverse-cons, List·Memᴰ, List·Memᴰ·head, List·Memᴰ·tail, List·Memᴰ·not-nil, List·Memᴰ·cases-cons, List·Memᴰ·append-cases, List·Memᴰ·eq-of-singleton}
 use native.Mathlib.Omega.{arith}
-use lib.Dec.{leb, ltb}
+use lib.Dec.{ltb}
 use lib.ListN.{length, length-map, length-reverse}
 use borrow.Author.Tests.{leb-false, lt-ltb}
 use Rattle.notation.specs.Limits.{maxName}
@@ -14,12 +14,10 @@ use Rattle.notation.specs.Names.{Name, nameForm, tooLong}
 use Rattle.notation.specs.Sets.{FolderSet}
 use Rattle.notation.specs.Form.{nonEmpty}
 use Rattle.machine.specs.Limits.{maxDepth, maxOpens}
-use Rattle.machine.specs.Words.{document, Word, begins}
+use Rattle.machine.specs.Words.{Word}
 use Rattle.machine.specs.Prefix.{longestEnd, prefixOf}
 use Rattle.machine.specs.Walk.{walk, arrivedAt}
-use Rattle.machine.specs.Calls.{asLeft, Call, openCall, closeCall, Level, level, nameOf, State, namesOf, openNames, depth, nothingOpen, fresh, opened, closedFrom, run}
-use Rattle.machine.specs.History.{acceptedCalls}
-use Rattle.machine.proofs.Laws.Basics.{cases, clash}
+use Rattle.machine.specs.Calls.{Call, Level, level, nameOf, State, namesOf, openNames, depth, nothingOpen, fresh, opened, closedFrom, run}
 use Rattle.machine.proofs.Laws.Prefix.{length-prefix}
 use Rattle.machine.proofs.Laws.Walk.{walk-current}
 use Rattle.machine.proofs.Laws.Calls.{Openable, Closable, always}

@@ -1,17 +1,16 @@
 -- What one call does: an accepted open puts its name after the open names, an accepted close takes the last away and undoes the open, a
 -- refused call leaves all as it is.
 use Prim.Native.Nat.{ℕ}
-use mathlib.Core.Path.{_≡_, refl, sym, _∙_, ap, subst}
-use mathlib.Core.Bool.{Bool, true, false}
+use mathlib.Core.Path.{_≡_, refl, sym, _∙_, ap}
+use mathlib.Core.Bool.{true, false}
 use mathlib.Core.Logic.{_↔_}
-use mathlib.Core.Option.{Option, none, some}
+use mathlib.Core.Option.{none, some}
 use mathlib.Core.List.{List, [], _∷_, _++_, map, reverse-cons}
-use lib.ListN.{length}
 use Rattle.notation.specs.Names.{Name}
 use Rattle.notation.specs.Sets.{FolderSet}
 use Rattle.notation.specs.Refusals.{Refusal, numberOf}
-use Rattle.machine.specs.Order.{Condition, refusalOf, FirstOf, first, isNone}
-use Rattle.machine.specs.Calls.{Lent, asLeft, Call, openCall, closeCall, Level, level, nameOf, State, namesOf, openNames, fresh, opened, closedFrom, closed, openOrder, closeOrder, orderOf, refusal, accepted, done, step, after, run}
+use Rattle.machine.specs.Order.{refusalOf, FirstOf}
+use Rattle.machine.specs.Calls.{asLeft, Call, openCall, closeCall, Level, nameOf, State, namesOf, openNames, fresh, opened, closedFrom, closed, openOrder, closeOrder, orderOf, refusal, accepted, done, step, after, run}
 use Rattle.machine.proofs.Laws.Order.{first-is, is-none, none-is}
 use Rattle.machine.proofs.Laws.Calls.{Closable, close-accepted}
 
