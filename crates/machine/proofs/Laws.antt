@@ -2,6 +2,7 @@ pub mod Basics
 pub mod Words
 pub mod Prefix
 pub mod Walk
+pub mod Labels
 pub mod Order
 pub mod Calls
 pub mod Steps

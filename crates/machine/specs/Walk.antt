@@ -12,8 +12,8 @@ use Rattle.machine.specs.Prefix.{LongestProperEnd, failure}
 abbrev pub followedBy : Word → Name → Word
 followedBy w e = w ++ (name e ∷ [])
 
--- `Walk set e w moves v`: from w, by so many failure moves, to v. While the word is not empty and no keyword begins with it followed by e, fall back to its longest proper end
--- that begins a keyword, counting one; then the word with e if some keyword begins so, else nothing
+-- `Walk set e w moves v`: from w, by so many failure moves, to v. While the word is not empty and no keyword begins with it followed by
+-- e, fall back to its longest proper end that begins a keyword, counting one; then the word with e if some keyword begins so, else nothing
 pub data Walk (set : FolderSet) (e : Name) : Word → ℕ → Word → Type 0 where
   follows : {w : Word} → Begins set (followedBy w e) → Walk set e w zero (followedBy w e)
   stops : (Begins set (followedBy [] e) → ⊥) → Walk set e [] zero []
