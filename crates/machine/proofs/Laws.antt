@@ -15,4 +15,5 @@ pub mod Moves
 pub mod Folders
 pub mod Alike
 pub mod Adding
+pub mod Whole
 pub mod Examples

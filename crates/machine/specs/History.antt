@@ -2,11 +2,11 @@
 use Prim.Native.Nat.{ℕ, zero, suc}
 use mathlib.Core.Path.{_≡_}
 use mathlib.Core.Bool.{true, cond}
-use mathlib.Core.List.{List, [], _∷_, _++_, reverse}
+use mathlib.Core.List.{List, [], _∷_, _++_, map, reverse}
 use Rattle.notation.specs.Names.{Name}
 use Rattle.notation.specs.Sets.{FolderSet}
 use Rattle.notation.specs.Fit.{Fits}
-use Rattle.machine.specs.Calls.{asLeft, Call, openCall, closeCall, State, fresh, accepted, step, run, openNames, pathAt}
+use Rattle.machine.specs.Calls.{asLeft, Call, openCall, closeCall, State, fresh, accepted, step, run, openNames, pathAt, activeStep}
 
 -- the accepted calls, the last first; `earlier` are those before the list
 unfoldable pub acceptedAfter : FolderSet → State → List Call → List Call → List Call
@@ -47,3 +47,13 @@ pub record FittedAfterOpen (set : FolderSet) (calls : List Call) (place : ℕ) :
   pub joined : before ++ (openCall asLeft name ∷ later) ≡ calls
   pub isAccepted : accepted (run set before) (openCall asLeft name) ≡ true
   pub fitted : Fits (pathAt set place) (openNames (run set (before ++ (openCall asLeft name ∷ []))))
+
+-- the opens of some names, in order
+abbrev pub opensOf : List Name → List Call
+opensOf names = map (openCall asLeft) names
+
+-- two states of one set that answer the same of open names, current prefix and active steps
+pub record SameAnswers (set : FolderSet) (s t : State) : Type 0 where
+  pub names : openNames s ≡ openNames t
+  pub prefix : s .current ≡ t .current
+  pub steps : (place k : ℕ) → activeStep set s place k ≡ activeStep set t place k

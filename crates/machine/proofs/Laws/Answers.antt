@@ -4,7 +4,7 @@ use Prim.Native.Nat.{ℕ, suc, _+_, _≤_}
 use mathlib.Core.Path.{_≡_, refl, sym, _∙_, ap, subst}
 use mathlib.Core.Bool.{true, false}
 use mathlib.Core.Logic.{_↔_}
-use mathlib.Core.List.{List, [], _∷_, _++_, map, append-assoc, append-nil, List·Memᴰ, List·Memᴰ·head, List·Memᴰ·tail}
+use mathlib.Core.List.{List, [], _∷_, _++_, append-assoc, append-nil, List·Memᴰ, List·Memᴰ·head, List·Memᴰ·tail}
 use native.Mathlib.Omega.{arith}
 use lib.ListN.{length}
 use Rattle.notation.specs.Names.{Name, nameForm, tooLong}
@@ -15,7 +15,7 @@ use Rattle.notation.proofs.Laws.Fit.{active-is}
 use Rattle.machine.specs.Limits.{maxDepth, maxOpens}
 use Rattle.machine.specs.Prefix.{CurrentPrefix, prefixOf}
 use Rattle.machine.specs.Calls.{asLeft, Call, openCall, State, openNames, depth, pathAt, activeStep, fresh, opened, after, run}
-use Rattle.machine.specs.History.{stillOpen}
+use Rattle.machine.specs.History.{stillOpen, opensOf, SameAnswers}
 use Rattle.machine.proofs.Laws.Prefix.{current-prefix}
 use Rattle.machine.proofs.Laws.Calls.{Openable, accepted-open}
 use Rattle.machine.proofs.Laws.Sound.{run-prefix, run-depth, run-names}
@@ -32,10 +32,6 @@ pub run-active : (set : FolderSet) (calls : List Call) (place k : ℕ) → (acti
 run-active set calls place k =
     let e = ap (λ (names : List Name). active (pathAt set place) k names) (run-names-told set calls) in
     (λ h. active-is (pathAt set place) k (stillOpen set calls) .1 (sym e ∙ h), λ a. e ∙ active-is (pathAt set place) k (stillOpen set calls) .0 a)
-
--- the opens of some names, in order
-abbrev pub opensOf : List Name → List Call
-opensOf names = map (openCall asLeft) names
 
 after-open : (set : FolderSet) (s : State) (n : Name) (calls : List Call) → Openable s n → after set s (openCall asLeft n ∷ calls) ≡ after set (opened set s n) calls
 unfolding after
@@ -59,12 +55,6 @@ all-open set (n ∷ names) s g r d o =
       ap openNames e ∙ (q .0 ∙ (ap (λ (l : List Name). l ++ names) (names-opened set s n) ∙ append-assoc (openNames s) (n ∷ []) names)),
       omega (arith, ap (λ (u : State). u .opens) e, q .1, t .1),
     )
-
--- what the machine answers of names, prefix and active steps
-pub record SameAnswers (set : FolderSet) (s t : State) : Type 0 where
-  pub names : openNames s ≡ openNames t
-  pub prefix : s .current ≡ t .current
-  pub steps : (place k : ℕ) → activeStep set s place k ≡ activeStep set t place k
 
 fresh-open : (set : FolderSet) (names : List Name) → ((n : Name) → List·Memᴰ n names → (nameForm n ≡ true) × (tooLong n ≡ false)) → length names ≤ maxDepth → (openNames (run set (opensOf names)) ≡ names) × (run set (opensOf names) .opens ≡ length names)
 unfolding fresh maxDepth maxOpens

@@ -1,12 +1,12 @@
 -- Which words begin a keyword: beside the empty one, `#` where a path begins with `/`, and for each label the run that ends there.
-use Prim.Native.Nat.{ℕ, suc, _+_}
+use Prim.Native.Nat.{ℕ}
 use mathlib.Core.Path.{_≡_, refl, sym, _∙_, ap, subst}
 use mathlib.Core.Logic.{_⊎_, inl, inr, _↔_}
-use mathlib.Core.List.{List, [], _∷_, _++_, append-nil, append-assoc, nil≢cons, cons≢nil, tail-eq-of-cons-eq, head-eq-of-cons-eq, List·Memᴰ, List·Memᴰ·head, List·Memᴰ·tail, List·Memᴰ·not-nil, List·Memᴰ·cases-cons, List·Memᴰ·append-cases, List·Memᴰ·eq-of-singleton, Memᴰ·append-left, Memᴰ·append-right}
+use mathlib.Core.List.{List, [], _∷_, _++_, append-nil, append-assoc, cons≢nil, tail-eq-of-cons-eq, head-eq-of-cons-eq, List·Memᴰ, List·Memᴰ·head, List·Memᴰ·tail, List·Memᴰ·not-nil, List·Memᴰ·cases-cons, List·Memᴰ·append-cases, List·Memᴰ·eq-of-singleton, Memᴰ·append-right}
 use native.Mathlib.Omega.{arith}
 use lib.ListN.{length, length-append}
 use Rattle.notation.specs.Names.{Name}
-use Rattle.notation.specs.Sets.{child, descendant, label, star, Step, step, Path, FolderSet}
+use Rattle.notation.specs.Sets.{child, descendant, label, star, step, Path, FolderSet}
 use Rattle.notation.specs.Form.{pathsOf}
 use Rattle.machine.specs.Words.{Symbol, document, name, Word, ended, cut, before, keywords, Begins}
 use Rattle.machine.specs.Walk.{followedBy}
