@@ -20,3 +20,4 @@ pub mod SameStep
 pub mod SamePath
 pub mod SameSet
 pub mod OneSet
+pub mod Padded
