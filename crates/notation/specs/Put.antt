@@ -21,12 +21,13 @@ putStep kind t part = set part (stepsAt + t .steps) kind
 unfoldable pub putLabel : Tally → List ℕ → List ℕ
 putLabel t part = sets part (labelsAt + labelSize * t .labels) (labelEntry (t .from) (t .at - t .from) (t .steps))
 
--- where this byte is the path's bracket
-unfoldable pub putPath : ℕ → Tally → List ℕ → List ℕ
-putPath b t part =
-    cond (eqb b 41)
-    (sets part (pathsAt + pathSize * t .paths) (pathEntry (t .first) (t .steps + 1 - t .first) (t .begin) (t .at - t .begin)))
-    part
+unfoldable pub putPath : Tally → List ℕ → List ℕ
+putPath t part =
+    sets part (pathsAt + pathSize * t .paths) (pathEntry (t .first) (t .steps + 1 - t .first) (t .begin) (t .at - t .begin))
+
+-- a step, and its path where this byte is the path's bracket
+unfoldable pub putTest : ℕ → ℕ → Tally → List ℕ → List ℕ
+putTest b kind t part = cond (eqb b 41) (putPath t (putStep kind t part)) (putStep kind t part)
 
 unfoldable pub put : Mode → ℕ → Tally → List ℕ → List ℕ
 put (Header k) b t part = part
@@ -38,8 +39,8 @@ put PathOpen b t part = part
 put PathStart b t part = part
 put Slash b t part = part
 put Slashes b t part = part
-put Label b t part = cond (inName b) part (putPath b t (putStep (t .deep) t (putLabel t part)))
-put Star b t part = putPath b t (putStep (t .deep + 2) t part)
+put Label b t part = cond (inName b) part (putTest b (t .deep) t (putLabel t part))
+put Star b t part = putTest b (t .deep + 2) t part
 put PathEnd b t part = part
 put LineEnd b t part = part
 put LastLine b t part = part
