@@ -21,3 +21,4 @@ pub mod SamePath
 pub mod SameSet
 pub mod OneSet
 pub mod Padded
+pub mod Assembled

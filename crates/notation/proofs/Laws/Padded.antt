@@ -48,12 +48,16 @@ sets-padded n l vs rest h =
     ∙ simp append-assoc
 
 -- and so behind a front
-pub fill : (front : List ℕ) (n : ℕ) (l vs rest : List ℕ) (at : ℕ) → at ≡ length front + length l → length l + length vs ≤ n
+pub fill : (front : List ℕ) (n : ℕ) (l vs rest : List ℕ) (size at : ℕ) → length front ≡ size → at ≡ size + length l → length l + length vs ≤ n
     → sets (front ++ (padded n l ++ rest)) at vs ≡ front ++ (padded n (l ++ vs) ++ rest)
-fill front n l vs rest at e h =
-    rw e (sets-past front (padded n l ++ rest) (length l) vs ∙ ap (λ r. front ++ r) (sets-padded n l vs rest h))
+fill front n l vs rest size at e i h =
+    rw (i, ← e) (sets-past front (padded n l ++ rest) (length l) vs ∙ ap (λ r. front ++ r) (sets-padded n l vs rest h))
 
 pub joined-snoc : (es : List (List ℕ)) (e : List ℕ) → joined (es ++ (e ∷ [])) ≡ joined es ++ e
 unfolding joined
 joined-snoc [] e = append-nil e
 joined-snoc (x ∷ es) e = rw (joined-snoc es e) (sym (append-assoc x (joined es) e))
+
+pub joined-none : joined [] ≡ []
+unfolding joined
+joined-none = refl
