@@ -22,3 +22,6 @@ pub mod SameSet
 pub mod OneSet
 pub mod Padded
 pub mod Assembled
+pub mod Sized
+pub mod Counts
+pub mod Put

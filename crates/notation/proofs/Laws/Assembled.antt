@@ -1,8 +1,8 @@
 -- The bytes of a read set while it is being filled: its layout, with any ten bytes in the place of the five counts.
-use Prim.Native.Nat.{ℕ, zero, suc, _+_, _-_, _*_, _≤_, _<_}
+use Prim.Native.Nat.{ℕ, _+_, _*_, _≤_}
 use native.Mathlib.Omega.{arith}
 use mathlib.Core.Path.{_≡_, refl, sym, ap, _∙_}
-use mathlib.Core.List.{List, [], _∷_, _++_, append-assoc, append-nil}
+use mathlib.Core.List.{List, [], _∷_, _++_, append-assoc}
 use lib.ListN.{length, replicate, length-append, length-replicate, replicate-append-replicate}
 use lib.Seq.{sets}
 use Rattle.notation.specs.Limits.{maxSetBytes, maxPaths, maxSteps, maxLabels}
@@ -166,13 +166,13 @@ head-put head text rest x ten =
     let back = padded maxSetBytes text ++ (folderBytes x ++ (pathBytes x ++ (stepBytes x ++ labelBytes x))) in
     rw (append-assoc head back rest, append-assoc (counts text x) back rest) (sets-front head (back ++ rest) (counts text x) ten)
 
--- of a text and no entries yet, over a count of bytes that stay zero
+-- zeros beside zeros; a table of no entries; all of a set with no text
 zeros : (a b c d e f : ℕ)
     → replicate a 0 ++ (replicate b 0 ++ (replicate c 0 ++ (replicate d 0 ++ (replicate e 0 ++ replicate f 0)))) ≡ replicate {A = ℕ} (a + (b + (c + (d + (e + f))))) 0
 zeros a b c d e f = simp (replicate-append-replicate {A = ℕ})
 
 none-is : (n : ℕ) → padded n (joined []) ≡ replicate n 0
-none-is n = rw (joined-none) (padded-none n)
+none-is n = rw joined-none (padded-none n)
 
 all-zeros : assembled (replicate textAt 0) [] noTables ≡ replicate setSize 0
 unfolding assembled
@@ -180,7 +180,7 @@ all-zeros =
     simp (none-is, padded-none)
     (zeros textAt maxSetBytes (folderSize * maxPaths) (pathSize * maxPaths) (maxPaths * maxSteps) (labelSize * maxLabels) ∙ ap (λ n. replicate n 0) sizes)
 
--- the counts and the tables of nothing are zeros, and the text is written first
+-- the text is written first, over zeros
 text-put : (text : List ℕ) → length text ≤ maxSetBytes → assembled (replicate textAt 0) text noTables ≡ sets (replicate setSize 0) textAt text
 unfolding assembled
 text-put text short = rw (← all-zeros) (sym (fill (replicate textAt 0) maxSetBytes [] text _ textAt textAt (length-replicate textAt 0) (omega arith) (omega arith)))
