@@ -35,3 +35,8 @@ pub mod Complete
 pub mod Faults
 pub mod FaultNumbers
 pub mod Counts
+pub mod Padded
+pub mod Assembled
+pub mod Sized
+pub mod Put
+pub mod Filled
