@@ -40,3 +40,5 @@ pub mod Assembled
 pub mod Sized
 pub mod Put
 pub mod Filled
+pub mod Within
+pub mod Verdict

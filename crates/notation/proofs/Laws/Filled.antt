@@ -19,7 +19,7 @@ use Rattle.notation.proofs.Laws.Put.{put-is}
 
 module _ (head text rest : List ℕ) (ten : length head ≡ 10) (fits : length text ≤ maxSetBytes) where
   filled : (l : List ℕ) (s : Scan) (x : Tables) → Sized (s .tally) x → Within (scan s l .tally)
-    → (putAll s l (assembled head text x ++ rest) ≡ assembled head text (emit s x l) ++ rest) × Sized (scan s l .tally) (emit s x l)
+      → (putAll s l (assembled head text x ++ rest) ≡ assembled head text (emit s x l) ++ rest) × Sized (scan s l .tally) (emit s x l)
   unfolding putAll emit scan
   filled [] s x sized w = (refl, sized)
   filled (b ∷ l) s x sized w =
@@ -43,14 +43,14 @@ room text h = omega arith
 
 -- zeros, the text, the tables, the counts
 pub part-is : (text rest : List ℕ) → length text ≤ maxSetBytes → Within (scan start text .tally)
-  → sets (putAll start text (sets (replicate setSize 0 ++ rest) textAt text)) 0 (tallied (length text) (scan start text .tally)) ≡ partRead text ++ rest
+    → sets (putAll start text (sets (replicate setSize 0 ++ rest) textAt text)) 0 (tallied (length text) (scan start text .tally)) ≡ partRead text ++ rest
 unfolding tablesRead partRead
 part-is text rest fits w =
     let head : List ℕ = replicate 10 0 in
     let done = filled head text rest refl fits text start noTables sized-start w in
     let begun : sets (replicate setSize 0 ++ rest) textAt text ≡ assembled head text noTables ++ rest =
-        sets-left text (replicate setSize 0) rest textAt (rw length-replicate (room text fits))
-        ∙ ap (λ (l : List ℕ). l ++ rest) (sym (cleared-is text fits)) in
+    sets-left text (replicate setSize 0) rest textAt (rw length-replicate (room text fits))
+    ∙ ap (λ (l : List ℕ). l ++ rest) (sym (cleared-is text fits)) in
     ap (λ (l : List ℕ). sets (putAll start text l) 0 (tallied (length text) (scan start text .tally))) begun
     ∙ ap (λ (l : List ℕ). sets l 0 (tallied (length text) (scan start text .tally))) (done .0)
     ∙ ap (sets (assembled head text (tablesRead text) ++ rest) 0) (same-counts text (scan start text .tally) (tablesRead text) (done .1))
