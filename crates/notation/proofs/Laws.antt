@@ -35,3 +35,5 @@ pub mod Complete
 pub mod Faults
 pub mod FaultNumbers
 pub mod Counts
+pub mod Verdict
+pub mod Within
