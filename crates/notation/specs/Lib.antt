@@ -6,6 +6,7 @@ pub mod Print
 pub mod Form
 pub mod Scan
 pub mod Layout
+pub mod Reads
 pub mod Emit
 pub mod Fit
 pub mod Activity

@@ -1,0 +1,78 @@
+use borrow.Author.Needs.{needs}
+use Rattle.notation.proofs.reads.path_at.Statement.{statement}
+use Rattle.notation.proofs.reads.path_at.Tie as tie
+use Rattle.notation.proofs.reads.path_at.Reads as reads
+use Rattle.notation.proofs.reads.path_at.Lts as lts
+use Rattle.notation.proofs.reads.has.Reads as has-reads
+use Rattle.notation.proofs.reads.paths.Reads as paths-reads
+use Rattle.notation.proofs.reads.word_at.Reads as word-at-reads
+
+-- src/reads.rt:173:18
+paths-requires : tie.Need-paths-requires
+paths-requires c κs = search needs
+
+-- src/reads.rt:173:8
+has-requires : tie.Need-has-requires
+has-requires c κs = search needs
+
+-- src/reads.rt:174:31
+mul-from : tie.Need-mul-from
+mul-from c = ?
+
+-- src/reads.rt:174:20
+add-from : tie.Need-add-from
+add-from c = ?
+
+-- src/reads.rt:176:20
+word-at-requires : tie.Need-word-at-requires
+word-at-requires c κs = search needs
+
+-- src/reads.rt:177:34
+add-word-at : tie.Need-add-word-at
+add-word-at c = ?
+
+-- src/reads.rt:177:20
+word-at-requires-2 : tie.Need-word-at-requires-2
+word-at-requires-2 c κs = search needs
+
+-- src/reads.rt:178:31
+add-word-at-2 : tie.Need-add-word-at-2
+add-word-at-2 c = ?
+
+-- src/reads.rt:178:17
+word-at-requires-3 : tie.Need-word-at-requires-3
+word-at-requires-3 c κs = search needs
+
+-- src/reads.rt:179:33
+add-word-at-3 : tie.Need-add-word-at-3
+add-word-at-3 c = ?
+
+-- src/reads.rt:179:19
+word-at-requires-4 : tie.Need-word-at-requires-4
+word-at-requires-4 c κs = search needs
+
+-- src/reads.rt:169:1
+returns : tie.Need-returns
+returns c = ?
+
+-- src/reads.rt:169:1
+returns-2 : tie.Need-returns-2
+returns-2 c = ?
+
+pub path-at-spec : {M : Type 1} → statement M
+path-at-spec =
+    tie.close
+    (tie.spec
+    paths-requires
+    has-requires
+    mul-from
+    add-from
+    word-at-requires
+    add-word-at
+    word-at-requires-2
+    add-word-at-2
+    word-at-requires-3
+    add-word-at-3
+    word-at-requires-4
+    returns
+    returns-2)
