@@ -1,3 +1,9 @@
+use native.Mathlib.Omega.{arith}
+use mathlib.Core.Path.{_≡_, refl, sym, ap}
+use mathlib.Core.Bool.{true, false}
+use Rattle.notation.specs.Reads.{present, folderCount, folderAt}
+use Rattle.notation.specs.Layout.{foldersAt, folderSize}
+use Rattle.notation.specs.Limits.{maxPaths}
 use borrow.Author.Needs.{needs}
 use Rattle.notation.proofs.reads.folder_at.Statement.{statement}
 use Rattle.notation.proofs.reads.folder_at.Tie as tie
@@ -19,11 +25,11 @@ has-requires c κs = search needs
 
 -- src/reads.rt:149:31
 mul-at : tie.Need-mul-at
-mul-at c = ?
+mul-at c = omega (arith, c .before .has .ensures .1 (c .if1 .taken))
 
 -- src/reads.rt:149:18
 add-at : tie.Need-add-at
-add-at c = ?
+add-at c = omega (arith, c .before .has .ensures .1 (c .if1 .taken))
 
 -- src/reads.rt:150:13
 word-at-requires : tie.Need-word-at-requires
@@ -31,7 +37,7 @@ word-at-requires c κs = search needs
 
 -- src/reads.rt:151:35
 add-word-at : tie.Need-add-word-at
-add-word-at c = ?
+add-word-at c = omega (arith, c .before .before .has .ensures .1 (c .before .if1 .taken))
 
 -- src/reads.rt:151:13
 word-at-requires-2 : tie.Need-word-at-requires-2
@@ -39,7 +45,7 @@ word-at-requires-2 c κs = search needs
 
 -- src/reads.rt:155:25
 paths-end-requires : tie.Need-paths-end-requires
-paths-end-requires c κs = ?
+paths-end-requires c κs = c .before .before .before .has .ensures .1 (c .before .before .if1 .taken)
 
 -- src/reads.rt:155:20
 less-requires : tie.Need-less-requires
@@ -47,11 +53,17 @@ less-requires c κs = search needs
 
 -- src/reads.rt:145:1
 returns : tie.Need-returns
-returns c = ?
+unfolding folderAt maxPaths foldersAt folderSize
+returns c =     let a = c .before .before .before .before .before .before .before .before .args in
+    let there : present (a .part .now) (folderCount (a .part .now)) 128 (a .i) ≡ true = cc in
+    rw there (cc)
 
 -- src/reads.rt:145:1
 returns-2 : tie.Need-returns-2
-returns-2 c = ?
+unfolding folderAt maxPaths
+returns-2 c =     let a = c .before .before .before .before .args in
+    let gone : present (a .part .now) (folderCount (a .part .now)) 128 (a .i) ≡ false = cc in
+    rw gone
 
 pub folder-at-spec : {M : Type 1} → statement M
 folder-at-spec =

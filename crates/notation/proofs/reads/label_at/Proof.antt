@@ -1,3 +1,9 @@
+use native.Mathlib.Omega.{arith}
+use mathlib.Core.Path.{_≡_, refl, sym, ap}
+use mathlib.Core.Bool.{true, false}
+use Rattle.notation.specs.Reads.{present, labelCount, labelAt}
+use Rattle.notation.specs.Layout.{labelsAt, labelSize}
+use Rattle.notation.specs.Limits.{maxLabels}
 use borrow.Author.Needs.{needs}
 use Rattle.notation.proofs.reads.label_at.Statement.{statement}
 use Rattle.notation.proofs.reads.label_at.Tie as tie
@@ -17,11 +23,11 @@ has-requires c κs = search needs
 
 -- src/reads.rt:204:32
 mul-from : tie.Need-mul-from
-mul-from c = ?
+mul-from c = omega (arith, c .before .has .ensures .1 (c .if1 .taken))
 
 -- src/reads.rt:204:20
 add-from : tie.Need-add-from
-add-from c = ?
+add-from c = omega (arith, c .before .has .ensures .1 (c .if1 .taken))
 
 -- src/reads.rt:206:17
 word-at-requires : tie.Need-word-at-requires
@@ -29,7 +35,7 @@ word-at-requires c κs = search needs
 
 -- src/reads.rt:207:33
 add-word-at : tie.Need-add-word-at
-add-word-at c = ?
+add-word-at c = omega (arith, c .before .before .has .ensures .1 (c .before .if1 .taken))
 
 -- src/reads.rt:207:19
 word-at-requires-2 : tie.Need-word-at-requires-2
@@ -37,7 +43,7 @@ word-at-requires-2 c κs = search needs
 
 -- src/reads.rt:208:33
 add-word-at-2 : tie.Need-add-word-at-2
-add-word-at-2 c = ?
+add-word-at-2 c = omega (arith, c .before .before .before .has .ensures .1 (c .before .before .if1 .taken))
 
 -- src/reads.rt:208:19
 word-at-requires-3 : tie.Need-word-at-requires-3
@@ -45,11 +51,17 @@ word-at-requires-3 c κs = search needs
 
 -- src/reads.rt:200:1
 returns : tie.Need-returns
-returns c = ?
+unfolding labelAt maxLabels labelsAt labelSize
+returns c =     let a = c .before .before .before .before .before .before .before .args in
+    let there : present (a .part .now) (labelCount (a .part .now)) 1024 (a .i) ≡ true = cc in
+    rw there (cc)
 
 -- src/reads.rt:200:1
 returns-2 : tie.Need-returns-2
-returns-2 c = ?
+unfolding labelAt maxLabels
+returns-2 c =     let a = c .before .before .before .before .args in
+    let gone : present (a .part .now) (labelCount (a .part .now)) 1024 (a .i) ≡ false = cc in
+    rw gone
 
 pub label-at-spec : {M : Type 1} → statement M
 label-at-spec =

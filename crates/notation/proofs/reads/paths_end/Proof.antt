@@ -1,3 +1,10 @@
+use native.Mathlib.Omega.{arith}
+use mathlib.Core.Path.{_≡_, refl, sym, ap}
+use mathlib.Core.Bool.{true, false}
+use Rattle.notation.specs.Reads.{present, folderCount, pathsEnd}
+use Rattle.notation.specs.Layout.{foldersAt, folderSize}
+use Rattle.notation.specs.Limits.{maxPaths}
+use Prim.Native.Nat.{_+_}
 use borrow.Author.Needs.{needs}
 use Rattle.notation.proofs.reads.paths_end.Statement.{statement}
 use Rattle.notation.proofs.reads.paths_end.Tie as tie
@@ -42,11 +49,17 @@ paths-requires c κs = search needs
 
 -- src/reads.rt:133:1
 returns : tie.Need-returns
-returns c = ?
+unfolding pathsEnd maxPaths foldersAt folderSize
+returns c =     let a = c .before .before .before .before .before .args in
+    let there : present (a .part .now) (folderCount (a .part .now)) 128 (a .i + 1) ≡ true = cc in
+    rw there (c .word-at .ensures .0)
 
 -- src/reads.rt:133:1
 returns-2 : tie.Need-returns-2
-returns-2 c = ?
+unfolding pathsEnd maxPaths
+returns-2 c =     let a = c .before .before .before .before .before .args in
+    let gone : present (a .part .now) (folderCount (a .part .now)) 128 (a .i + 1) ≡ false = cc in
+    rw gone (c .paths .ensures .0)
 
 pub paths-end-spec : {M : Type 1} → statement M
 paths-end-spec =

@@ -1,3 +1,4 @@
+use native.Mathlib.Omega.{arith}
 use borrow.Author.Needs.{needs}
 use Rattle.notation.proofs.reads.text.Statement.{statement}
 use Rattle.notation.proofs.reads.text.Tie as tie
@@ -16,7 +17,7 @@ text-slice-requires c κs = search needs
 
 -- src/reads.rt:230:1
 returns : tie.Need-returns
-returns c = ?
+returns c = cc
 
 pub text-spec : {M : Type 1} → statement M
 text-spec = tie.close (tie.spec text-len-requires text-slice-requires returns)
