@@ -1,7 +1,7 @@
 // The notation: names, folder sets and what a path means.
-pub mod scan;
 pub mod layout;
 pub mod reads;
+pub mod scan;
 
 // A path's place: its index among all paths of the set.
 pub struct PathPlace(pub usize);

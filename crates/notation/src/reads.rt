@@ -4,25 +4,24 @@ ghost use mathlib.Core.Bool.{true};
 ghost use Prim.Native.Nat.{_-_, _<_, min};
 ghost use lib.ListN.{getD};
 ghost use Rattle.notation.specs.Reads.{word16, textLen, folderCount, pathCount, stepCount, labelCount, present, pathsEnd, folderAt, pathAt, stepAt, labelAt, textSlice, textOf, pathText, labelName, folderOf};
-
 use crate::FolderNumber;
 use crate::PathPlace;
-use crate::layout::FOLDERS_AT;
 use crate::layout::FOLDER_COUNT_AT;
 use crate::layout::FOLDER_SIZE;
-use crate::layout::LABELS_AT;
+use crate::layout::FOLDERS_AT;
 use crate::layout::LABEL_COUNT_AT;
 use crate::layout::LABEL_SIZE;
+use crate::layout::LABELS_AT;
 use crate::layout::MAX_ALL_STEPS;
 use crate::layout::MAX_LABELS;
 use crate::layout::MAX_PATHS;
 use crate::layout::MAX_SET_BYTES;
-use crate::layout::PATHS_AT;
 use crate::layout::PATH_COUNT_AT;
 use crate::layout::PATH_SIZE;
+use crate::layout::PATHS_AT;
 use crate::layout::SET_SIZE;
-use crate::layout::STEPS_AT;
 use crate::layout::STEP_COUNT_AT;
+use crate::layout::STEPS_AT;
 use crate::layout::TEXT_AT;
 use crate::layout::TEXT_LEN_AT;
 
@@ -55,11 +54,7 @@ pub enum StepAt {
 
 pub enum LabelAt {
     // Where in the set's text the label stands, and its step.
-    Label {
-        at: usize,
-        size: usize,
-        step: usize,
-    },
+    Label { at: usize, size: usize, step: usize },
     Missing,
 }
 

@@ -1,3 +1,4 @@
+-- `reads::folder_at`: by what `has`, `word_at` and `paths_end` ensure.
 use native.Mathlib.Omega.{arith}
 use mathlib.Core.Path.{_≡_, refl, sym, ap}
 use mathlib.Core.Bool.{true, false}
@@ -7,61 +8,43 @@ use Rattle.notation.specs.Limits.{maxPaths}
 use borrow.Author.Needs.{needs}
 use Rattle.notation.proofs.reads.folder_at.Statement.{statement}
 use Rattle.notation.proofs.reads.folder_at.Tie as tie
-use Rattle.notation.proofs.reads.folder_at.Reads as reads
-use Rattle.notation.proofs.reads.folder_at.Lts as lts
-use Rattle.notation.proofs.reads.folders.Reads as folders-reads
-use Rattle.notation.proofs.reads.has.Reads as has-reads
-use Rattle.notation.proofs.reads.less.Reads as less-reads
-use Rattle.notation.proofs.reads.paths_end.Reads as paths-end-reads
-use Rattle.notation.proofs.reads.word_at.Reads as word-at-reads
 
--- src/reads.rt:148:18
 folders-requires : tie.Need-folders-requires
 folders-requires c κs = search needs
 
--- src/reads.rt:148:8
 has-requires : tie.Need-has-requires
 has-requires c κs = search needs
 
--- src/reads.rt:149:31
 mul-at : tie.Need-mul-at
 mul-at c = omega (arith, c .before .has .ensures .1 (c .if1 .taken))
 
--- src/reads.rt:149:18
 add-at : tie.Need-add-at
 add-at c = omega (arith, c .before .has .ensures .1 (c .if1 .taken))
 
--- src/reads.rt:150:13
 word-at-requires : tie.Need-word-at-requires
 word-at-requires c κs = search needs
 
--- src/reads.rt:151:35
 add-word-at : tie.Need-add-word-at
 add-word-at c = omega (arith, c .before .before .has .ensures .1 (c .before .if1 .taken))
 
--- src/reads.rt:151:13
 word-at-requires-2 : tie.Need-word-at-requires-2
 word-at-requires-2 c κs = search needs
 
--- src/reads.rt:155:25
 paths-end-requires : tie.Need-paths-end-requires
 paths-end-requires c κs = c .before .before .before .has .ensures .1 (c .before .before .if1 .taken)
 
--- src/reads.rt:155:20
 less-requires : tie.Need-less-requires
 less-requires c κs = search needs
 
--- src/reads.rt:145:1
 returns : tie.Need-returns
 unfolding folderAt maxPaths foldersAt folderSize
-returns c =     let a = c .before .before .before .before .before .before .before .before .args in
+returns c = let a = c .before .before .before .before .before .before .before .before .args in
     let there : present (a .part .now) (folderCount (a .part .now)) 128 (a .i) ≡ true = cc in
     rw there (cc)
 
--- src/reads.rt:145:1
 returns-2 : tie.Need-returns-2
 unfolding folderAt maxPaths
-returns-2 c =     let a = c .before .before .before .before .args in
+returns-2 c = let a = c .before .before .before .before .args in
     let gone : present (a .part .now) (folderCount (a .part .now)) 128 (a .i) ≡ false = cc in
     rw gone
 

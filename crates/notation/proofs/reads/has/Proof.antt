@@ -1,3 +1,4 @@
+-- `reads::has`: each test is one part of `present`.
 use mathlib.Core.Path.{_≡_, refl, sym, ap}
 use mathlib.Core.Bool.{Bool, true, false}
 use Prim.Native.Nat.{ℕ}
@@ -7,20 +8,15 @@ use Rattle.notation.specs.Reads.{present}
 use Rattle.notation.specs.Layout.{setSize}
 use Rattle.notation.proofs.reads.has.Statement.{statement}
 use Rattle.notation.proofs.reads.has.Tie as tie
-use Rattle.notation.proofs.reads.has.Reads as reads
-use Rattle.notation.proofs.reads.has.Lts as lts
 
--- src/reads.rt:124:9
 returns : tie.Need-returns
 unfolding present setSize
 returns c = (simp (lt-leb 26122 _ (c .if1 .taken)), λ e. let z : _≡_ {A = ℕ} 0 1 = cc in omega arith)
 
--- src/reads.rt:127:9
 returns-2 : tie.Need-returns-2
 unfolding present setSize
 returns-2 c = (simp (le-leb 26122 _ (c .before .if1 .left), le-ltb _ _ (c .if2 .taken)), λ e. let z : _≡_ {A = ℕ} 0 1 = cc in omega arith)
 
--- src/reads.rt:120:1
 returns-3 : tie.Need-returns-3
 unfolding present setSize
 returns-3 c = (simp (le-leb 26122 _ (c .before .if1 .left), lt-ltb _ _ (c .if2 .left)), ltb-true _ _)

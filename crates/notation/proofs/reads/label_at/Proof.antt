@@ -1,3 +1,4 @@
+-- `reads::label_at`: by what `has` and `word_at` ensure.
 use native.Mathlib.Omega.{arith}
 use mathlib.Core.Path.{_≡_, refl, sym, ap}
 use mathlib.Core.Bool.{true, false}
@@ -7,59 +8,43 @@ use Rattle.notation.specs.Limits.{maxLabels}
 use borrow.Author.Needs.{needs}
 use Rattle.notation.proofs.reads.label_at.Statement.{statement}
 use Rattle.notation.proofs.reads.label_at.Tie as tie
-use Rattle.notation.proofs.reads.label_at.Reads as reads
-use Rattle.notation.proofs.reads.label_at.Lts as lts
-use Rattle.notation.proofs.reads.has.Reads as has-reads
-use Rattle.notation.proofs.reads.labels.Reads as labels-reads
-use Rattle.notation.proofs.reads.word_at.Reads as word-at-reads
 
--- src/reads.rt:203:18
 labels-requires : tie.Need-labels-requires
 labels-requires c κs = search needs
 
--- src/reads.rt:203:8
 has-requires : tie.Need-has-requires
 has-requires c κs = search needs
 
--- src/reads.rt:204:32
 mul-from : tie.Need-mul-from
 mul-from c = omega (arith, c .before .has .ensures .1 (c .if1 .taken))
 
--- src/reads.rt:204:20
 add-from : tie.Need-add-from
 add-from c = omega (arith, c .before .has .ensures .1 (c .if1 .taken))
 
--- src/reads.rt:206:17
 word-at-requires : tie.Need-word-at-requires
 word-at-requires c κs = search needs
 
--- src/reads.rt:207:33
 add-word-at : tie.Need-add-word-at
 add-word-at c = omega (arith, c .before .before .has .ensures .1 (c .before .if1 .taken))
 
--- src/reads.rt:207:19
 word-at-requires-2 : tie.Need-word-at-requires-2
 word-at-requires-2 c κs = search needs
 
--- src/reads.rt:208:33
 add-word-at-2 : tie.Need-add-word-at-2
 add-word-at-2 c = omega (arith, c .before .before .before .has .ensures .1 (c .before .before .if1 .taken))
 
--- src/reads.rt:208:19
 word-at-requires-3 : tie.Need-word-at-requires-3
 word-at-requires-3 c κs = search needs
 
--- src/reads.rt:200:1
 returns : tie.Need-returns
 unfolding labelAt maxLabels labelsAt labelSize
-returns c =     let a = c .before .before .before .before .before .before .before .args in
+returns c = let a = c .before .before .before .before .before .before .before .args in
     let there : present (a .part .now) (labelCount (a .part .now)) 1024 (a .i) ≡ true = cc in
     rw there (cc)
 
--- src/reads.rt:200:1
 returns-2 : tie.Need-returns-2
 unfolding labelAt maxLabels
-returns-2 c =     let a = c .before .before .before .before .args in
+returns-2 c = let a = c .before .before .before .before .args in
     let gone : present (a .part .now) (labelCount (a .part .now)) 1024 (a .i) ≡ false = cc in
     rw gone
 

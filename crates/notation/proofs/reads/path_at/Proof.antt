@@ -1,3 +1,4 @@
+-- `reads::path_at`: by what `has` and `word_at` ensure.
 use native.Mathlib.Omega.{arith}
 use mathlib.Core.Path.{_≡_, refl, sym, ap}
 use mathlib.Core.Bool.{true, false}
@@ -7,67 +8,49 @@ use Rattle.notation.specs.Limits.{maxPaths}
 use borrow.Author.Needs.{needs}
 use Rattle.notation.proofs.reads.path_at.Statement.{statement}
 use Rattle.notation.proofs.reads.path_at.Tie as tie
-use Rattle.notation.proofs.reads.path_at.Reads as reads
-use Rattle.notation.proofs.reads.path_at.Lts as lts
-use Rattle.notation.proofs.reads.has.Reads as has-reads
-use Rattle.notation.proofs.reads.paths.Reads as paths-reads
-use Rattle.notation.proofs.reads.word_at.Reads as word-at-reads
 
--- src/reads.rt:173:18
 paths-requires : tie.Need-paths-requires
 paths-requires c κs = search needs
 
--- src/reads.rt:173:8
 has-requires : tie.Need-has-requires
 has-requires c κs = search needs
 
--- src/reads.rt:174:31
 mul-from : tie.Need-mul-from
 mul-from c = omega (arith, c .before .has .ensures .1 (c .if1 .taken))
 
--- src/reads.rt:174:20
 add-from : tie.Need-add-from
 add-from c = omega (arith, c .before .has .ensures .1 (c .if1 .taken))
 
--- src/reads.rt:176:20
 word-at-requires : tie.Need-word-at-requires
 word-at-requires c κs = search needs
 
--- src/reads.rt:177:34
 add-word-at : tie.Need-add-word-at
 add-word-at c = omega (arith, c .before .before .has .ensures .1 (c .before .if1 .taken))
 
--- src/reads.rt:177:20
 word-at-requires-2 : tie.Need-word-at-requires-2
 word-at-requires-2 c κs = search needs
 
--- src/reads.rt:178:31
 add-word-at-2 : tie.Need-add-word-at-2
 add-word-at-2 c = omega (arith, c .before .before .before .has .ensures .1 (c .before .before .if1 .taken))
 
--- src/reads.rt:178:17
 word-at-requires-3 : tie.Need-word-at-requires-3
 word-at-requires-3 c κs = search needs
 
--- src/reads.rt:179:33
 add-word-at-3 : tie.Need-add-word-at-3
 add-word-at-3 c = omega (arith, c .before .before .before .before .has .ensures .1 (c .before .before .before .if1 .taken))
 
--- src/reads.rt:179:19
 word-at-requires-4 : tie.Need-word-at-requires-4
 word-at-requires-4 c κs = search needs
 
--- src/reads.rt:169:1
 returns : tie.Need-returns
 unfolding pathAt maxPaths pathsAt pathSize
-returns c =     let a = c .before .before .before .before .before .before .before .before .args in
+returns c = let a = c .before .before .before .before .before .before .before .before .args in
     let there : present (a .part .now) (pathCount (a .part .now)) 128 (a .place .0) ≡ true = cc in
     rw there (cc)
 
--- src/reads.rt:169:1
 returns-2 : tie.Need-returns-2
 unfolding pathAt maxPaths
-returns-2 c =     let a = c .before .before .before .before .args in
+returns-2 c = let a = c .before .before .before .before .args in
     let gone : present (a .part .now) (pathCount (a .part .now)) 128 (a .place .0) ≡ false = cc in
     rw gone
 

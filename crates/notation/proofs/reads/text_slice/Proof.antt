@@ -1,3 +1,4 @@
+-- `reads::text_slice`: each test that leaves early makes the condition of `textSlice` false.
 use mathlib.Core.Path.{_≡_, refl, sym, ap}
 use Prim.Native.Nat.{ℕ, _+_, _-_, _≤_, _<_}
 use native.Mathlib.Omega.{arith}
@@ -9,64 +10,50 @@ use Rattle.notation.specs.Layout.{setSize, textAt}
 use borrow.Author.Needs.{needs}
 use Rattle.notation.proofs.reads.text_slice.Statement.{statement}
 use Rattle.notation.proofs.reads.text_slice.Tie as tie
-use Rattle.notation.proofs.reads.text_slice.Reads as reads
-use Rattle.notation.proofs.reads.text_slice.Lts as lts
 
--- src/reads.rt:216:9
 slice-aggregate-result : tie.Need-slice-aggregate-result
 slice-aggregate-result c = search needs
 
--- src/reads.rt:216:9
 returns : tie.Need-returns
 unfolding textSlice setSize
 returns c = simp (lt-leb 26122 _ (c .before .if1 .taken))
 
--- src/reads.rt:219:9
 slice-aggregate-result-2 : tie.Need-slice-aggregate-result-2
 slice-aggregate-result-2 c = search needs
 
--- src/reads.rt:219:9
 returns-2 : tie.Need-returns-2
 unfolding textSlice setSize maxSetBytes
-returns-2 c =     let a = c .before .before .before .args in
+returns-2 c = let a = c .before .before .before .args in
     let h : 16384 < a .at + a .size = omega arith in
     simp (le-leb 26122 _ (c .before .before .if1 .left), lt-leb (a .at + a .size) 16384 h)
 
--- src/reads.rt:222:9
 slice-aggregate-result-3 : tie.Need-slice-aggregate-result-3
 slice-aggregate-result-3 c = search needs
 
--- src/reads.rt:222:9
 returns-3 : tie.Need-returns-3
 unfolding textSlice setSize maxSetBytes
-returns-3 c =     let a = c .before .before .before .before .args in
+returns-3 c = let a = c .before .before .before .before .args in
     let h : 16384 < a .at + a .size = omega arith in
     simp (le-leb 26122 _ (c .before .before .before .if1 .left), lt-leb (a .at + a .size) 16384 h)
 
--- src/reads.rt:224:16
 add-from : tie.Need-add-from
 add-from c = search needs
 
--- src/reads.rt:225:14
 add-to : tie.Need-add-to
 add-to c = search needs
 
--- src/reads.rt:226:5
 sub-result : tie.Need-sub-result
 sub-result c = search needs
 
--- src/reads.rt:226:5
 part-result-start : tie.Need-part-result-start
 part-result-start c = search needs
 
--- src/reads.rt:226:5
 part-result-end : tie.Need-part-result-end
 part-result-end c = search needs
 
--- src/reads.rt:212:1
 returns-4 : tie.Need-returns-4
 unfolding textSlice setSize maxSetBytes textAt
-returns-4 c =     let a = c .before .before .before .before .args in
+returns-4 c = let a = c .before .before .before .before .args in
     let h : a .at + a .size ≤ 16384 = omega arith in
     let e : 10 + a .at + a .size - (10 + a .at) ≡ a .size = omega arith in
     rw e (simp (le-leb 26122 _ (c .before .before .before .if1 .left), le-leb (a .at + a .size) 16384 h))

@@ -1,3 +1,4 @@
+-- `reads::word_at`: the two bytes; past the end both read as 0.
 use native.Mathlib.Omega.{arith}
 use Rattle.notation.specs.Reads.{word16}
 use lib.ListN.{length, List·getD-eq-default}
@@ -5,39 +6,29 @@ use Prim.Native.Nat.{_≤_, _+_}
 use borrow.Author.Needs.{needs}
 use Rattle.notation.proofs.reads.word_at.Statement.{statement}
 use Rattle.notation.proofs.reads.word_at.Tie as tie
-use Rattle.notation.proofs.reads.word_at.Reads as reads
-use Rattle.notation.proofs.reads.word_at.Lts as lts
-use Rattle.notation.proofs.reads.byte_at.Reads as byte-at-reads
 
--- src/reads.rt:82:9
 byte-at-requires : tie.Need-byte-at-requires
 byte-at-requires c κs = search needs
 
--- src/reads.rt:82:49
 add-byte-at : tie.Need-add-byte-at
 add-byte-at c = search needs
 
--- src/reads.rt:82:35
 byte-at-requires-2 : tie.Need-byte-at-requires-2
 byte-at-requires-2 c κs = search needs
 
--- src/reads.rt:82:29
 mul-result : tie.Need-mul-result
 mul-result c = search needs
 
--- src/reads.rt:82:9
 add-result : tie.Need-add-result
 add-result c = search needs
 
--- src/reads.rt:78:1
 returns : tie.Need-returns
 unfolding word16
 returns c = omega arith
 
--- src/reads.rt:78:1
 returns-2 : tie.Need-returns-2
 unfolding word16
-returns-2 c =     let part = c .before .before .args .part .now in
+returns-2 c = let part = c .before .before .args .part .now in
     let at = c .before .before .args .at in
     let past : length part ≤ at + 1 = omega arith in
     (omega (arith, List·getD-eq-default part 0 (c .if1 .left), List·getD-eq-default part 0 past), omega arith)
