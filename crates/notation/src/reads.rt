@@ -3,6 +3,7 @@ ghost use mathlib.Core.Path.{_≡_};
 ghost use mathlib.Core.Bool.{true};
 ghost use Prim.Native.Nat.{_-_, _<_, min};
 ghost use lib.ListN.{getD};
+ghost use Rattle.notation.specs.Limits.{maxPaths};
 ghost use Rattle.notation.specs.Reads.{word16, textLen, folderCount, pathCount, stepCount, labelCount, present, pathsEnd, folderAt, pathAt, stepAt, labelAt, textSlice, textOf, pathText, labelName, folderOf};
 use crate::FolderNumber;
 use crate::PathPlace;
@@ -126,7 +127,7 @@ fn has(part: &[u8], count: usize, capacity: usize, i: usize) -> bool
 
 // Where the paths of folder `i` end.
 fn paths_end(part: &[u8], i: usize) -> usize
-    requires { ⌜ i < 128 ⌝ }
+    requires { ⌜ i < maxPaths ⌝ }
     ensures { λ r. ⌜ r ≡ pathsEnd (now (part .entry)) i ⌝ }
 {
     let next = i + 1;

@@ -31,6 +31,7 @@ word-at-requires-2 : tie.Need-word-at-requires-2
 word-at-requires-2 c κs = search needs
 
 paths-end-requires : tie.Need-paths-end-requires
+unfolding maxPaths
 paths-end-requires c κs = c .before .before .before .has .ensures .1 (c .before .before .if1 .taken)
 
 less-requires : tie.Need-less-requires
@@ -39,13 +40,13 @@ less-requires c κs = search needs
 returns : tie.Need-returns
 unfolding folderAt maxPaths foldersAt folderSize
 returns c = let a = c .before .before .before .before .before .before .before .before .args in
-    let there : present (a .part .now) (folderCount (a .part .now)) 128 (a .i) ≡ true = cc in
+    let there : present (a .part .now) (folderCount (a .part .now)) maxPaths (a .i) ≡ true = cc in
     rw there (cc)
 
 returns-2 : tie.Need-returns-2
 unfolding folderAt maxPaths
 returns-2 c = let a = c .before .before .before .before .args in
-    let gone : present (a .part .now) (folderCount (a .part .now)) 128 (a .i) ≡ false = cc in
+    let gone : present (a .part .now) (folderCount (a .part .now)) maxPaths (a .i) ≡ false = cc in
     rw gone
 
 pub folder-at-spec : {M : Type 1} → statement M

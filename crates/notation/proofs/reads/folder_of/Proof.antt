@@ -37,7 +37,7 @@ abbrev μ-loop : tie.MeasureT-loop
 
 returns : tie.Need-returns Inv-loop μ-loop
 unfolding folderOf setSize
-returns c = rw (lt-leb 26122 _ (c .if1 .taken))
+returns c = rw (lt-leb setSize _ (c .if1 .taken))
 
 folders-requires : tie.Need-folders-requires Inv-loop μ-loop
 folders-requires c κs = search needs
@@ -63,9 +63,9 @@ returns-2 c = let part = c .before .before .before .before .before .before .befo
     let number = c .before .before .before .before .before .before .before .before .args .number .0 in
     let top = c .before .before .before .before .least .result in
     let i = c .before .before .before .loop .i in
-    let t : min (folderCount part) 128 ≡ top = cc in
+    let t : min (folderCount part) maxPaths ≡ top = cc in
     let e : storedNumber part i ≡ number = cc in
-    rw (le-leb 26122 _ (c .before .before .before .before .before .before .if1 .left), t) (sym (c .before .before .before .loop .inv .1 ∙ here part number i top (c .before .before .loop-test .taken) e))
+    rw (le-leb setSize _ (c .before .before .before .before .before .before .if1 .left), t) (sym (c .before .before .before .loop .inv .1 ∙ here part number i top (c .before .before .loop-test .taken) e))
 
 add-i : tie.Need-add-i Inv-loop μ-loop
 add-i c = omega arith
@@ -88,9 +88,9 @@ returns-3 c = let part = c .before .before .before .before .before .before .args
     let number = c .before .before .before .before .before .before .args .number .0 in
     let top = c .before .before .least .result in
     let i = c .before .loop .i in
-    let t : min (folderCount part) 128 ≡ top = cc in
+    let t : min (folderCount part) maxPaths ≡ top = cc in
     let z : top - i ≡ 0 = omega arith in
-    rw (le-leb 26122 _ (c .before .before .before .before .if1 .left), t, c .before .loop .inv .1, z)
+    rw (le-leb setSize _ (c .before .before .before .before .if1 .left), t, c .before .loop .inv .1, z)
 
 pub folder-of-spec : {M : Type 1} → statement M
 folder-of-spec =

@@ -39,13 +39,13 @@ word-at-requires-3 c κs = search needs
 returns : tie.Need-returns
 unfolding labelAt maxLabels labelsAt labelSize
 returns c = let a = c .before .before .before .before .before .before .before .args in
-    let there : present (a .part .now) (labelCount (a .part .now)) 1024 (a .i) ≡ true = cc in
+    let there : present (a .part .now) (labelCount (a .part .now)) maxLabels (a .i) ≡ true = cc in
     rw there (cc)
 
 returns-2 : tie.Need-returns-2
 unfolding labelAt maxLabels
 returns-2 c = let a = c .before .before .before .before .args in
-    let gone : present (a .part .now) (labelCount (a .part .now)) 1024 (a .i) ≡ false = cc in
+    let gone : present (a .part .now) (labelCount (a .part .now)) maxLabels (a .i) ≡ false = cc in
     rw gone
 
 pub label-at-spec : {M : Type 1} → statement M

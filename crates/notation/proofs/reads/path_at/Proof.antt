@@ -45,13 +45,13 @@ word-at-requires-4 c κs = search needs
 returns : tie.Need-returns
 unfolding pathAt maxPaths pathsAt pathSize
 returns c = let a = c .before .before .before .before .before .before .before .before .args in
-    let there : present (a .part .now) (pathCount (a .part .now)) 128 (a .place .0) ≡ true = cc in
+    let there : present (a .part .now) (pathCount (a .part .now)) maxPaths (a .place .0) ≡ true = cc in
     rw there (cc)
 
 returns-2 : tie.Need-returns-2
 unfolding pathAt maxPaths
 returns-2 c = let a = c .before .before .before .before .args in
-    let gone : present (a .part .now) (pathCount (a .part .now)) 128 (a .place .0) ≡ false = cc in
+    let gone : present (a .part .now) (pathCount (a .part .now)) maxPaths (a .place .0) ≡ false = cc in
     rw gone
 
 pub path-at-spec : {M : Type 1} → statement M

@@ -11,6 +11,7 @@ use Rattle.notation.proofs.reads.paths_end.Statement.{statement}
 use Rattle.notation.proofs.reads.paths_end.Tie as tie
 
 add-next : tie.Need-add-next
+unfolding maxPaths
 add-next c = search needs
 
 folders-requires : tie.Need-folders-requires
@@ -20,12 +21,15 @@ has-requires : tie.Need-has-requires
 has-requires c κs = search needs
 
 mul-word-at : tie.Need-mul-word-at
+unfolding maxPaths
 mul-word-at c = search needs
 
 add-word-at : tie.Need-add-word-at
+unfolding maxPaths
 add-word-at c = search needs
 
 add-word-at-2 : tie.Need-add-word-at-2
+unfolding maxPaths
 add-word-at-2 c = search needs
 
 word-at-requires : tie.Need-word-at-requires
@@ -37,13 +41,13 @@ paths-requires c κs = search needs
 returns : tie.Need-returns
 unfolding pathsEnd maxPaths foldersAt folderSize
 returns c = let a = c .before .before .before .before .before .args in
-    let there : present (a .part .now) (folderCount (a .part .now)) 128 (a .i + 1) ≡ true = cc in
+    let there : present (a .part .now) (folderCount (a .part .now)) maxPaths (a .i + 1) ≡ true = cc in
     rw there (c .word-at .ensures .0)
 
 returns-2 : tie.Need-returns-2
 unfolding pathsEnd maxPaths
 returns-2 c = let a = c .before .before .before .before .before .args in
-    let gone : present (a .part .now) (folderCount (a .part .now)) 128 (a .i + 1) ≡ false = cc in
+    let gone : present (a .part .now) (folderCount (a .part .now)) maxPaths (a .i + 1) ≡ false = cc in
     rw gone (c .paths .ensures .0)
 
 pub paths-end-spec : {M : Type 1} → statement M

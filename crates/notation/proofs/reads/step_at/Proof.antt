@@ -5,6 +5,7 @@ use mathlib.Core.Bool.{true, false}
 use Rattle.notation.specs.Reads.{present, stepCount, stepAt}
 use Rattle.notation.specs.Layout.{stepsAt}
 use Rattle.notation.specs.Limits.{maxPaths, maxSteps}
+use Prim.Native.Nat.{_*_}
 use borrow.Author.Needs.{needs}
 use Rattle.notation.proofs.reads.step_at.Statement.{statement}
 use Rattle.notation.proofs.reads.step_at.Tie as tie
@@ -24,13 +25,13 @@ byte-at-requires c κs = search needs
 returns : tie.Need-returns
 unfolding stepAt maxPaths maxSteps stepsAt
 returns c = let a = c .before .before .before .before .before .args in
-    let there : present (a .part .now) (stepCount (a .part .now)) 2048 (a .i) ≡ true = cc in
+    let there : present (a .part .now) (stepCount (a .part .now)) (maxPaths * maxSteps) (a .i) ≡ true = cc in
     rw there (rw (← c .byte-at .ensures .0))
 
 returns-2 : tie.Need-returns-2
 unfolding stepAt maxPaths maxSteps
 returns-2 c = let a = c .before .before .before .before .args in
-    let gone : present (a .part .now) (stepCount (a .part .now)) 2048 (a .i) ≡ false = cc in
+    let gone : present (a .part .now) (stepCount (a .part .now)) (maxPaths * maxSteps) (a .i) ≡ false = cc in
     rw gone
 
 pub step-at-spec : {M : Type 1} → statement M

@@ -16,7 +16,7 @@ slice-aggregate-result c = search needs
 
 returns : tie.Need-returns
 unfolding textSlice setSize
-returns c = simp (lt-leb 26122 _ (c .before .if1 .taken))
+returns c = simp (lt-leb setSize _ (c .before .if1 .taken))
 
 slice-aggregate-result-2 : tie.Need-slice-aggregate-result-2
 slice-aggregate-result-2 c = search needs
@@ -24,8 +24,8 @@ slice-aggregate-result-2 c = search needs
 returns-2 : tie.Need-returns-2
 unfolding textSlice setSize maxSetBytes
 returns-2 c = let a = c .before .before .before .args in
-    let h : 16384 < a .at + a .size = omega arith in
-    simp (le-leb 26122 _ (c .before .before .if1 .left), lt-leb (a .at + a .size) 16384 h)
+    let h : maxSetBytes < a .at + a .size = omega arith in
+    simp (le-leb setSize _ (c .before .before .if1 .left), lt-leb (a .at + a .size) maxSetBytes h)
 
 slice-aggregate-result-3 : tie.Need-slice-aggregate-result-3
 slice-aggregate-result-3 c = search needs
@@ -33,8 +33,8 @@ slice-aggregate-result-3 c = search needs
 returns-3 : tie.Need-returns-3
 unfolding textSlice setSize maxSetBytes
 returns-3 c = let a = c .before .before .before .before .args in
-    let h : 16384 < a .at + a .size = omega arith in
-    simp (le-leb 26122 _ (c .before .before .before .if1 .left), lt-leb (a .at + a .size) 16384 h)
+    let h : maxSetBytes < a .at + a .size = omega arith in
+    simp (le-leb setSize _ (c .before .before .before .if1 .left), lt-leb (a .at + a .size) maxSetBytes h)
 
 add-from : tie.Need-add-from
 add-from c = search needs
@@ -54,9 +54,9 @@ part-result-end c = search needs
 returns-4 : tie.Need-returns-4
 unfolding textSlice setSize maxSetBytes textAt
 returns-4 c = let a = c .before .before .before .before .args in
-    let h : a .at + a .size ≤ 16384 = omega arith in
+    let h : a .at + a .size ≤ maxSetBytes = omega arith in
     let e : 10 + a .at + a .size - (10 + a .at) ≡ a .size = omega arith in
-    rw e (simp (le-leb 26122 _ (c .before .before .before .if1 .left), le-leb (a .at + a .size) 16384 h))
+    rw e (simp (le-leb setSize _ (c .before .before .before .if1 .left), le-leb (a .at + a .size) maxSetBytes h))
 
 pub text-slice-spec : {M : Type 1} → statement M
 text-slice-spec =
