@@ -1,2 +1,3 @@
 pub mod Stands
 pub mod Entries
+pub mod Sections
