@@ -44,8 +44,12 @@ unfolding pathsOf
 paths-between [] i h = absurd (not-suc-le-zero h)
 paths-between (f ∷ fs) zero h = rw append-nil (zero-add (length (folderPaths f)))
 paths-between (f ∷ fs) (suc i) h =
-    omega (arith, paths-between fs i (le-of-suc-le-suc h), length-append (folderPaths f) (pathsOf (take i fs)),
-    length-append (folderPaths f) (pathsOf (take (suc i) fs)))
+    omega (
+      arith,
+      paths-between fs i (le-of-suc-le-suc h),
+      length-append (folderPaths f) (pathsOf (take i fs)),
+      length-append (folderPaths f) (pathsOf (take (suc i) fs)),
+    )
 
 pub paths-before-all : (s : FolderSet) (i : ℕ) → length s ≤ i → pathsBefore s i ≡ length (pathsOf s)
 paths-before-all s i h = rw (take-all i s h)

@@ -1,15 +1,16 @@
 -- The path table of a set: entry i has the count of steps before path i, its own count of steps, and where its text stands.
 use Prim.Native.Nat.{ℕ, zero, suc, _+_, _≤_, _<_}
 use mathlib.Core.Path.{_≡_, refl, sym, ap, _∙_}
-use mathlib.Core.List.{List, [], _∷_, _++_, append-nil, append-assoc}
-use native.Mathlib.Nat.{zero-add, add-zero, add-assoc, not-suc-le-zero, le-of-suc-le-suc}
+use mathlib.Core.List.{List, [], _∷_, _++_}
+use native.Mathlib.Nat.{add-zero, add-assoc, not-suc-le-zero, le-of-suc-le-suc}
 use native.Mathlib.Omega.{arith}
 use lib.ListN.{length, getD, take, length-append}
 use Rattle.notation.specs.Sets.{Path, Folder, folder, FolderSet}
 use Rattle.notation.specs.Form.{pathsOf, stepsOf}
-use Rattle.notation.specs.Print.{decimal, folderWord, header, footer, printPath, printPaths, printFolder, printFolders, print}
+use Rattle.notation.specs.Print.{printPath, printPaths, printFolder, printFolders, print}
 use Rattle.notation.specs.Layout.{pathSize, pathEntry, pathTable, afterNumber, setPaths}
-use Rattle.notation.proofs.Laws.Stands.{Stands, itself, left, right}
+use Rattle.notation.proofs.Laws.Stands.{Stands}
+use Rattle.notation.proofs.Laws.Placed.{path-in, paths-past, line-paths, lines-past, lines-in}
 use Rattle.notation.proofs.Laws.Entries.{OfWidth, none, more}
 
 -- the entries of some paths; `first` steps stand before them
@@ -53,27 +54,27 @@ rows-append {text} {first} {qs = qs} {fs = fs} (row {p} {ps} at s r) t =
 
 -- the paths of a line
 line-rows : {text : List ℕ} (at first : ℕ) (ps : List Path) → Stands at (printPaths ps) text → PathRows text first ps (pathTable at first ps)
-unfolding printPaths pathTable
+unfolding pathTable
 line-rows at first [] s = empty
-line-rows {text} at first (p ∷ ps) s =
-    let inside : Stands (at + 2) (printPath p ++ 41 ∷ printPaths ps) text = right (32 ∷ 40 ∷ []) (printPath p ++ 41 ∷ printPaths ps) at (at + 2) refl s in
-    let past : Stands (at + (length (printPath p) + 3)) (printPaths ps) text =
-      right (41 ∷ []) (printPaths ps) (at + 2 + length (printPath p)) (at + (length (printPath p) + 3)) (omega arith)
-      (right (printPath p) (41 ∷ printPaths ps) (at + 2) (at + 2 + length (printPath p)) refl inside) in
-    row (at + 2) (left (printPath p) (41 ∷ printPaths ps) inside) (line-rows (at + (length (printPath p) + 3)) (first + length p) ps past)
+line-rows at first (p ∷ ps) s =
+    row (at + 2) (path-in at p ps s)
+    (line-rows (at + (length (printPath p) + 3)) (first + length p) ps (paths-past at p ps s))
 
 lines-rows : {text : List ℕ} (at first : ℕ) (fs : FolderSet) → Stands at (printFolders fs) text → PathRows text first (pathsOf fs) (setPaths at first fs)
-unfolding printFolders printFolder pathsOf setPaths folderWord
+unfolding pathsOf setPaths
 lines-rows at first [] s = empty
-lines-rows {text} at first (folder n ps ∷ fs) s =
-    let line : Stands at (printFolder (folder n ps)) text = left (printFolder (folder n ps)) (printFolders fs) s in
-    let number : Stands (at + 8) (decimal n ++ (printPaths ps ++ footer)) text = right folderWord (decimal n ++ (printPaths ps ++ footer)) at (at + 8) refl line in
-    let paths : Stands (afterNumber at n) (printPaths ps ++ footer) text =
-      right (decimal n) (printPaths ps ++ footer) (at + 8) (afterNumber at n) (omega arith) number in
-    rows-append (line-rows (afterNumber at n) first ps (left (printPaths ps) footer paths))
-    (lines-rows (at + length (printFolder (folder n ps))) (first + length (stepsOf ps)) fs (right (printFolder (folder n ps)) (printFolders fs) at (at + length (printFolder (folder n ps))) refl s))
+lines-rows at first (folder n ps ∷ fs) s =
+    rows-append (line-rows (afterNumber at n) first ps (line-paths at n ps fs s))
+    (lines-rows (at + length (printFolder (folder n ps))) (first + length (stepsOf ps)) fs (lines-past at (folder n ps) fs s))
 
 -- the path table of a set
 pub path-rows : (s : FolderSet) → PathRows (print s) 0 (pathsOf s) (setPaths 9 0 s)
-unfolding print header
-path-rows s = lines-rows 9 0 s (record { before = header; after = []; split = sym (ap (λ (l : List ℕ). header ++ l) (append-nil (printFolders s))); size = refl })
+path-rows s = lines-rows 9 0 s (lines-in s)
+
+-- the steps of the first i paths, and path i with them
+pub steps-through : (ps : List Path) (i : ℕ) → i < length ps → stepsBefore ps i + length (getD ps i []) ≤ length (stepsOf ps)
+unfolding stepsOf
+steps-through [] i h = absurd (not-suc-le-zero h)
+steps-through (p ∷ ps) zero h = omega (arith, length-append p (stepsOf ps))
+steps-through (p ∷ ps) (suc i) h =
+    omega (arith, steps-through ps i (le-of-suc-le-suc h), length-append p (stepsOf (take i ps)), length-append p (stepsOf ps))

@@ -66,11 +66,18 @@ module _ (text : List ℕ) (t : Tables) (f : Roomy text t) where
   pub layout-length : length (layout text t) ≡ setSize
   unfolding layout setSize maxSetBytes folderSize pathSize labelSize maxPaths maxSteps maxLabels
   layout-length =
-      omega (arith, text-size, folders-size, paths-size, steps-size, labels-size,
-      length-append (text' text) (folders' t ++ (paths' t ++ (steps' t ++ labels' t))),
-      length-append (folders' t) (paths' t ++ (steps' t ++ labels' t)),
-      length-append (paths' t) (steps' t ++ labels' t),
-      length-append (steps' t) (labels' t))
+      omega (
+        arith,
+        text-size,
+        folders-size,
+        paths-size,
+        steps-size,
+        labels-size,
+        length-append (text' text) (folders' t ++ (paths' t ++ (steps' t ++ labels' t))),
+        length-append (folders' t) (paths' t ++ (steps' t ++ labels' t)),
+        length-append (paths' t) (steps' t ++ labels' t),
+        length-append (steps' t) (labels' t),
+      )
 
   module _ (rest : List ℕ) where
     pub counts-stand : Stands 0 (counts text t) (layout text t ++ rest)
