@@ -5,3 +5,5 @@ pub mod Placed
 pub mod FolderTable
 pub mod PathTable
 pub mod LabelTable
+pub mod Fitting
+pub mod Words

@@ -5,6 +5,7 @@ use mathlib.Core.List.{List, [], _∷_}
 use lib.Dec.{leb, ltb, eqb}
 use lib.ListN.{length, getD, take, drop}
 use Rattle.notation.specs.Limits.{maxSetBytes, maxPaths, maxSteps, maxLabels}
+use Rattle.notation.specs.Sets.{Axis, child, descendant, Test, label, star}
 use Rattle.notation.specs.Layout.{folderSize, pathSize, labelSize, textAt, foldersAt, pathsAt, stepsAt, labelsAt, setSize}
 use Rattle.notation.specs.declared.FolderNumber.{FolderNumber}
 use Rattle.notation.specs.declared.PathPlace.{PathPlace}
@@ -75,6 +76,15 @@ pathAt part place =
     cond (present part (pathCount part) maxPaths (place .0))
     (PathAt.Path (word16 part at) (word16 part (at + 2)) (word16 part (at + 4)) (word16 part (at + 6)))
     PathAt.Missing
+
+-- what a step's entry says of its axis and its test
+abbrev pub isDescendant : Axis → Bool
+isDescendant child = false
+isDescendant descendant = true
+
+abbrev pub isStar : Test → Bool
+isStar (label n) = false
+isStar star = true
 
 -- the lowest bit is 1 for `//`, the next for `*`
 unfoldable pub stepAt : List ℕ → ℕ → StepAt

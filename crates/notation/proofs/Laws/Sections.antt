@@ -46,6 +46,20 @@ steps' t = padded (maxPaths * maxSteps) (joined (t .steps))
 abbrev labels' : Tables → List ℕ
 labels' t = padded (labelSize * maxLabels) (joined (t .labels))
 
+-- the counts and the text stand at their places in any layout
+module _ (text : List ℕ) (t : Tables) (rest : List ℕ) where
+  pub counts-stand : Stands 0 (counts text t) (layout text t ++ rest)
+  unfolding layout
+  counts-stand = left (counts text t) _ (itself (layout text t) rest)
+
+  from-text : Stands textAt (text' text ++ (folders' t ++ (paths' t ++ (steps' t ++ labels' t)))) (layout text t ++ rest)
+  unfolding layout textAt
+  from-text = right (counts text t) _ 0 textAt refl (itself (layout text t) rest)
+
+  pub text-stands : Stands textAt text (layout text t ++ rest)
+  unfolding padded
+  text-stands = left text _ (left (text' text) _ from-text)
+
 module _ (text : List ℕ) (t : Tables) (f : Roomy text t) where
   text-size : length (text' text) ≡ maxSetBytes
   text-size = padded-length maxSetBytes text (f .bytes)
@@ -80,17 +94,9 @@ module _ (text : List ℕ) (t : Tables) (f : Roomy text t) where
       )
 
   module _ (rest : List ℕ) where
-    pub counts-stand : Stands 0 (counts text t) (layout text t ++ rest)
-    unfolding layout
-    counts-stand = left (counts text t) _ (itself (layout text t) rest)
-
-    from-text : Stands textAt (text' text ++ (folders' t ++ (paths' t ++ (steps' t ++ labels' t)))) (layout text t ++ rest)
-    unfolding layout textAt
-    from-text = right (counts text t) _ 0 textAt refl (itself (layout text t) rest)
-
     from-folders : Stands foldersAt (folders' t ++ (paths' t ++ (steps' t ++ labels' t))) (layout text t ++ rest)
     unfolding foldersAt
-    from-folders = right (text' text) _ textAt foldersAt (rw text-size) from-text
+    from-folders = right (text' text) _ textAt foldersAt (rw text-size) (from-text text t rest)
 
     from-paths : Stands pathsAt (paths' t ++ (steps' t ++ labels' t)) (layout text t ++ rest)
     unfolding pathsAt
@@ -103,10 +109,6 @@ module _ (text : List ℕ) (t : Tables) (f : Roomy text t) where
     from-labels : Stands labelsAt (labels' t) (layout text t ++ rest)
     unfolding labelsAt
     from-labels = right (steps' t) _ stepsAt labelsAt (rw steps-size) from-steps
-
-    pub text-stands : Stands textAt text (layout text t ++ rest)
-    unfolding padded
-    text-stands = left text _ (left (text' text) _ from-text)
 
     pub folders-stand : Stands foldersAt (joined (t .folders)) (layout text t ++ rest)
     unfolding padded
