@@ -7,3 +7,4 @@ pub mod PathTable
 pub mod LabelTable
 pub mod Fitting
 pub mod Words
+pub mod Reads
