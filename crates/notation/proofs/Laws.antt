@@ -8,3 +8,5 @@ pub mod LabelTable
 pub mod Fitting
 pub mod Words
 pub mod Reads
+pub mod ReadSteps
+pub mod ReadFolders

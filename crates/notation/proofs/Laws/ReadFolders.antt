@@ -1,0 +1,73 @@
+-- On the bytes of a set, a folder is read as its number, the count of paths before it, and its own count of paths.
+use Prim.Native.Nat.{ℕ, zero, suc, _+_, _-_, _*_, _/_, _%_, _≤_, _<_, zero-le}
+use mathlib.Core.Path.{_≡_, refl, sym, ap, _∙_}
+use mathlib.Core.Bool.{Bool, true, false}
+use mathlib.Core.List.{List, [], _∷_, _++_, map, append-nil}
+use native.Mathlib.Nat.{zero-add, add-zero, not-suc-le-zero, le-of-suc-le-suc}
+use native.Mathlib.Numerals.{add-one}
+use native.Mathlib.Omega.{arith}
+use borrow.Author.Tests.{lt-ltb, le-ltb, le-leb, lt-leb, ltb-true, ltb-false}
+use lib.Dec.{ltb, eqb}
+use lib.ListN.{length, getD, take, length-append, length-map}
+use Rattle.notation.specs.Limits.{maxSetBytes, maxNumber, maxPaths, maxSteps, maxLabels}
+use Rattle.notation.specs.Sets.{Axis, child, descendant, Test, label, star, Step, step, Path, FolderSet, axisOf, testOf, folderNumber, folderPaths}
+use Rattle.notation.specs.Form.{pathsOf, stepsOf, labelsOf}
+use Rattle.notation.specs.Print.{print, printPath}
+use Rattle.notation.specs.Layout.{le16, textAt, folderSize, pathSize, labelSize, foldersAt, pathsAt, stepsAt, labelsAt, setSize, joined, stepEntry, folderEntry, pathEntry, labelEntry, folderTable, setPaths, setLabels, tablesOf, setPart}
+use Rattle.notation.specs.Reads.{word16, textLen, folderCount, pathCount, stepCount, labelCount, present, folderPlace, pathPlace, labelPlace, storedNumber, storedFirst, pathsEnd, folderAt, pathAt, stepAt, labelAt, isDescendant, isStar, textSlice, textOf, pathText, labelName}
+use Rattle.notation.specs.declared.reads.FolderAt.{FolderAt}
+use Rattle.notation.specs.declared.reads.PathAt.{PathAt}
+use Rattle.notation.specs.declared.reads.StepAt.{StepAt}
+use Rattle.notation.specs.declared.reads.LabelAt.{LabelAt}
+use Rattle.notation.proofs.Laws.Stands.{Stands, left, right, inner, read, slice, fits}
+use Rattle.notation.proofs.Laws.Entries.{entry}
+use Rattle.notation.proofs.Laws.Sections.{layout-length, counts-stand, text-stands, folders-stand, paths-stand, steps-stand, labels-stand}
+use Rattle.notation.proofs.Laws.FolderTable.{noFolder, pathsBefore, folder-count, folder-row, paths-between, paths-before-all, paths-before-most}
+use Rattle.notation.proofs.Laws.PathTable.{PathRow, stepsBefore, path-rows, rows-count, rows-at, steps-through}
+use Rattle.notation.proofs.Laws.LabelTable.{LabelRow, noStep, label-rows, label-count, label-at}
+use Rattle.notation.proofs.Laws.Fitting.{Fitting, roomy}
+use Rattle.notation.proofs.Laws.Words.{word-read, read-first, read-second, read-third, read-fourth, read-fifth}
+use Rattle.notation.proofs.Laws.Reads.{allSteps, folders-read, paths-read, steps-read, labels-read, whole, there, gone, text-piece}
+
+cases : {X : Type 0} (b : Bool) → (b ≡ true → X) → (b ≡ false → X) → X
+cases true y n = y refl
+cases false y n = n refl
+
+module _ (s : FolderSet) (f : Fitting s) (rest : List ℕ) where
+  -- a folder's number, the count of paths before it, and its count of paths
+  folder-stands : (i : ℕ) → i < length s → Stands (folderPlace i) (folderEntry (folderNumber (getD s i noFolder)) (pathsBefore s i)) (setPart s ++ rest)
+  unfolding setPart tablesOf
+  folder-stands i h =
+      let k : i < length (folderTable 0 s) = rw (folder-count 0 s) h in
+      let e : folderEntry (folderNumber (getD s i noFolder)) (pathsBefore s i) ≡ getD (folderTable 0 s) i [] =
+        rw (folder-row 0 s i h, zero-add) in
+      rw e (entry i (roomy s f .folderWidth) k (folders-stand (print s) (tablesOf s) (roomy s f) rest))
+
+  number-read : (i : ℕ) → i < length s → storedNumber (setPart s ++ rest) i ≡ folderNumber (getD s i noFolder)
+  unfolding maxNumber
+  number-read i h =
+      word-read (folderNumber (getD s i noFolder)) (folderPlace i) (omega (arith, f .numbers i h))
+      (left (le16 (folderNumber (getD s i noFolder))) (le16 (pathsBefore s i)) (folder-stands i h))
+
+  first-read : (i : ℕ) → i < length s → storedFirst (setPart s ++ rest) i ≡ pathsBefore s i
+  unfolding maxPaths
+  first-read i h =
+      word-read (pathsBefore s i) (folderPlace i + 2) (omega (arith, paths-before-most s i, f .paths))
+      (right (le16 (folderNumber (getD s i noFolder))) (le16 (pathsBefore s i)) (folderPlace i) (folderPlace i + 2) refl (folder-stands i h))
+
+  end-read : (i : ℕ) → i < length s → pathsEnd (setPart s ++ rest) i ≡ pathsBefore s (suc i)
+  unfolding pathsEnd
+  end-read i h = rw ((folders-read s f rest), add-one) (cases (ltb (suc i) (length s))
+      (λ e. let k : suc i < length s = ltb-true (suc i) (length s) e in
+        let c : suc i < maxPaths = omega (arith, f .folders) in
+        rw (there s f rest (length s) maxPaths (suc i) k c) (first-read (suc i) k))
+      (λ e. let k : length s ≤ suc i = ltb-false (suc i) (length s) e in
+        rw (gone s f rest (length s) maxPaths (suc i) k, (paths-read s f rest)) (sym (paths-before-all s (suc i) k))))
+
+  pub folder-read : (i : ℕ) → i < length s
+      → folderAt (setPart s ++ rest) i ≡ FolderAt.Folder (record { 0 = folderNumber (getD s i noFolder) }) (record { 0 = pathsBefore s i }) (length (folderPaths (getD s i noFolder)))
+  unfolding folderAt
+  folder-read i h =
+      let k : i < maxPaths = omega (arith, f .folders) in
+      let n : pathsBefore s (suc i) - pathsBefore s i ≡ length (folderPaths (getD s i noFolder)) = omega (arith, paths-between s i h) in
+      rw ((folders-read s f rest), there s f rest (length s) maxPaths i h k, number-read i h, first-read i h, end-read i h, n)
