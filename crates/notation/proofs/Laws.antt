@@ -10,3 +10,4 @@ pub mod Words
 pub mod Reads
 pub mod ReadSteps
 pub mod ReadFolders
+pub mod ReadPaths
