@@ -1,7 +1,7 @@
 -- A table is its entries, all of one width, one after the other: entry i of a table that stands at a place stands i widths further on.
 use Prim.Native.Nat.{ℕ, zero, suc, _+_, _*_, _≤_, _<_}
 use mathlib.Core.Path.{_≡_, refl, sym, ap, _∙_}
-use mathlib.Core.List.{List, [], _∷_, _++_}
+use mathlib.Core.List.{List, [], _∷_, _++_, map}
 use native.Mathlib.Nat.{add-zero, mul-zero, mul-suc, not-suc-le-zero, le-of-suc-le-suc}
 use native.Mathlib.Omega.{arith}
 use lib.ListN.{length, getD, length-append}
@@ -15,6 +15,17 @@ pub data OfWidth (w : ℕ) : List (List ℕ) → Type 0 where
 pub width-append : {w : ℕ} {es fs : List (List ℕ)} → OfWidth w es → OfWidth w fs → OfWidth w (es ++ fs)
 width-append none g = g
 width-append (more h o) g = more h (width-append o g)
+
+-- entries made by one function
+module _ {A : Type 0} (g : A → List ℕ) where
+  pub map-width : (w : ℕ) → ((a : A) → length (g a) ≡ w) → (l : List A) → OfWidth w (map g l)
+  map-width w h [] = none
+  map-width w h (a ∷ l) = more (h a) (map-width w h l)
+
+  pub map-at : (d : A) (l : List A) (i : ℕ) → i < length l → getD (map g l) i [] ≡ g (getD l i d)
+  map-at d [] i h = absurd (not-suc-le-zero h)
+  map-at d (a ∷ l) zero h = refl
+  map-at d (a ∷ l) (suc i) h = map-at d l i (le-of-suc-le-suc h)
 
 pub joined-length : {w : ℕ} {es : List (List ℕ)} → OfWidth w es → length (joined es) ≡ w * length es
 unfolding joined

@@ -10,7 +10,7 @@ use Rattle.notation.specs.Sets.{Step, step, FolderSet, folderNumber}
 use Rattle.notation.specs.Form.{pathsOf, stepsOf, labelsOf}
 use Rattle.notation.specs.Print.{print}
 use Rattle.notation.specs.Layout.{Tables, stepEntry, folderTable, setPaths, setLabels, tablesOf, layout, setPart}
-use Rattle.notation.proofs.Laws.Entries.{OfWidth, none, more}
+use Rattle.notation.proofs.Laws.Entries.{map-width}
 use Rattle.notation.proofs.Laws.Sections.{Roomy}
 use Rattle.notation.proofs.Laws.FolderTable.{noFolder, folder-width, folder-count}
 use Rattle.notation.proofs.Laws.PathTable.{path-rows, rows-width, rows-count}
@@ -24,9 +24,8 @@ pub record Fitting (s : FolderSet) : Type 0 where
   pub labels : length (labelsOf (stepsOf (pathsOf s))) ≤ maxLabels
   pub numbers : (i : ℕ) → i < length s → folderNumber (getD s i noFolder) ≤ maxNumber
 
-step-width : (ss : List Step) → OfWidth 1 (map stepEntry ss)
-step-width [] = none
-step-width (step a t ∷ ss) = more refl (step-width ss)
+pub one-byte : (x : Step) → length (stepEntry x) ≡ 1
+one-byte (step a t) = refl
 
 -- its tables fit their room
 pub roomy : (s : FolderSet) → Fitting s → Roomy (print s) (tablesOf s)
@@ -39,6 +38,6 @@ roomy s f = record {
   labels = rw (label-count (label-rows s)) (f .labels);
   folderWidth = folder-width 0 s;
   pathWidth = rows-width (path-rows s);
-  stepWidth = step-width (stepsOf (pathsOf s));
+  stepWidth = map-width stepEntry 1 one-byte (stepsOf (pathsOf s));
   labelWidth = label-width (label-rows s);
 }

@@ -26,7 +26,7 @@ use Rattle.notation.proofs.Laws.FolderTable.{noFolder, pathsBefore, fol
 use Rattle.notation.proofs.Laws.PathTable.{PathRow, stepsBefore, path-rows, rows-count, rows-at, steps-through}
 use Rattle.notation.proofs.Laws.LabelTable.{LabelRow, noStep, label-rows, label-count, label-at}
 use Rattle.notation.proofs.Laws.Fitting.{Fitting, roomy}
-use Rattle.notation.proofs.Laws.Words.{word-read, read-first, read-second, read-third, read-fourth, read-fifth}
+use Rattle.notation.proofs.Laws.Words.{words-read, words-head}
 use Rattle.notation.proofs.Laws.Reads.{allSteps, folders-read, paths-read, steps-read, labels-read, whole, there, gone, text-piece}
 
 cases : {X : Type 0} (b : Bool) → (b ≡ true → X) → (b ≡ false → X) → X
@@ -40,29 +40,28 @@ module _ (s : FolderSet) (f : Fitting s) (rest : List ℕ) where
   folder-stands i h =
       let k : i < length (folderTable 0 s) = rw (folder-count 0 s) h in
       let e : folderEntry (folderNumber (getD s i noFolder)) (pathsBefore s i) ≡ getD (folderTable 0 s) i [] =
-        rw (folder-row 0 s i h, zero-add) in
+      rw (folder-row 0 s i h, zero-add) in
       rw e (entry i (roomy s f .folderWidth) k (folders-stand (print s) (tablesOf s) (roomy s f) rest))
 
   number-read : (i : ℕ) → i < length s → storedNumber (setPart s ++ rest) i ≡ folderNumber (getD s i noFolder)
-  unfolding maxNumber
+  unfolding maxNumber joined
   number-read i h =
-      word-read (folderNumber (getD s i noFolder)) (folderPlace i) (omega (arith, f .numbers i h))
-      (left (le16 (folderNumber (getD s i noFolder))) (le16 (pathsBefore s i)) (folder-stands i h))
+      words-head (folderPlace i) (folderNumber (getD s i noFolder)) (pathsBefore s i ∷ []) (omega (arith, f .numbers i h)) (folder-stands i h)
 
   first-read : (i : ℕ) → i < length s → storedFirst (setPart s ++ rest) i ≡ pathsBefore s i
-  unfolding maxPaths
+  unfolding maxPaths joined
   first-read i h =
-      word-read (pathsBefore s i) (folderPlace i + 2) (omega (arith, paths-before-most s i, f .paths))
-      (right (le16 (folderNumber (getD s i noFolder))) (le16 (pathsBefore s i)) (folderPlace i) (folderPlace i + 2) refl (folder-stands i h))
+      words-read (folderPlace i) (folderNumber (getD s i noFolder) ∷ pathsBefore s i ∷ []) 1 (omega arith)
+      (omega (arith, paths-before-most s i, f .paths)) (folder-stands i h)
 
   end-read : (i : ℕ) → i < length s → pathsEnd (setPart s ++ rest) i ≡ pathsBefore s (suc i)
   unfolding pathsEnd
   end-read i h = rw ((folders-read s f rest), add-one) (cases (ltb (suc i) (length s))
       (λ e. let k : suc i < length s = ltb-true (suc i) (length s) e in
-        let c : suc i < maxPaths = omega (arith, f .folders) in
-        rw (there s f rest (length s) maxPaths (suc i) k c) (first-read (suc i) k))
+      let c : suc i < maxPaths = omega (arith, f .folders) in
+      rw (there s f rest (length s) maxPaths (suc i) k c) (first-read (suc i) k))
       (λ e. let k : length s ≤ suc i = ltb-false (suc i) (length s) e in
-        rw (gone s f rest (length s) maxPaths (suc i) k, (paths-read s f rest)) (sym (paths-before-all s (suc i) k))))
+      rw (gone s f rest (length s) maxPaths (suc i) k, (paths-read s f rest)) (sym (paths-before-all s (suc i) k))))
 
   pub folder-read : (i : ℕ) → i < length s
       → folderAt (setPart s ++ rest) i ≡ FolderAt.Folder (record { 0 = folderNumber (getD s i noFolder) }) (record { 0 = pathsBefore s i }) (length (folderPaths (getD s i noFolder)))

@@ -26,7 +26,7 @@ use Rattle.notation.proofs.Laws.FolderTable.{noFolder, pathsBefore, fol
 use Rattle.notation.proofs.Laws.PathTable.{PathRow, stepsBefore, path-rows, rows-count, rows-at, steps-through}
 use Rattle.notation.proofs.Laws.LabelTable.{LabelRow, noStep, label-rows, label-count, label-at}
 use Rattle.notation.proofs.Laws.Fitting.{Fitting, roomy}
-use Rattle.notation.proofs.Laws.Words.{word-read, read-first, read-second, read-third, read-fourth, read-fifth}
+use Rattle.notation.proofs.Laws.Words.{words, words-read, words-head}
 use Rattle.notation.proofs.Laws.Reads.{allSteps, folders-read, paths-read, steps-read, labels-read, whole, there, gone, text-piece}
 
 -- path i's entry and text
@@ -47,39 +47,6 @@ pub record LabelRead (part : List ℕ) (text : List ℕ) (ss : List Step) (i : �
   pub test : testOf (getD ss index noStep) ≡ label n
   pub nth : length (labelsOf (take index ss)) ≡ i
 
--- the numbers of an entry
-module _ {part : List ℕ} (place a b c d : ℕ) (s : Stands place (le16 a ++ (le16 b ++ (le16 c ++ le16 d))) part) where
-  word-1 : a < 65536 → word16 part place ≡ a
-  word-1 h = word-read a place h (left (le16 a) (le16 b ++ (le16 c ++ le16 d)) s)
-
-  second : Stands (place + 2) (le16 b ++ (le16 c ++ le16 d)) part
-  second = right (le16 a) (le16 b ++ (le16 c ++ le16 d)) place (place + 2) refl s
-
-  word-2 : b < 65536 → word16 part (place + 2) ≡ b
-  word-2 h = word-read b (place + 2) h (left (le16 b) (le16 c ++ le16 d) second)
-
-  third : Stands (place + 4) (le16 c ++ le16 d) part
-  third = right (le16 b) (le16 c ++ le16 d) (place + 2) (place + 4) (omega arith) second
-
-  word-3 : c < 65536 → word16 part (place + 4) ≡ c
-  word-3 h = word-read c (place + 4) h (left (le16 c) (le16 d) third)
-
-  word-4 : d < 65536 → word16 part (place + 6) ≡ d
-  word-4 h = word-read d (place + 6) h (right (le16 c) (le16 d) (place + 4) (place + 6) (omega arith) third)
-
-module _ {part : List ℕ} (place a b c : ℕ) (s : Stands place (le16 a ++ (le16 b ++ le16 c)) part) where
-  word-a : a < 65536 → word16 part place ≡ a
-  word-a h = word-read a place h (left (le16 a) (le16 b ++ le16 c) s)
-
-  after-a : Stands (place + 2) (le16 b ++ le16 c) part
-  after-a = right (le16 a) (le16 b ++ le16 c) place (place + 2) refl s
-
-  word-b : b < 65536 → word16 part (place + 2) ≡ b
-  word-b h = word-read b (place + 2) h (left (le16 b) (le16 c) after-a)
-
-  word-c : c < 65536 → word16 part (place + 4) ≡ c
-  word-c h = word-read c (place + 4) h (right (le16 b) (le16 c) (place + 2) (place + 4) (omega arith) after-a)
-
 module _ (s : FolderSet) (f : Fitting s) (rest : List ℕ) where
   path-row : (i : ℕ) → i < length (pathsOf s) → PathRow (print s) (stepsBefore (pathsOf s) i) (getD (pathsOf s) i []) (getD (setPaths 9 0 s) i [])
   path-row i h = rw zero-add at (rows-at (path-rows s) i h)
@@ -92,7 +59,7 @@ module _ (s : FolderSet) (f : Fitting s) (rest : List ℕ) where
 
   path-answer : (i : ℕ) (h : i < length (pathsOf s)) (r : PathRow (print s) (stepsBefore (pathsOf s) i) (getD (pathsOf s) i []) (getD (setPaths 9 0 s) i []))
       → pathAt (setPart s ++ rest) (record { 0 = i }) ≡ PathAt.Path (stepsBefore (pathsOf s) i) (length (getD (pathsOf s) i [])) (r .at) (length (printPath (getD (pathsOf s) i [])))
-  unfolding pathAt maxSetBytes maxSteps maxPaths
+  unfolding pathAt maxSetBytes maxSteps maxPaths joined
   path-answer i h r =
       let first = stepsBefore (pathsOf s) i in
       let count = length (getD (pathsOf s) i []) in
@@ -101,11 +68,14 @@ module _ (s : FolderSet) (f : Fitting s) (rest : List ℕ) where
       let k : i < maxPaths = omega (arith, f .paths) in
       let u : first + count ≤ length (allSteps s) = steps-through (pathsOf s) i h in
       let v : r .at + size ≤ length (print s) = fits (r .stands) in
-      rw (paths-read s f rest, there s f rest (length (pathsOf s)) maxPaths i h k,
-      word-1 (pathPlace i) first count (r .at) size e (omega (arith, u, f .steps)),
-      word-2 (pathPlace i) first count (r .at) size e (omega (arith, u, f .steps)),
-      word-3 (pathPlace i) first count (r .at) size e (omega (arith, v, f .bytes)),
-      word-4 (pathPlace i) first count (r .at) size e (omega (arith, v, f .bytes)))
+      rw (
+        paths-read s f rest,
+        there s f rest (length (pathsOf s)) maxPaths i h k,
+        words-head (pathPlace i) first (count ∷ r .at ∷ size ∷ []) (omega (arith, u, f .steps)) e,
+        words-read (pathPlace i) (first ∷ count ∷ r .at ∷ size ∷ []) 1 (omega arith) (omega (arith, u, f .steps)) e,
+        words-read (pathPlace i) (first ∷ count ∷ r .at ∷ size ∷ []) 2 (omega arith) (omega (arith, v, f .bytes)) e,
+        words-read (pathPlace i) (first ∷ count ∷ r .at ∷ size ∷ []) 3 (omega arith) (omega (arith, v, f .bytes)) e,
+      )
 
   -- the count of steps before path i, its count of steps, and its text
   pub path-read : (i : ℕ) → i < length (pathsOf s) → PathRead (setPart s ++ rest) (print s) i (stepsBefore (pathsOf s) i) (getD (pathsOf s) i [])
@@ -126,17 +96,20 @@ module _ (s : FolderSet) (f : Fitting s) (rest : List ℕ) where
 
   label-answer : (i : ℕ) (h : i < length (labelsOf (allSteps s))) (r : LabelRow (print s) 0 (allSteps s) i (getD (labelsOf (allSteps s)) i []) (getD (setLabels 9 0 s) i []))
       → labelAt (setPart s ++ rest) i ≡ LabelAt.Label (r .at) (length (getD (labelsOf (allSteps s)) i [])) (r .index)
-  unfolding labelAt maxSetBytes maxSteps maxPaths maxLabels
+  unfolding labelAt maxSetBytes maxSteps maxPaths maxLabels joined
   label-answer i h r =
       let size = length (getD (labelsOf (allSteps s)) i []) in
       let e : Stands (labelPlace i) (labelEntry (r .at) size (0 + r .index)) (setPart s ++ rest) = rw (← r .is) (label-stands i h) in
       let e' : Stands (labelPlace i) (labelEntry (r .at) size (r .index)) (setPart s ++ rest) = rw zero-add at e in
       let k : i < maxLabels = omega (arith, f .labels) in
       let v : r .at + size ≤ length (print s) = fits (r .stands) in
-      rw (labels-read s f rest, there s f rest (length (labelsOf (allSteps s))) maxLabels i h k,
-      word-a (labelPlace i) (r .at) size (r .index) e' (omega (arith, v, f .bytes)),
-      word-b (labelPlace i) (r .at) size (r .index) e' (omega (arith, v, f .bytes)),
-      word-c (labelPlace i) (r .at) size (r .index) e' (omega (arith, r .below, f .steps)))
+      rw (
+        labels-read s f rest,
+        there s f rest (length (labelsOf (allSteps s))) maxLabels i h k,
+        words-head (labelPlace i) (r .at) (size ∷ r .index ∷ []) (omega (arith, v, f .bytes)) e',
+        words-read (labelPlace i) (r .at ∷ size ∷ r .index ∷ []) 1 (omega arith) (omega (arith, v, f .bytes)) e',
+        words-read (labelPlace i) (r .at ∷ size ∷ r .index ∷ []) 2 (omega arith) (omega (arith, r .below, f .steps)) e',
+      )
 
   -- label i's bytes, and its step
   pub label-read : (i : ℕ) → i < length (labelsOf (allSteps s)) → LabelRead (setPart s ++ rest) (print s) (allSteps s) i (getD (labelsOf (allSteps s)) i [])

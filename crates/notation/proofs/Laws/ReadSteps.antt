@@ -20,22 +20,13 @@ use Rattle.notation.specs.declared.reads.PathAt.{PathAt}
 use Rattle.notation.specs.declared.reads.StepAt.{StepAt}
 use Rattle.notation.specs.declared.reads.LabelAt.{LabelAt}
 use Rattle.notation.proofs.Laws.Stands.{Stands, left, right, inner, read, slice, fits}
-use Rattle.notation.proofs.Laws.Entries.{entry}
+use Rattle.notation.proofs.Laws.Entries.{entry, map-at}
 use Rattle.notation.proofs.Laws.Sections.{layout-length, counts-stand, text-stands, folders-stand, paths-stand, steps-stand, labels-stand}
 use Rattle.notation.proofs.Laws.FolderTable.{noFolder, pathsBefore, folder-count, folder-row, paths-between, paths-before-all, paths-before-most}
 use Rattle.notation.proofs.Laws.PathTable.{PathRow, stepsBefore, path-rows, rows-count, rows-at, steps-through}
 use Rattle.notation.proofs.Laws.LabelTable.{LabelRow, noStep, label-rows, label-count, label-at}
-use Rattle.notation.proofs.Laws.Fitting.{Fitting, roomy}
-use Rattle.notation.proofs.Laws.Words.{word-read, read-first, read-second, read-third, read-fourth, read-fifth}
+use Rattle.notation.proofs.Laws.Fitting.{Fitting, roomy, one-byte}
 use Rattle.notation.proofs.Laws.Reads.{allSteps, folders-read, paths-read, steps-read, labels-read, whole, there, gone, text-piece}
-
-step-row : (ss : List Step) (i : ℕ) → i < length ss → getD (map stepEntry ss) i [] ≡ stepEntry (getD ss i noStep)
-step-row [] i h = absurd (not-suc-le-zero h)
-step-row (x ∷ ss) zero h = refl
-step-row (x ∷ ss) (suc i) h = step-row ss i (le-of-suc-le-suc h)
-
-one-byte : (x : Step) → 0 < length (stepEntry x)
-one-byte (step a t) = omega arith
 
 -- the two bits of a step's byte
 kind-step : (x : Step) (b : ℕ) → b ≡ getD (stepEntry x) 0 0 → StepAt.Step (eqb (b % 2) 1) (eqb (b / 2 % 2) 1) ≡ StepAt.Step (isDescendant (axisOf x)) (isStar (testOf x))
@@ -51,7 +42,7 @@ module _ (s : FolderSet) (f : Fitting s) (rest : List ℕ) where
   step-stands i h =
       let k : i < length (map stepEntry (allSteps s)) = rw (length-map (allSteps s) stepEntry) h in
       let e : stepsAt + 1 * i ≡ stepsAt + i = omega arith in
-      rw (← e, ← step-row (allSteps s) i h) (entry i (roomy s f .stepWidth) k (steps-stand (print s) (tablesOf s) (roomy s f) rest))
+      rw (← e, ← map-at stepEntry noStep (allSteps s) i h) (entry i (roomy s f .stepWidth) k (steps-stand (print s) (tablesOf s) (roomy s f) rest))
 
   pub step-read : (i : ℕ) → i < length (allSteps s)
       → stepAt (setPart s ++ rest) i ≡ StepAt.Step (isDescendant (axisOf (getD (allSteps s) i noStep))) (isStar (testOf (getD (allSteps s) i noStep)))
@@ -59,6 +50,6 @@ module _ (s : FolderSet) (f : Fitting s) (rest : List ℕ) where
   step-read i h =
       let k : i < maxPaths * maxSteps = omega (arith, f .steps) in
       let x : getD (setPart s ++ rest) (stepsAt + i + 0) 0 ≡ getD (stepEntry (getD (allSteps s) i noStep)) 0 0 =
-        read 0 (one-byte (getD (allSteps s) i noStep)) (step-stands i h) in
+      read 0 (omega (arith, one-byte (getD (allSteps s) i noStep))) (step-stands i h) in
       rw ((steps-read s f rest), there s f rest (length (allSteps s)) (maxPaths * maxSteps) i h k)
       (kind-step (getD (allSteps s) i noStep) (getD (setPart s ++ rest) (stepsAt + i) 0) (rw add-zero at x))

@@ -26,38 +26,42 @@ use Rattle.notation.proofs.Laws.FolderTable.{noFolder, pathsBefore, fol
 use Rattle.notation.proofs.Laws.PathTable.{PathRow, stepsBefore, path-rows, rows-count, rows-at, steps-through}
 use Rattle.notation.proofs.Laws.LabelTable.{LabelRow, noStep, label-rows, label-count, label-at}
 use Rattle.notation.proofs.Laws.Fitting.{Fitting, roomy}
-use Rattle.notation.proofs.Laws.Words.{word-read, read-first, read-second, read-third, read-fourth, read-fifth}
+use Rattle.notation.proofs.Laws.Words.{words, words-read}
 
 -- all steps of a set, in order
 abbrev pub allSteps : FolderSet → List Step
 allSteps s = stepsOf (pathsOf s)
 
+-- the counts that are stored
+abbrev stored : FolderSet → List ℕ
+stored s = length (print s) ∷ length s ∷ length (pathsOf s) ∷ length (allSteps s) ∷ length (labelsOf (allSteps s)) ∷ []
+
 module _ (s : FolderSet) (f : Fitting s) (rest : List ℕ) where
-  counts : Stands 0 (le16 (length (print s)) ++ (le16 (length s) ++ (le16 (length (pathsOf s)) ++ (le16 (length (allSteps s)) ++ le16 (length (labelsOf (allSteps s))))))) (setPart s ++ rest)
-  unfolding setPart tablesOf
+  counts : Stands 0 (words (stored s)) (setPart s ++ rest)
+  unfolding setPart tablesOf joined
   counts =
       rw (← folder-count 0 s, ← rows-count (path-rows s), ← length-map (allSteps s) stepEntry, ← label-count (label-rows s))
       (counts-stand (print s) (tablesOf s) rest)
 
   pub text-len : textLen (setPart s ++ rest) ≡ length (print s)
   unfolding maxSetBytes
-  text-len = read-first (length (print s)) (length s) (length (pathsOf s)) (length (allSteps s)) (length (labelsOf (allSteps s))) counts (omega (arith, f .bytes))
+  text-len = words-read 0 (stored s) 0 (omega arith) (omega (arith, f .bytes)) counts
 
   pub folders-read : folderCount (setPart s ++ rest) ≡ length s
   unfolding maxPaths
-  folders-read = read-second (length (print s)) (length s) (length (pathsOf s)) (length (allSteps s)) (length (labelsOf (allSteps s))) counts (omega (arith, f .folders))
+  folders-read = words-read 0 (stored s) 1 (omega arith) (omega (arith, f .folders)) counts
 
   pub paths-read : pathCount (setPart s ++ rest) ≡ length (pathsOf s)
   unfolding maxPaths
-  paths-read = read-third (length (print s)) (length s) (length (pathsOf s)) (length (allSteps s)) (length (labelsOf (allSteps s))) counts (omega (arith, f .paths))
+  paths-read = words-read 0 (stored s) 2 (omega arith) (omega (arith, f .paths)) counts
 
   pub steps-read : stepCount (setPart s ++ rest) ≡ length (allSteps s)
   unfolding maxPaths maxSteps
-  steps-read = read-fourth (length (print s)) (length s) (length (pathsOf s)) (length (allSteps s)) (length (labelsOf (allSteps s))) counts (omega (arith, f .steps))
+  steps-read = words-read 0 (stored s) 3 (omega arith) (omega (arith, f .steps)) counts
 
   pub labels-read : labelCount (setPart s ++ rest) ≡ length (labelsOf (allSteps s))
   unfolding maxLabels
-  labels-read = read-fifth (length (print s)) (length s) (length (pathsOf s)) (length (allSteps s)) (length (labelsOf (allSteps s))) counts (omega (arith, f .labels))
+  labels-read = words-read 0 (stored s) 4 (omega arith) (omega (arith, f .labels)) counts
 
   pub whole : setSize ≤ length (setPart s ++ rest)
   unfolding setPart
