@@ -1,3 +1,4 @@
+pub mod Tests
 pub mod Stands
 pub mod Entries
 pub mod Sections
@@ -11,3 +12,4 @@ pub mod Reads
 pub mod ReadSteps
 pub mod ReadFolders
 pub mod ReadPaths
+pub mod WithinLimits
