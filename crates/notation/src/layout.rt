@@ -1,14 +1,11 @@
 // Where the parts of a read set stand in its buffer. Sizes are in bytes.
 
-// The limits of a folder set: bytes, steps of a path, paths, labels.
-pub const MAX_SET_BYTES: usize = 16384;
+use crate::limits::MAX_LABELS;
+use crate::limits::MAX_PATHS;
+use crate::limits::MAX_SET_BYTES;
+use crate::limits::MAX_STEPS;
 
-pub const MAX_STEPS: usize = 16;
-
-pub const MAX_PATHS: usize = 128;
-
-pub const MAX_LABELS: usize = 1024;
-
+// Steps of all paths together.
 pub const MAX_ALL_STEPS: usize = MAX_PATHS * MAX_STEPS;
 
 // The entries of the tables; an entry of a step is one byte.

@@ -1,5 +1,7 @@
 // The notation: names, folder sets and what a path means.
+pub mod arith;
 pub mod layout;
+pub mod limits;
 pub mod reads;
 pub mod scan;
 

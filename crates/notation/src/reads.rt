@@ -7,6 +7,7 @@ ghost use Rattle.notation.specs.Limits.{maxPaths};
 ghost use Rattle.notation.specs.Reads.{word16, textLen, folderCount, pathCount, stepCount, labelCount, present, pathsEnd, folderAt, pathAt, stepAt, labelAt, textSlice, textOf, pathText, labelName, folderOf};
 use crate::FolderNumber;
 use crate::PathPlace;
+use crate::arith::minus;
 use crate::layout::FOLDER_COUNT_AT;
 use crate::layout::FOLDER_SIZE;
 use crate::layout::FOLDERS_AT;
@@ -14,9 +15,6 @@ use crate::layout::LABEL_COUNT_AT;
 use crate::layout::LABEL_SIZE;
 use crate::layout::LABELS_AT;
 use crate::layout::MAX_ALL_STEPS;
-use crate::layout::MAX_LABELS;
-use crate::layout::MAX_PATHS;
-use crate::layout::MAX_SET_BYTES;
 use crate::layout::PATH_COUNT_AT;
 use crate::layout::PATH_SIZE;
 use crate::layout::PATHS_AT;
@@ -25,6 +23,9 @@ use crate::layout::STEP_COUNT_AT;
 use crate::layout::STEPS_AT;
 use crate::layout::TEXT_AT;
 use crate::layout::TEXT_LEN_AT;
+use crate::limits::MAX_LABELS;
+use crate::limits::MAX_PATHS;
+use crate::limits::MAX_SET_BYTES;
 
 pub enum FolderAt {
     // The folder's number, the place of its first path, and its count of paths.
@@ -148,18 +149,11 @@ pub fn folder_at(part: &[u8], i: usize) -> FolderAt
         FolderAt::Folder {
             number: FolderNumber(number),
             first: PathPlace(first),
-            paths: less(paths_end(part, i), first),
+            paths: minus(paths_end(part, i), first),
         }
     } else {
         FolderAt::Missing
     }
-}
-
-// The difference, 0 where there is none.
-fn less(a: usize, b: usize) -> usize
-    ensures { λ r. ⌜ r ≡ a - b ⌝ }
-{
-    if b <= a { a - b } else { 0 }
 }
 
 pub fn path_at(part: &[u8], place: PathPlace) -> PathAt

@@ -47,7 +47,7 @@ path-short k [] h e = omega arith
 path-short k (s ∷ p) h e =
     let l : stepFaults k s ≡ [] = none-left (stepFaults k s) (pathFaults (suc k) p) e in
     let b : leb maxSteps k ≡ false =
-      unfaulted longPath (leb maxSteps k) (none-right (cond (longTest (testOf s)) (longName ∷ []) []) (cond (leb maxSteps k) (longPath ∷ []) []) l) in
+    unfaulted longPath (leb maxSteps k) (none-right (cond (longTest (testOf s)) (longName ∷ []) []) (cond (leb maxSteps k) (longPath ∷ []) []) l) in
     let m : k < maxSteps = leb-false maxSteps k b in
     omega (arith, path-short (suc k) p m (none-right (stepFaults k s) (pathFaults (suc k) p) e))
 
@@ -55,16 +55,26 @@ paths-short : (ps : List Path) → pathsFaults ps ≡ [] → length (stepsOf ps)
 unfolding pathsFaults stepsOf maxSteps
 paths-short [] e = omega arith
 paths-short (p ∷ ps) e =
-    omega (arith, length-append p (stepsOf ps), path-short 0 p zero-le (none-left (pathFaults 0 p) (pathsFaults ps) e),
-    paths-short ps (none-right (pathFaults 0 p) (pathsFaults ps) e))
+    omega (
+      arith,
+      length-append p (stepsOf ps),
+      path-short 0 p zero-le (none-left (pathFaults 0 p) (pathsFaults ps) e),
+      paths-short ps (none-right (pathFaults 0 p) (pathsFaults ps) e),
+    )
 
 steps-short : (last : ℕ) (s : FolderSet) → faultsAfter last s ≡ [] → length (stepsOf (pathsOf s)) ≤ length (pathsOf s) * maxSteps
 unfolding faultsAfter pathsOf stepsOf maxSteps
 steps-short last [] e = omega arith
 steps-short last (folder n ps ∷ fs) e =
     let r : pathsFaults ps ++ faultsAfter n fs ≡ [] = none-right (cond (leb n last) (outOfTurn ∷ []) []) (pathsFaults ps ++ faultsAfter n fs) e in
-    omega (arith, ap length (steps-append ps (pathsOf fs)), length-append (stepsOf ps) (stepsOf (pathsOf fs)), length-append ps (pathsOf fs),
-    paths-short ps (none-left (pathsFaults ps) (faultsAfter n fs) r), steps-short n fs (none-right (pathsFaults ps) (faultsAfter n fs) r))
+    omega (
+      arith,
+      ap length (steps-append ps (pathsOf fs)),
+      length-append (stepsOf ps) (stepsOf (pathsOf fs)),
+      length-append ps (pathsOf fs),
+      paths-short ps (none-left (pathsFaults ps) (faultsAfter n fs) r),
+      steps-short n fs (none-right (pathsFaults ps) (faultsAfter n fs) r),
+    )
 
 some-path : (ps : List Path) → nonEmpty ps ≡ true → 1 ≤ length ps
 some-path [] e = let z : _≡_ {A = ℕ} 0 1 = cc in omega arith
@@ -76,8 +86,12 @@ folders-few [] e = omega arith
 folders-few (folder n ps ∷ fs) e =
     let l : formedFolder (folder n ps) ≡ true = and-left (formedFolder (folder n ps)) (formed fs) e in
     let m : (nonEmpty ps && every formedPath ps) ≡ true = and-right (leb 1 n && leb n maxNumber) (nonEmpty ps && every formedPath ps) l in
-    omega (arith, length-append ps (pathsOf fs), some-path ps (and-left (nonEmpty ps) (every formedPath ps) m),
-    folders-few fs (and-right (formedFolder (folder n ps)) (formed fs) e))
+    omega (
+      arith,
+      length-append ps (pathsOf fs),
+      some-path ps (and-left (nonEmpty ps) (every formedPath ps) m),
+      folders-few fs (and-right (formedFolder (folder n ps)) (formed fs) e),
+    )
 
 numbers-low : (s : FolderSet) → formed s ≡ true → (i : ℕ) → i < length s → folderNumber (getD s i noFolder) ≤ maxNumber
 unfolding formed every formedFolder
@@ -93,14 +107,14 @@ pub fitting : (s : FolderSet) → formed s ≡ true → overBytes (print s) ≡ 
 unfolding overFull maxPaths maxSteps
 fitting s well bytes faultless full =
     let paths : length (pathsOf s) ≤ maxPaths =
-      ltb-false maxPaths (length (pathsOf s)) (or-left (ltb maxPaths (length (pathsOf s))) (ltb maxLabels (length (labelsOf (stepsOf (pathsOf s))))) full) in
+    ltb-false maxPaths (length (pathsOf s)) (or-left (ltb maxPaths (length (pathsOf s))) (ltb maxLabels (length (labelsOf (stepsOf (pathsOf s))))) full) in
     record {
       bytes = ltb-false maxSetBytes (length (print s)) bytes;
       folders = omega (arith, folders-few s well);
       paths = paths;
       steps = omega (arith, steps-short 0 s faultless);
       labels =
-        ltb-false maxLabels (length (labelsOf (stepsOf (pathsOf s))))
-        (or-right (ltb maxPaths (length (pathsOf s))) (ltb maxLabels (length (labelsOf (stepsOf (pathsOf s))))) full);
+          ltb-false maxLabels (length (labelsOf (stepsOf (pathsOf s))))
+          (or-right (ltb maxPaths (length (pathsOf s))) (ltb maxLabels (length (labelsOf (stepsOf (pathsOf s))))) full);
       numbers = numbers-low s well;
     }

@@ -34,8 +34,8 @@ paths-end-requires : tie.Need-paths-end-requires
 unfolding maxPaths
 paths-end-requires c κs = c .before .before .before .has .ensures .1 (c .before .before .if1 .taken)
 
-less-requires : tie.Need-less-requires
-less-requires c κs = search needs
+minus-requires : tie.Need-minus-requires
+minus-requires c κs = search needs
 
 returns : tie.Need-returns
 unfolding folderAt maxPaths foldersAt folderSize
@@ -61,6 +61,6 @@ folder-at-spec =
     add-word-at
     word-at-requires-2
     paths-end-requires
-    less-requires
+    minus-requires
     returns
     returns-2)
