@@ -7,9 +7,10 @@ pub mod FolderTable
 pub mod PathTable
 pub mod LabelTable
 pub mod Fitting
+pub mod WithinLimits
+pub mod Rising
 pub mod Words
 pub mod Reads
 pub mod ReadSteps
 pub mod ReadFolders
 pub mod ReadPaths
-pub mod WithinLimits

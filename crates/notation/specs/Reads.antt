@@ -5,7 +5,7 @@ use mathlib.Core.List.{List, [], _∷_}
 use lib.Dec.{leb, ltb, eqb}
 use lib.ListN.{length, getD, take, drop}
 use Rattle.notation.specs.Limits.{maxSetBytes, maxPaths, maxSteps, maxLabels}
-use Rattle.notation.specs.Sets.{Axis, child, descendant, Test, label, star}
+use Rattle.notation.specs.Sets.{Axis, child, descendant, Test, label, star, folder, FolderSet}
 use Rattle.notation.specs.Layout.{folderSize, pathSize, labelSize, textAt, foldersAt, pathsAt, stepsAt, labelsAt, setSize}
 use Rattle.notation.specs.declared.FolderNumber.{FolderNumber}
 use Rattle.notation.specs.declared.PathPlace.{PathPlace}
@@ -137,3 +137,8 @@ searchFolder part number i (suc left) =
 unfoldable pub folderOf : List ℕ → FolderNumber → FolderIndex
 folderOf part number =
     cond (leb setSize (length part)) (searchFolder part (number .0) 0 (min (folderCount part) maxPaths)) FolderIndex.Missing
+
+-- the folder of a number in a set: the first that has it; k folders stand before these
+unfoldable pub folderIndex : ℕ → ℕ → FolderSet → FolderIndex
+folderIndex number k [] = FolderIndex.Missing
+folderIndex number k (folder n ps ∷ fs) = cond (eqb n number) (FolderIndex.At k) (folderIndex number (suc k) fs)

@@ -1,21 +1,24 @@
 -- On the bytes of a set, a folder is read as its number, the count of paths before it, and its own count of paths.
-use Prim.Native.Nat.{ℕ, zero, suc, _+_, _-_, _*_, _/_, _%_, _≤_, _<_, zero-le}
+use Prim.Native.Nat.{ℕ, zero, suc, _+_, _-_, _*_, _/_, _%_, _≤_, _<_, zero-le, suc-le-suc, min}
 use mathlib.Core.Path.{_≡_, refl, sym, ap, _∙_}
-use mathlib.Core.Bool.{Bool, true, false}
+use mathlib.Core.Bool.{Bool, true, false, cond}
 use mathlib.Core.List.{List, [], _∷_, _++_, map, append-nil}
-use native.Mathlib.Nat.{zero-add, add-zero, not-suc-le-zero, le-of-suc-le-suc}
+use native.Mathlib.Nat.{zero-add, suc-add, add-suc, add-zero, not-suc-le-zero, le-of-suc-le-suc}
 use native.Mathlib.Numerals.{add-one}
 use native.Mathlib.Omega.{arith}
-use borrow.Author.Tests.{lt-ltb, le-ltb, le-leb, lt-leb, ltb-true, ltb-false}
-use lib.Dec.{ltb, eqb}
+use borrow.Author.Tests.{leb-false, lt-ltb, le-ltb, le-leb, lt-leb, ltb-true, ltb-false}
+use lib.Dec.{ltb, eqb, leb}
 use lib.ListN.{length, getD, take, length-append, length-map}
 use Rattle.notation.specs.Limits.{maxSetBytes, maxNumber, maxPaths, maxSteps, maxLabels}
-use Rattle.notation.specs.Sets.{Axis, child, descendant, Test, label, star, Step, step, Path, FolderSet, axisOf, testOf, folderNumber, folderPaths}
-use Rattle.notation.specs.Form.{pathsOf, stepsOf, labelsOf}
+use Rattle.notation.specs.Sets.{Axis, child, descendant, Test, label, star, Step, step, Path, folder, FolderSet, axisOf, testOf, folderNumber, folderPaths}
+use Rattle.notation.specs.Form.{pathsOf, stepsOf, labelsOf, pathsFaults, faultsAfter}
+use Rattle.notation.specs.Refusals.{outOfTurn}
 use Rattle.notation.specs.Print.{print, printPath}
 use Rattle.notation.specs.Layout.{le16, textAt, folderSize, pathSize, labelSize, foldersAt, pathsAt, stepsAt, labelsAt, setSize, joined, stepEntry, folderEntry, pathEntry, labelEntry, folderTable, setPaths, setLabels, tablesOf, setPart}
-use Rattle.notation.specs.Reads.{word16, textLen, folderCount, pathCount, stepCount, labelCount, present, folderPlace, pathPlace, labelPlace, storedNumber, storedFirst, pathsEnd, folderAt, pathAt, stepAt, labelAt, isDescendant, isStar, textSlice, textOf, pathText, labelName}
+use Rattle.notation.specs.Reads.{word16, textLen, folderCount, pathCount, stepCount, labelCount, present, folderPlace, pathPlace, labelPlace, storedNumber, storedFirst, pathsEnd, folderAt, pathAt, stepAt, labelAt, isDescendant, isStar, textSlice, textOf, pathText, labelName, searchFolder, folderIndex, folderOf}
 use Rattle.notation.specs.declared.reads.FolderAt.{FolderAt}
+use Rattle.notation.specs.declared.reads.FolderIndex.{FolderIndex}
+use Rattle.notation.specs.declared.FolderNumber.{FolderNumber}
 use Rattle.notation.specs.declared.reads.PathAt.{PathAt}
 use Rattle.notation.specs.declared.reads.StepAt.{StepAt}
 use Rattle.notation.specs.declared.reads.LabelAt.{LabelAt}
@@ -25,13 +28,19 @@ use Rattle.notation.proofs.Laws.Sections.{layout-length, counts-stand, 
 use Rattle.notation.proofs.Laws.FolderTable.{noFolder, pathsBefore, folder-count, folder-row, paths-between, paths-before-all, paths-before-most}
 use Rattle.notation.proofs.Laws.PathTable.{PathRow, stepsBefore, path-rows, rows-count, rows-at, steps-through}
 use Rattle.notation.proofs.Laws.LabelTable.{LabelRow, noStep, label-rows, label-count, label-at}
+use Rattle.notation.proofs.Laws.Tests.{cases}
 use Rattle.notation.proofs.Laws.Fitting.{Fitting, roomy}
 use Rattle.notation.proofs.Laws.Words.{words-read, words-head}
 use Rattle.notation.proofs.Laws.Reads.{allSteps, folders-read, paths-read, steps-read, labels-read, whole, there, gone, text-piece}
 
-cases : {X : Type 0} (b : Bool) → (b ≡ true → X) → (b ≡ false → X) → X
-cases true y n = y refl
-cases false y n = n refl
+-- the search among stored numbers is the search among the folders that have them
+search-is : (part : List ℕ) (number k : ℕ) (fs : FolderSet) → ((i : ℕ) → i < length fs → storedNumber part (k + i) ≡ folderNumber (getD fs i noFolder))
+    → searchFolder part number k (length fs) ≡ folderIndex number k fs
+unfolding searchFolder folderIndex
+search-is part number k [] same = refl
+search-is part number k (folder n ps ∷ fs) same =
+    let here : storedNumber part k ≡ n = rw add-zero at (same 0 (omega arith)) in
+    rw (here, search-is part number (suc k) fs (λ i h. rw (suc-add, ← add-suc) (same (suc i) (suc-le-suc h))))
 
 module _ (s : FolderSet) (f : Fitting s) (rest : List ℕ) where
   -- a folder's number, the count of paths before it, and its count of paths
@@ -70,3 +79,11 @@ module _ (s : FolderSet) (f : Fitting s) (rest : List ℕ) where
       let k : i < maxPaths = omega (arith, f .folders) in
       let n : pathsBefore s (suc i) - pathsBefore s i ≡ length (folderPaths (getD s i noFolder)) = omega (arith, paths-between s i h) in
       rw ((folders-read s f rest), there s f rest (length s) maxPaths i h k, number-read i h, first-read i h, end-read i h, n)
+
+  -- the folder of a number
+  pub folder-of-read : (number : FolderNumber) → folderOf (setPart s ++ rest) number ≡ folderIndex (number .0) 0 s
+  unfolding folderOf
+  folder-of-read number =
+      let m : min (length s) maxPaths ≡ length s = omega (arith, f .folders) in
+      rw (le-leb setSize (length (setPart s ++ rest)) (whole s f rest), folders-read s f rest, m)
+      (search-is (setPart s ++ rest) (number .0) 0 s (λ i h. rw zero-add (number-read i h)))

@@ -28,11 +28,11 @@ or-right true b e = cc
 or-right false b e = e
 
 -- the parts of an empty list are empty
-none-left : {A : Type 0} (l r : List A) → l ++ r ≡ [] → l ≡ []
+pub none-left : {A : Type 0} (l r : List A) → l ++ r ≡ [] → l ≡ []
 none-left [] r e = refl
 none-left (x ∷ l) r e = cc
 
-none-right : {A : Type 0} (l r : List A) → l ++ r ≡ [] → r ≡ []
+pub none-right : {A : Type 0} (l r : List A) → l ++ r ≡ [] → r ≡ []
 none-right [] r e = e
 none-right (x ∷ l) r e = cc
 
