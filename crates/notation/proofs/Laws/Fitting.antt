@@ -1,15 +1,12 @@
 -- A set that fits the limits of the notation, as far as a read set's tables need it.
-use Prim.Native.Nat.{ℕ, zero, suc, _+_, _*_, _≤_, _<_}
-use mathlib.Core.Path.{_≡_, refl, sym, ap, _∙_}
-use mathlib.Core.List.{List, [], _∷_, _++_, map}
-use native.Mathlib.Nat.{add-zero, not-suc-le-zero, le-of-suc-le-suc}
-use native.Mathlib.Omega.{arith}
+use Prim.Native.Nat.{ℕ, _*_, _≤_, _<_}
+use mathlib.Core.Path.{_≡_, refl}
 use lib.ListN.{length, getD, length-map}
 use Rattle.notation.specs.Limits.{maxSetBytes, maxNumber, maxPaths, maxSteps, maxLabels}
 use Rattle.notation.specs.Sets.{Step, step, FolderSet, folderNumber}
 use Rattle.notation.specs.Form.{pathsOf, stepsOf, labelsOf}
 use Rattle.notation.specs.Print.{print}
-use Rattle.notation.specs.Layout.{Tables, stepEntry, folderTable, setPaths, setLabels, tablesOf, layout, setPart}
+use Rattle.notation.specs.Layout.{stepEntry, tablesOf}
 use Rattle.notation.proofs.Laws.Entries.{map-width}
 use Rattle.notation.proofs.Laws.Sections.{Roomy}
 use Rattle.notation.proofs.Laws.FolderTable.{noFolder, folder-width, folder-count}

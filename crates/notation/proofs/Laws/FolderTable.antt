@@ -1,7 +1,7 @@
 -- The folder table of a set: entry i is folder i's number and the count of paths of the folders before it.
 use Prim.Native.Nat.{ℕ, zero, suc, _+_, _≤_, zero-le, _<_}
-use mathlib.Core.Path.{_≡_, refl, sym, ap, _∙_}
-use mathlib.Core.List.{List, [], _∷_, _++_, append-nil}
+use mathlib.Core.Path.{_≡_, refl, ap}
+use mathlib.Core.List.{[], _∷_, append-nil}
 use native.Mathlib.Nat.{zero-add, add-zero, add-assoc, not-suc-le-zero, le-of-suc-le-suc}
 use native.Mathlib.Omega.{arith}
 use lib.ListN.{length, getD, take, length-append}

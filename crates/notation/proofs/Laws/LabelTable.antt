@@ -1,12 +1,11 @@
 -- The label table of a set: entry i says where label i stands in the text, and which step has it.
-use Prim.Native.Nat.{ℕ, zero, suc, _+_, _≤_, _<_, suc-le-suc, zero-le}
+use Prim.Native.Nat.{ℕ, zero, suc, _+_, _<_, suc-le-suc, zero-le}
 use mathlib.Core.Path.{_≡_, refl, sym, ap, _∙_}
 use mathlib.Core.List.{List, [], _∷_, _++_, append-assoc}
-use native.Mathlib.Nat.{zero-add, suc-add, add-suc, add-zero, add-assoc, not-suc-le-zero, le-of-suc-le-suc}
-use native.Mathlib.Omega.{arith}
-use lib.ListN.{length, getD, take, length-append}
+use native.Mathlib.Nat.{suc-add, add-suc, add-zero, not-suc-le-zero, le-of-suc-le-suc}
+use lib.ListN.{length, getD, take}
 use Rattle.notation.specs.Names.{Name}
-use Rattle.notation.specs.Sets.{Axis, child, Test, label, star, Step, step, Path, Folder, folder, FolderSet, testOf}
+use Rattle.notation.specs.Sets.{Axis, child, label, star, Step, step, Path, folder, FolderSet, testOf}
 use Rattle.notation.specs.Form.{pathsOf, stepsOf, labelsOf}
 use Rattle.notation.specs.Print.{printAxis, printStep, printPath, printPaths, printFolder, printFolders, print}
 use Rattle.notation.specs.Layout.{labelSize, labelEntry, pathLabels, labelTable, afterNumber, setLabels}

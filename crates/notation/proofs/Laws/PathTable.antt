@@ -1,11 +1,11 @@
 -- The path table of a set: entry i has the count of steps before path i, its own count of steps, and where its text stands.
 use Prim.Native.Nat.{ℕ, zero, suc, _+_, _≤_, _<_}
-use mathlib.Core.Path.{_≡_, refl, sym, ap, _∙_}
+use mathlib.Core.Path.{_≡_, refl, ap}
 use mathlib.Core.List.{List, [], _∷_, _++_}
 use native.Mathlib.Nat.{add-zero, add-assoc, not-suc-le-zero, le-of-suc-le-suc}
 use native.Mathlib.Omega.{arith}
 use lib.ListN.{length, getD, take, length-append}
-use Rattle.notation.specs.Sets.{Path, Folder, folder, FolderSet}
+use Rattle.notation.specs.Sets.{Path, folder, FolderSet}
 use Rattle.notation.specs.Form.{pathsOf, stepsOf}
 use Rattle.notation.specs.Print.{printPath, printPaths, printFolder, printFolders, print}
 use Rattle.notation.specs.Layout.{pathSize, pathEntry, pathTable, afterNumber, setPaths}

@@ -1,6 +1,6 @@
 -- Where the paths and the lines of a set stand in its text.
-use Prim.Native.Nat.{ℕ, zero, suc, _+_}
-use mathlib.Core.Path.{_≡_, refl, sym, ap}
+use Prim.Native.Nat.{ℕ, _+_}
+use mathlib.Core.Path.{refl, sym, ap}
 use mathlib.Core.List.{List, [], _∷_, _++_, append-nil}
 use native.Mathlib.Omega.{arith}
 use lib.ListN.{length}

@@ -1,37 +1,28 @@
 -- On the bytes of a set, a folder is read as its number, the count of paths before it, and its own count of paths.
-use Prim.Native.Nat.{ℕ, zero, suc, _+_, _-_, _*_, _/_, _%_, _≤_, _<_, zero-le, suc-le-suc, min}
-use mathlib.Core.Path.{_≡_, refl, sym, ap, _∙_}
-use mathlib.Core.Bool.{Bool, true, false, cond}
-use mathlib.Core.List.{List, [], _∷_, _++_, map, append-nil}
-use native.Mathlib.Nat.{zero-add, suc-add, add-suc, add-zero, not-suc-le-zero, le-of-suc-le-suc}
+use Prim.Native.Nat.{ℕ, suc, _+_, _-_, _≤_, _<_, suc-le-suc, min}
+use mathlib.Core.Path.{_≡_, refl, sym}
+use mathlib.Core.List.{List, [], _∷_, _++_}
+use native.Mathlib.Nat.{zero-add, suc-add, add-suc, add-zero}
 use native.Mathlib.Numerals.{add-one}
 use native.Mathlib.Omega.{arith}
-use borrow.Author.Tests.{leb-false, lt-ltb, le-ltb, le-leb, lt-leb, ltb-true, ltb-false}
-use lib.Dec.{ltb, eqb, leb}
-use lib.ListN.{length, getD, take, length-append, length-map}
-use Rattle.notation.specs.Limits.{maxSetBytes, maxNumber, maxPaths, maxSteps, maxLabels}
-use Rattle.notation.specs.Sets.{Axis, child, descendant, Test, label, star, Step, step, Path, folder, FolderSet, axisOf, testOf, folderNumber, folderPaths}
-use Rattle.notation.specs.Form.{pathsOf, stepsOf, labelsOf, pathsFaults, faultsAfter}
-use Rattle.notation.specs.Refusals.{outOfTurn}
-use Rattle.notation.specs.Print.{print, printPath}
-use Rattle.notation.specs.Layout.{le16, textAt, folderSize, pathSize, labelSize, foldersAt, pathsAt, stepsAt, labelsAt, setSize, joined, stepEntry, folderEntry, pathEntry, labelEntry, folderTable, setPaths, setLabels, tablesOf, setPart}
-use Rattle.notation.specs.Reads.{word16, textLen, folderCount, pathCount, stepCount, labelCount, present, folderPlace, pathPlace, labelPlace, storedNumber, storedFirst, pathsEnd, folderAt, pathAt, stepAt, labelAt, isDescendant, isStar, textSlice, textOf, pathText, labelName, searchFolder, folderIndex, folderOf}
+use borrow.Author.Tests.{le-leb, ltb-true, ltb-false}
+use lib.Dec.{ltb}
+use lib.ListN.{length, getD}
+use Rattle.notation.specs.Limits.{maxNumber, maxPaths}
+use Rattle.notation.specs.Sets.{folder, FolderSet, folderNumber, folderPaths}
+use Rattle.notation.specs.Print.{print}
+use Rattle.notation.specs.Layout.{setSize, joined, folderEntry, folderTable, tablesOf, setPart}
+use Rattle.notation.specs.Reads.{folderPlace, storedNumber, storedFirst, pathsEnd, folderAt, searchFolder, folderIndex, folderOf}
 use Rattle.notation.specs.declared.reads.FolderAt.{FolderAt}
-use Rattle.notation.specs.declared.reads.FolderIndex.{FolderIndex}
 use Rattle.notation.specs.declared.FolderNumber.{FolderNumber}
-use Rattle.notation.specs.declared.reads.PathAt.{PathAt}
-use Rattle.notation.specs.declared.reads.StepAt.{StepAt}
-use Rattle.notation.specs.declared.reads.LabelAt.{LabelAt}
-use Rattle.notation.proofs.Laws.Stands.{Stands, left, right, inner, read, slice, fits}
+use Rattle.notation.proofs.Laws.Stands.{Stands}
 use Rattle.notation.proofs.Laws.Entries.{entry}
-use Rattle.notation.proofs.Laws.Sections.{layout-length, counts-stand, text-stands, folders-stand, paths-stand, steps-stand, labels-stand}
+use Rattle.notation.proofs.Laws.Sections.{folders-stand}
 use Rattle.notation.proofs.Laws.FolderTable.{noFolder, pathsBefore, folder-count, folder-row, paths-between, paths-before-all, paths-before-most}
-use Rattle.notation.proofs.Laws.PathTable.{PathRow, stepsBefore, path-rows, rows-count, rows-at, steps-through}
-use Rattle.notation.proofs.Laws.LabelTable.{LabelRow, noStep, label-rows, label-count, label-at}
 use Rattle.notation.proofs.Laws.Tests.{cases}
 use Rattle.notation.proofs.Laws.Fitting.{Fitting, roomy}
 use Rattle.notation.proofs.Laws.Words.{words-read, words-head}
-use Rattle.notation.proofs.Laws.Reads.{allSteps, folders-read, paths-read, steps-read, labels-read, whole, there, gone, text-piece}
+use Rattle.notation.proofs.Laws.Reads.{folders-read, paths-read, whole, there, gone}
 
 -- the search among stored numbers is the search among the folders that have them
 search-is : (part : List ℕ) (number k : ℕ) (fs : FolderSet) → ((i : ℕ) → i < length fs → storedNumber part (k + i) ≡ folderNumber (getD fs i noFolder))

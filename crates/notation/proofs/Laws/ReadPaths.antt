@@ -1,33 +1,26 @@
 -- On the bytes of a set, a path is read as its steps and its text, and a label as its bytes and its step.
-use Prim.Native.Nat.{ℕ, zero, suc, _+_, _-_, _*_, _/_, _%_, _≤_, _<_, zero-le}
-use mathlib.Core.Path.{_≡_, refl, sym, ap, _∙_}
-use mathlib.Core.Bool.{Bool, true, false}
-use mathlib.Core.List.{List, [], _∷_, _++_, map, append-nil}
-use native.Mathlib.Nat.{zero-add, add-zero, not-suc-le-zero, le-of-suc-le-suc}
-use native.Mathlib.Numerals.{add-one}
+use Prim.Native.Nat.{ℕ, _+_, _≤_, _<_}
+use mathlib.Core.Path.{_≡_}
+use mathlib.Core.List.{List, [], _∷_, _++_}
+use native.Mathlib.Nat.{zero-add}
 use native.Mathlib.Omega.{arith}
-use borrow.Author.Tests.{lt-ltb, le-ltb, le-leb, lt-leb, ltb-true, ltb-false}
-use lib.Dec.{ltb, eqb}
-use lib.ListN.{length, getD, take, length-append, length-map}
-use Rattle.notation.specs.Limits.{maxSetBytes, maxNumber, maxPaths, maxSteps, maxLabels}
-use Rattle.notation.specs.Sets.{Axis, child, descendant, Test, label, star, Step, step, Path, FolderSet, axisOf, testOf, folderNumber, folderPaths}
-use Rattle.notation.specs.Form.{pathsOf, stepsOf, labelsOf}
+use lib.ListN.{length, getD, take}
+use Rattle.notation.specs.Limits.{maxSetBytes, maxPaths, maxSteps, maxLabels}
+use Rattle.notation.specs.Sets.{label, Step, Path, FolderSet, testOf}
+use Rattle.notation.specs.Form.{pathsOf, labelsOf}
 use Rattle.notation.specs.Print.{print, printPath}
-use Rattle.notation.specs.Layout.{le16, textAt, folderSize, pathSize, labelSize, foldersAt, pathsAt, stepsAt, labelsAt, setSize, joined, stepEntry, folderEntry, pathEntry, labelEntry, folderTable, setPaths, setLabels, tablesOf, setPart}
-use Rattle.notation.specs.Reads.{word16, textLen, folderCount, pathCount, stepCount, labelCount, present, folderPlace, pathPlace, labelPlace, storedNumber, storedFirst, pathsEnd, folderAt, pathAt, stepAt, labelAt, isDescendant, isStar, textSlice, textOf, pathText, labelName}
-use Rattle.notation.specs.declared.reads.FolderAt.{FolderAt}
+use Rattle.notation.specs.Layout.{joined, pathEntry, labelEntry, setPaths, setLabels, tablesOf, setPart}
+use Rattle.notation.specs.Reads.{pathPlace, labelPlace, pathAt, labelAt, pathText, labelName}
 use Rattle.notation.specs.declared.reads.PathAt.{PathAt}
-use Rattle.notation.specs.declared.reads.StepAt.{StepAt}
 use Rattle.notation.specs.declared.reads.LabelAt.{LabelAt}
-use Rattle.notation.proofs.Laws.Stands.{Stands, left, right, inner, read, slice, fits}
+use Rattle.notation.proofs.Laws.Stands.{Stands, fits}
 use Rattle.notation.proofs.Laws.Entries.{entry}
-use Rattle.notation.proofs.Laws.Sections.{layout-length, counts-stand, text-stands, folders-stand, paths-stand, steps-stand, labels-stand}
-use Rattle.notation.proofs.Laws.FolderTable.{noFolder, pathsBefore, folder-count, folder-row, paths-between, paths-before-all, paths-before-most}
+use Rattle.notation.proofs.Laws.Sections.{paths-stand, labels-stand}
 use Rattle.notation.proofs.Laws.PathTable.{PathRow, stepsBefore, path-rows, rows-count, rows-at, steps-through}
 use Rattle.notation.proofs.Laws.LabelTable.{LabelRow, noStep, label-rows, label-count, label-at}
 use Rattle.notation.proofs.Laws.Fitting.{Fitting, roomy}
-use Rattle.notation.proofs.Laws.Words.{words, words-read, words-head}
-use Rattle.notation.proofs.Laws.Reads.{allSteps, folders-read, paths-read, steps-read, labels-read, whole, there, gone, text-piece}
+use Rattle.notation.proofs.Laws.Words.{words-read, words-head}
+use Rattle.notation.proofs.Laws.Reads.{allSteps, paths-read, labels-read, there, text-piece}
 
 -- path i's entry and text
 pub record PathRead (part : List ℕ) (text : List ℕ) (i first : ℕ) (p : Path) : Type 0 where

@@ -1,8 +1,7 @@
 -- A piece that stands at a place of a longer list: how pieces of pieces are found, and what reading there gives.
-use Prim.Native.Nat.{ℕ, zero, suc, _+_, _≤_, _<_}
+use Prim.Native.Nat.{ℕ, _+_, _≤_, _<_}
 use mathlib.Core.Path.{_≡_, refl, sym, ap, _∙_}
-use mathlib.Core.List.{List, [], _∷_, _++_, append-nil, append-assoc}
-use native.Mathlib.Nat.{zero-add, add-assoc, add-zero}
+use mathlib.Core.List.{List, [], _++_, append-assoc}
 use native.Mathlib.Omega.{arith}
 use lib.ListN.{length, getD, take, drop, length-append, List·getD-append}
 use lib.Seq.{drop-at, take-append-seam, getD-append-add}

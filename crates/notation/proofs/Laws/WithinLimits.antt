@@ -1,6 +1,6 @@
 -- A well-formed set that meets no refusal fits its tables: a folder has a path, and no path is over its limit of steps.
 use Prim.Native.Nat.{ℕ, zero, suc, _+_, _*_, _≤_, _<_, zero-le}
-use mathlib.Core.Path.{_≡_, refl, sym, ap, _∙_}
+use mathlib.Core.Path.{_≡_, refl, ap}
 use mathlib.Core.Bool.{Bool, true, false, _&&_, _||_, cond}
 use mathlib.Core.List.{List, [], _∷_, _++_}
 use native.Mathlib.Nat.{not-suc-le-zero, le-of-suc-le-suc}
@@ -9,13 +9,12 @@ use borrow.Author.Tests.{ltb-false, leb-true, leb-false}
 use lib.Dec.{leb, ltb}
 use lib.ListN.{length, getD, length-append}
 use Rattle.notation.specs.Limits.{maxSetBytes, maxNumber, maxPaths, maxSteps, maxLabels}
-use Rattle.notation.specs.Sets.{Step, Path, Folder, folder, FolderSet, testOf, folderNumber, folderPaths}
+use Rattle.notation.specs.Sets.{Path, folder, FolderSet, testOf, folderNumber}
 use Rattle.notation.specs.Refusals.{Refusal, outOfTurn, longName, longPath}
 use Rattle.notation.specs.Form.{every, nonEmpty, formedPath, formedFolder, formed, pathsOf, stepsOf, labelsOf, overBytes, overFull, longTest, stepFaults, pathFaults, pathsFaults, faultsAfter, faults}
 use Rattle.notation.specs.Print.{print}
-use Rattle.notation.proofs.Laws.Tests.{cases, and-left, and-right}
+use Rattle.notation.proofs.Laws.Tests.{and-left, and-right}
 use Rattle.notation.proofs.Laws.FolderTable.{noFolder}
-use Rattle.notation.proofs.Laws.PathTable.{stepsBefore}
 use Rattle.notation.proofs.Laws.LabelTable.{steps-append}
 use Rattle.notation.proofs.Laws.Fitting.{Fitting}
 

@@ -1,5 +1,5 @@
 -- Numbers of two bytes are read as they were stored; so are the counts and the text of a read set.
-use Prim.Native.Nat.{ℕ, zero, suc, _+_, _*_, _/_, _%_, _≤_, _<_, suc-le-suc, zero-le}
+use Prim.Native.Nat.{ℕ, _+_, _*_, _/_, _%_, _≤_, _<_, suc-le-suc, zero-le}
 use mathlib.Core.Path.{_≡_, refl, sym, ap, _∙_}
 use mathlib.Core.List.{List, [], _∷_, _++_, map}
 use native.Mathlib.Nat.{add-zero}
@@ -8,7 +8,7 @@ use lib.ListN.{length, getD, take, drop, length-map}
 use Rattle.notation.specs.Limits.{maxSetBytes}
 use Rattle.notation.specs.Sets.{FolderSet}
 use Rattle.notation.specs.Print.{print}
-use Rattle.notation.specs.Layout.{Tables, textAt, le16, joined, counts, layout, tablesOf, setPart}
+use Rattle.notation.specs.Layout.{Tables, textAt, le16, joined, layout, tablesOf, setPart}
 use Rattle.notation.specs.Reads.{word16}
 use Rattle.notation.proofs.Laws.Stands.{Stands, read, slice}
 use Rattle.notation.proofs.Laws.Entries.{entry, map-width, map-at}

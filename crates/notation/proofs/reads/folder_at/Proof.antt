@@ -1,6 +1,6 @@
 -- `reads::folder_at`: by what `has`, `word_at` and `paths_end` ensure.
 use native.Mathlib.Omega.{arith}
-use mathlib.Core.Path.{_≡_, refl, sym, ap}
+use mathlib.Core.Path.{_≡_}
 use mathlib.Core.Bool.{true, false}
 use Rattle.notation.specs.Reads.{present, folderCount, folderAt}
 use Rattle.notation.specs.Layout.{foldersAt, folderSize}

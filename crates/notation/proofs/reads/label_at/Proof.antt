@@ -1,6 +1,6 @@
 -- `reads::label_at`: by what `has` and `word_at` ensure.
 use native.Mathlib.Omega.{arith}
-use mathlib.Core.Path.{_≡_, refl, sym, ap}
+use mathlib.Core.Path.{_≡_}
 use mathlib.Core.Bool.{true, false}
 use Rattle.notation.specs.Reads.{present, labelCount, labelAt}
 use Rattle.notation.specs.Layout.{labelsAt, labelSize}

@@ -1,5 +1,5 @@
 -- `reads::label_name`: the slice that `label_at` names, if it names one.
-use mathlib.Core.Path.{_≡_, refl, sym, ap, _∙_}
+use mathlib.Core.Path.{sym, _∙_}
 use borrow.Author.Needs.{needs}
 use Rattle.notation.proofs.reads.label_name.Statement.{statement}
 use Rattle.notation.proofs.reads.label_name.Tie as tie

@@ -1,5 +1,5 @@
 -- `reads::path_text`: the slice that `path_at` names, if it names one.
-use mathlib.Core.Path.{_≡_, refl, sym, ap, _∙_}
+use mathlib.Core.Path.{sym, _∙_}
 use borrow.Author.Needs.{needs}
 use Rattle.notation.proofs.reads.path_text.Statement.{statement}
 use Rattle.notation.proofs.reads.path_text.Tie as tie

@@ -1,6 +1,5 @@
 -- `reads::paths_end`: the next folder's first path, or the count of paths.
-use native.Mathlib.Omega.{arith}
-use mathlib.Core.Path.{_≡_, refl, sym, ap}
+use mathlib.Core.Path.{_≡_}
 use mathlib.Core.Bool.{true, false}
 use Rattle.notation.specs.Reads.{present, folderCount, pathsEnd}
 use Rattle.notation.specs.Layout.{foldersAt, folderSize}

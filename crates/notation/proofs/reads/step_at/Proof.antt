@@ -1,6 +1,6 @@
 -- `reads::step_at`: by what `has` and `byte_at` ensure.
 use native.Mathlib.Omega.{arith}
-use mathlib.Core.Path.{_≡_, refl, sym, ap}
+use mathlib.Core.Path.{_≡_}
 use mathlib.Core.Bool.{true, false}
 use Rattle.notation.specs.Reads.{present, stepCount, stepAt}
 use Rattle.notation.specs.Layout.{stepsAt}

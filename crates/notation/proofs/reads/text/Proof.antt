@@ -1,5 +1,4 @@
 -- `reads::text`: the slice of the stored length.
-use native.Mathlib.Omega.{arith}
 use borrow.Author.Needs.{needs}
 use Rattle.notation.proofs.reads.text.Statement.{statement}
 use Rattle.notation.proofs.reads.text.Tie as tie
