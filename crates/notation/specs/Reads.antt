@@ -1,5 +1,5 @@
 -- What the reading calls answer of a part that keeps a read set (Layout). Any bytes are answered, by what is stored.
-use Prim.Native.Nat.{ℕ, zero, suc, _+_, _-_, _*_, _/_, _%_, min}
+use Prim.Native.Nat.{ℕ, zero, suc, _+_, _-_, _*_, _/_, _%_, min, max}
 use mathlib.Core.Bool.{Bool, true, false, _&&_, cond}
 use mathlib.Core.List.{List, [], _∷_}
 use lib.Dec.{leb, ltb, eqb}
@@ -101,6 +101,19 @@ labelAt part i =
     cond (present part (labelCount part) maxLabels i)
     (LabelAt.Label (word16 part at) (word16 part (at + 2)) (word16 part (at + 4)))
     LabelAt.Missing
+
+-- the largest number of an answer; each is a number of two bytes
+abbrev pub folderTop : FolderAt → ℕ
+folderTop (FolderAt.Folder number first paths) = max (number .0) (max (first .0) paths)
+folderTop FolderAt.Missing = 0
+
+abbrev pub pathTop : PathAt → ℕ
+pathTop (PathAt.Path first steps at size) = max (max first steps) (max at size)
+pathTop PathAt.Missing = 0
+
+abbrev pub labelTop : LabelAt → ℕ
+labelTop (LabelAt.Label at size step) = max (max at size) step
+labelTop LabelAt.Missing = 0
 
 -- bytes of the text, empty where they do not lie within the text's room
 unfoldable pub textSlice : List ℕ → ℕ → ℕ → List ℕ

@@ -4,7 +4,7 @@ ghost use mathlib.Core.Bool.{true};
 ghost use Prim.Native.Nat.{_-_, _<_, min};
 ghost use lib.ListN.{getD};
 ghost use Rattle.notation.specs.Limits.{maxPaths};
-ghost use Rattle.notation.specs.Reads.{word16, textLen, folderCount, pathCount, stepCount, labelCount, present, pathsEnd, folderAt, pathAt, stepAt, labelAt, textSlice, textOf, pathText, labelName, folderOf};
+ghost use Rattle.notation.specs.Reads.{word16, textLen, folderCount, pathCount, stepCount, labelCount, present, pathsEnd, folderAt, pathAt, stepAt, labelAt, textSlice, textOf, pathText, labelName, folderOf, folderTop, pathTop, labelTop};
 use crate::FolderNumber;
 use crate::PathPlace;
 use crate::arith::minus;
@@ -129,7 +129,7 @@ fn has(part: &[u8], count: usize, capacity: usize, i: usize) -> bool
 // Where the paths of folder `i` end.
 fn paths_end(part: &[u8], i: usize) -> usize
     requires { ⌜ i < maxPaths ⌝ }
-    ensures { λ r. ⌜ r ≡ pathsEnd (now (part .entry)) i ⌝ }
+    ensures { λ r. ⌜ (r ≡ pathsEnd (now (part .entry)) i) × (r < 65536) ⌝ }
 {
     let next = i + 1;
     if has(part, folders(part), MAX_PATHS, next) {
@@ -140,7 +140,7 @@ fn paths_end(part: &[u8], i: usize) -> usize
 }
 
 pub fn folder_at(part: &[u8], i: usize) -> FolderAt
-    ensures { λ r. ⌜ r ≡ folderAt (now (part .entry)) i ⌝ }
+    ensures { λ r. ⌜ (r ≡ folderAt (now (part .entry)) i) × (folderTop r < 65536) ⌝ }
 {
     if has(part, folders(part), MAX_PATHS, i) {
         let at = FOLDERS_AT + FOLDER_SIZE * i;
@@ -157,7 +157,7 @@ pub fn folder_at(part: &[u8], i: usize) -> FolderAt
 }
 
 pub fn path_at(part: &[u8], place: PathPlace) -> PathAt
-    ensures { λ r. ⌜ r ≡ pathAt (now (part .entry)) place ⌝ }
+    ensures { λ r. ⌜ (r ≡ pathAt (now (part .entry)) place) × (pathTop r < 65536) ⌝ }
 {
     let i = place.0;
     if has(part, paths(part), MAX_PATHS, i) {
@@ -188,7 +188,7 @@ pub fn step_at(part: &[u8], i: usize) -> StepAt
 }
 
 pub fn label_at(part: &[u8], i: usize) -> LabelAt
-    ensures { λ r. ⌜ r ≡ labelAt (now (part .entry)) i ⌝ }
+    ensures { λ r. ⌜ (r ≡ labelAt (now (part .entry)) i) × (labelTop r < 65536) ⌝ }
 {
     if has(part, labels(part), MAX_LABELS, i) {
         let from = LABELS_AT + LABEL_SIZE * i;

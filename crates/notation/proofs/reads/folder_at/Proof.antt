@@ -41,13 +41,13 @@ returns : tie.Need-returns
 unfolding folderAt maxPaths foldersAt folderSize
 returns c = let a = c .before .before .before .before .before .before .before .before .args in
     let there : present (a .part .now) (folderCount (a .part .now)) maxPaths (a .i) ≡ true = cc in
-    rw there (cc)
+    (rw there (cc), omega arith)
 
 returns-2 : tie.Need-returns-2
 unfolding folderAt maxPaths
 returns-2 c = let a = c .before .before .before .before .args in
     let gone : present (a .part .now) (folderCount (a .part .now)) maxPaths (a .i) ≡ false = cc in
-    rw gone
+    (rw gone, omega arith)
 
 pub folder-at-spec : {M : Type 1} → statement M
 folder-at-spec =

@@ -40,13 +40,13 @@ returns : tie.Need-returns
 unfolding labelAt maxLabels labelsAt labelSize
 returns c = let a = c .before .before .before .before .before .before .before .args in
     let there : present (a .part .now) (labelCount (a .part .now)) maxLabels (a .i) ≡ true = cc in
-    rw there (cc)
+    (rw there (cc), omega arith)
 
 returns-2 : tie.Need-returns-2
 unfolding labelAt maxLabels
 returns-2 c = let a = c .before .before .before .before .args in
     let gone : present (a .part .now) (labelCount (a .part .now)) maxLabels (a .i) ≡ false = cc in
-    rw gone
+    (rw gone, omega arith)
 
 pub label-at-spec : {M : Type 1} → statement M
 label-at-spec =

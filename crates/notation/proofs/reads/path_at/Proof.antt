@@ -46,13 +46,13 @@ returns : tie.Need-returns
 unfolding pathAt maxPaths pathsAt pathSize
 returns c = let a = c .before .before .before .before .before .before .before .before .args in
     let there : present (a .part .now) (pathCount (a .part .now)) maxPaths (a .place .0) ≡ true = cc in
-    rw there (cc)
+    (rw there (cc), omega arith)
 
 returns-2 : tie.Need-returns-2
 unfolding pathAt maxPaths
 returns-2 c = let a = c .before .before .before .before .args in
     let gone : present (a .part .now) (pathCount (a .part .now)) maxPaths (a .place .0) ≡ false = cc in
-    rw gone
+    (rw gone, omega arith)
 
 pub path-at-spec : {M : Type 1} → statement M
 path-at-spec =

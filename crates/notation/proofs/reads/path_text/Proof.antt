@@ -20,10 +20,10 @@ slice-aggregate-result : tie.Need-slice-aggregate-result
 slice-aggregate-result c = search needs
 
 returns : tie.Need-returns
-returns c = rw (sym (c .before .before .before .before .path-at .ensures) ∙ c .before .before .at .given .1) (c .text-slice .ensures)
+returns c = rw (sym (c .before .before .before .before .path-at .ensures .0) ∙ c .before .before .at .given .1) (c .text-slice .ensures)
 
 returns-2 : tie.Need-returns-2
-returns-2 c = rw (sym (c .before .before .before .path-at .ensures) ∙ c .before .enum-told .given .1)
+returns-2 c = rw (sym (c .before .before .before .path-at .ensures .0) ∙ c .before .enum-told .given .1)
 
 pub path-text-spec : {M : Type 1} → statement M
 path-text-spec =

@@ -41,13 +41,13 @@ returns : tie.Need-returns
 unfolding pathsEnd maxPaths foldersAt folderSize
 returns c = let a = c .before .before .before .before .before .args in
     let there : present (a .part .now) (folderCount (a .part .now)) maxPaths (a .i + 1) ≡ true = cc in
-    rw there (c .word-at .ensures .0)
+    (rw there (c .word-at .ensures .0), c .word-at .ensures .1)
 
 returns-2 : tie.Need-returns-2
 unfolding pathsEnd maxPaths
 returns-2 c = let a = c .before .before .before .before .before .args in
     let gone : present (a .part .now) (folderCount (a .part .now)) maxPaths (a .i + 1) ≡ false = cc in
-    rw gone (c .paths .ensures .0)
+    (rw gone (c .paths .ensures .0), c .paths .ensures .1)
 
 pub paths-end-spec : {M : Type 1} → statement M
 paths-end-spec =
