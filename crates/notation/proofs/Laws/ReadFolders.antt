@@ -78,3 +78,7 @@ module _ (s : FolderSet) (f : Fitting s) (rest : List ℕ) where
       let m : min (length s) maxPaths ≡ length s = omega (arith, f .folders) in
       rw (le-leb setSize (length (setPart s ++ rest)) (whole s f rest), folders-read s f rest, m)
       (search-is (setPart s ++ rest) (number .0) 0 s (λ i h. rw zero-add (number-read i h)))
+
+  pub folder-missing : (i : ℕ) → length s ≤ i → folderAt (setPart s ++ rest) i ≡ FolderAt.Missing
+  unfolding folderAt
+  folder-missing i h = rw (folders-read s f rest, gone s f rest (length s) maxPaths i h)

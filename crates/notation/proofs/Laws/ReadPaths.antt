@@ -20,7 +20,7 @@ use Rattle.notation.proofs.Laws.PathTable.{PathRow, stepsBefore, path-r
 use Rattle.notation.proofs.Laws.LabelTable.{LabelRow, noStep, label-rows, label-count, label-at}
 use Rattle.notation.proofs.Laws.Fitting.{Fitting, roomy}
 use Rattle.notation.proofs.Laws.Words.{words-read, words-head}
-use Rattle.notation.proofs.Laws.Reads.{allSteps, paths-read, labels-read, there, text-piece}
+use Rattle.notation.proofs.Laws.Reads.{allSteps, paths-read, labels-read, there, gone, text-piece}
 
 -- path i's entry and text
 pub record PathRead (part : List ℕ) (text : List ℕ) (i first : ℕ) (p : Path) : Type 0 where
@@ -118,3 +118,11 @@ module _ (s : FolderSet) (f : Fitting s) (rest : List ℕ) where
         test = r .test;
         nth = r .nth;
       }
+
+  pub path-missing : (i : ℕ) → length (pathsOf s) ≤ i → pathAt (setPart s ++ rest) (record { 0 = i }) ≡ PathAt.Missing
+  unfolding pathAt
+  path-missing i h = rw (paths-read s f rest, gone s f rest (length (pathsOf s)) maxPaths i h)
+
+  pub label-missing : (i : ℕ) → length (labelsOf (allSteps s)) ≤ i → labelAt (setPart s ++ rest) i ≡ LabelAt.Missing
+  unfolding labelAt
+  label-missing i h = rw (labels-read s f rest, gone s f rest (length (labelsOf (allSteps s))) maxLabels i h)

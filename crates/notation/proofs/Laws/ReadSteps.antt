@@ -1,5 +1,5 @@
 -- On the bytes of a set, a step is read as its axis and test.
-use Prim.Native.Nat.{ℕ, _+_, _*_, _/_, _%_, _<_}
+use Prim.Native.Nat.{ℕ, _+_, _*_, _/_, _%_, _≤_, _<_}
 use mathlib.Core.Path.{_≡_}
 use mathlib.Core.List.{List, _++_, map}
 use native.Mathlib.Nat.{add-zero}
@@ -17,7 +17,7 @@ use Rattle.notation.proofs.Laws.Entries.{entry, map-at}
 use Rattle.notation.proofs.Laws.Sections.{steps-stand}
 use Rattle.notation.proofs.Laws.LabelTable.{noStep}
 use Rattle.notation.proofs.Laws.Fitting.{Fitting, roomy, one-byte}
-use Rattle.notation.proofs.Laws.Reads.{allSteps, steps-read, there}
+use Rattle.notation.proofs.Laws.Reads.{allSteps, steps-read, there, gone}
 
 -- the two bits of a step's byte
 kind-step : (x : Step) (b : ℕ) → b ≡ getD (stepEntry x) 0 0 → StepAt.Step (eqb (b % 2) 1) (eqb (b / 2 % 2) 1) ≡ StepAt.Step (isDescendant (axisOf x)) (isStar (testOf x))
@@ -44,3 +44,7 @@ module _ (s : FolderSet) (f : Fitting s) (rest : List ℕ) where
       read 0 (omega (arith, one-byte (getD (allSteps s) i noStep))) (step-stands i h) in
       rw ((steps-read s f rest), there s f rest (length (allSteps s)) (maxPaths * maxSteps) i h k)
       (kind-step (getD (allSteps s) i noStep) (getD (setPart s ++ rest) (stepsAt + i) 0) (rw add-zero at x))
+
+  pub step-missing : (i : ℕ) → length (allSteps s) ≤ i → stepAt (setPart s ++ rest) i ≡ StepAt.Missing
+  unfolding stepAt
+  step-missing i h = rw (steps-read s f rest, gone s f rest (length (allSteps s)) (maxPaths * maxSteps) i h)
