@@ -40,21 +40,21 @@ unfoldable pub present : List ℕ → ℕ → ℕ → ℕ → Bool
 present part count capacity i = leb setSize (length part) && (ltb i count && ltb i capacity)
 
 -- where an entry stands
-abbrev pub folderPlace : ℕ → ℕ
-folderPlace i = foldersAt + folderSize * i
+abbrev pub folderEntryAt : ℕ → ℕ
+folderEntryAt i = foldersAt + folderSize * i
 
-abbrev pub pathPlace : ℕ → ℕ
-pathPlace i = pathsAt + pathSize * i
+abbrev pub pathEntryAt : ℕ → ℕ
+pathEntryAt i = pathsAt + pathSize * i
 
-abbrev pub labelPlace : ℕ → ℕ
-labelPlace i = labelsAt + labelSize * i
+abbrev pub labelEntryAt : ℕ → ℕ
+labelEntryAt i = labelsAt + labelSize * i
 
 -- the number of folder i, and the place of its first path
 abbrev pub storedNumber : List ℕ → ℕ → ℕ
-storedNumber part i = word16 part (folderPlace i)
+storedNumber part i = word16 part (folderEntryAt i)
 
 abbrev pub storedFirst : List ℕ → ℕ → ℕ
-storedFirst part i = word16 part (folderPlace i + 2)
+storedFirst part i = word16 part (folderEntryAt i + 2)
 
 abbrev pub hasFolder : List ℕ → ℕ → Bool
 hasFolder part i = present part (folderCount part) maxPaths i
@@ -72,7 +72,7 @@ folderAt part i =
 -- first step, count of steps, and where in the text the path stands
 unfoldable pub pathAt : List ℕ → PathPlace → PathAt
 pathAt part place =
-    let at = pathPlace (place .0) in
+    let at = pathEntryAt (place .0) in
     cond (present part (pathCount part) maxPaths (place .0))
     (PathAt.Path (word16 part at) (word16 part (at + 2)) (word16 part (at + 4)) (word16 part (at + 6)))
     PathAt.Missing
@@ -97,7 +97,7 @@ stepAt part i =
 -- where in the text the label stands, and its step
 unfoldable pub labelAt : List ℕ → ℕ → LabelAt
 labelAt part i =
-    let at = labelPlace i in
+    let at = labelEntryAt i in
     cond (present part (labelCount part) maxLabels i)
     (LabelAt.Label (word16 part at) (word16 part (at + 2)) (word16 part (at + 4)))
     LabelAt.Missing

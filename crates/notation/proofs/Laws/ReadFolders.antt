@@ -12,7 +12,7 @@ use Rattle.notation.specs.Limits.{maxNumber, maxPaths}
 use Rattle.notation.specs.Sets.{folder, FolderSet, folderNumber, folderPaths}
 use Rattle.notation.specs.Print.{print}
 use Rattle.notation.specs.Layout.{setSize, joined, folderEntry, folderTable, tablesOf, setPart}
-use Rattle.notation.specs.Reads.{folderPlace, storedNumber, storedFirst, pathsEnd, folderAt, searchFolder, folderIndex, folderOf}
+use Rattle.notation.specs.Reads.{folderEntryAt, storedNumber, storedFirst, pathsEnd, folderAt, searchFolder, folderIndex, folderOf}
 use Rattle.notation.specs.declared.reads.FolderAt.{FolderAt}
 use Rattle.notation.specs.declared.FolderNumber.{FolderNumber}
 use Rattle.notation.proofs.Laws.Stands.{Stands}
@@ -35,7 +35,7 @@ search-is part number k (folder n ps ∷ fs) same =
 
 module _ (s : FolderSet) (f : Fitting s) (rest : List ℕ) where
   -- a folder's number, the count of paths before it, and its count of paths
-  folder-stands : (i : ℕ) → i < length s → Stands (folderPlace i) (folderEntry (folderNumber (getD s i noFolder)) (pathsBefore s i)) (setPart s ++ rest)
+  folder-stands : (i : ℕ) → i < length s → Stands (folderEntryAt i) (folderEntry (folderNumber (getD s i noFolder)) (pathsBefore s i)) (setPart s ++ rest)
   unfolding setPart tablesOf
   folder-stands i h =
       let k : i < length (folderTable 0 s) = rw (folder-count 0 s) h in
@@ -46,12 +46,12 @@ module _ (s : FolderSet) (f : Fitting s) (rest : List ℕ) where
   number-read : (i : ℕ) → i < length s → storedNumber (setPart s ++ rest) i ≡ folderNumber (getD s i noFolder)
   unfolding maxNumber joined
   number-read i h =
-      words-head (folderPlace i) (folderNumber (getD s i noFolder)) (pathsBefore s i ∷ []) (omega (arith, f .numbers i h)) (folder-stands i h)
+      words-head (folderEntryAt i) (folderNumber (getD s i noFolder)) (pathsBefore s i ∷ []) (omega (arith, f .numbers i h)) (folder-stands i h)
 
   first-read : (i : ℕ) → i < length s → storedFirst (setPart s ++ rest) i ≡ pathsBefore s i
   unfolding maxPaths joined
   first-read i h =
-      words-read (folderPlace i) (folderNumber (getD s i noFolder) ∷ pathsBefore s i ∷ []) 1 (omega arith)
+      words-read (folderEntryAt i) (folderNumber (getD s i noFolder) ∷ pathsBefore s i ∷ []) 1 (omega arith)
       (omega (arith, paths-before-most s i, f .paths)) (folder-stands i h)
 
   end-read : (i : ℕ) → i < length s → pathsEnd (setPart s ++ rest) i ≡ pathsBefore s (suc i)

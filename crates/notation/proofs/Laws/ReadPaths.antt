@@ -10,7 +10,7 @@ use Rattle.notation.specs.Sets.{label, Step, Path, FolderSet, testOf}
 use Rattle.notation.specs.Form.{pathsOf, labelsOf}
 use Rattle.notation.specs.Print.{print, printPath}
 use Rattle.notation.specs.Layout.{joined, pathEntry, labelEntry, setPaths, setLabels, tablesOf, setPart}
-use Rattle.notation.specs.Reads.{pathPlace, labelPlace, pathAt, labelAt, pathText, labelName}
+use Rattle.notation.specs.Reads.{pathEntryAt, labelEntryAt, pathAt, labelAt, pathText, labelName}
 use Rattle.notation.specs.declared.reads.PathAt.{PathAt}
 use Rattle.notation.specs.declared.reads.LabelAt.{LabelAt}
 use Rattle.notation.proofs.Laws.Stands.{Stands, fits}
@@ -44,7 +44,7 @@ module _ (s : FolderSet) (f : Fitting s) (rest : List ℕ) where
   path-row : (i : ℕ) → i < length (pathsOf s) → PathRow (print s) (stepsBefore (pathsOf s) i) (getD (pathsOf s) i []) (getD (setPaths 9 0 s) i [])
   path-row i h = rw zero-add at (rows-at (path-rows s) i h)
 
-  path-stands : (i : ℕ) → i < length (pathsOf s) → Stands (pathPlace i) (getD (setPaths 9 0 s) i []) (setPart s ++ rest)
+  path-stands : (i : ℕ) → i < length (pathsOf s) → Stands (pathEntryAt i) (getD (setPaths 9 0 s) i []) (setPart s ++ rest)
   unfolding setPart tablesOf
   path-stands i h =
       let k : i < length (setPaths 9 0 s) = rw (rows-count (path-rows s)) h in
@@ -57,17 +57,17 @@ module _ (s : FolderSet) (f : Fitting s) (rest : List ℕ) where
       let first = stepsBefore (pathsOf s) i in
       let count = length (getD (pathsOf s) i []) in
       let size = length (printPath (getD (pathsOf s) i [])) in
-      let e : Stands (pathPlace i) (pathEntry first count (r .at) size) (setPart s ++ rest) = rw (← r .is) (path-stands i h) in
+      let e : Stands (pathEntryAt i) (pathEntry first count (r .at) size) (setPart s ++ rest) = rw (← r .is) (path-stands i h) in
       let k : i < maxPaths = omega (arith, f .paths) in
       let u : first + count ≤ length (allSteps s) = steps-through (pathsOf s) i h in
       let v : r .at + size ≤ length (print s) = fits (r .stands) in
       rw (
         paths-read s f rest,
         there s f rest (length (pathsOf s)) maxPaths i h k,
-        words-head (pathPlace i) first (count ∷ r .at ∷ size ∷ []) (omega (arith, u, f .steps)) e,
-        words-read (pathPlace i) (first ∷ count ∷ r .at ∷ size ∷ []) 1 (omega arith) (omega (arith, u, f .steps)) e,
-        words-read (pathPlace i) (first ∷ count ∷ r .at ∷ size ∷ []) 2 (omega arith) (omega (arith, v, f .bytes)) e,
-        words-read (pathPlace i) (first ∷ count ∷ r .at ∷ size ∷ []) 3 (omega arith) (omega (arith, v, f .bytes)) e,
+        words-head (pathEntryAt i) first (count ∷ r .at ∷ size ∷ []) (omega (arith, u, f .steps)) e,
+        words-read (pathEntryAt i) (first ∷ count ∷ r .at ∷ size ∷ []) 1 (omega arith) (omega (arith, u, f .steps)) e,
+        words-read (pathEntryAt i) (first ∷ count ∷ r .at ∷ size ∷ []) 2 (omega arith) (omega (arith, v, f .bytes)) e,
+        words-read (pathEntryAt i) (first ∷ count ∷ r .at ∷ size ∷ []) 3 (omega arith) (omega (arith, v, f .bytes)) e,
       )
 
   -- the count of steps before path i, its count of steps, and its text
@@ -81,7 +81,7 @@ module _ (s : FolderSet) (f : Fitting s) (rest : List ℕ) where
         bytes = rw (path-answer i h r) (text-piece s f rest (r .at) (r .stands));
       }
 
-  label-stands : (i : ℕ) → i < length (labelsOf (allSteps s)) → Stands (labelPlace i) (getD (setLabels 9 0 s) i []) (setPart s ++ rest)
+  label-stands : (i : ℕ) → i < length (labelsOf (allSteps s)) → Stands (labelEntryAt i) (getD (setLabels 9 0 s) i []) (setPart s ++ rest)
   unfolding setPart tablesOf
   label-stands i h =
       let k : i < length (setLabels 9 0 s) = rw (label-count (label-rows s)) h in
@@ -92,16 +92,16 @@ module _ (s : FolderSet) (f : Fitting s) (rest : List ℕ) where
   unfolding labelAt maxSetBytes maxSteps maxPaths maxLabels joined
   label-answer i h r =
       let size = length (getD (labelsOf (allSteps s)) i []) in
-      let e : Stands (labelPlace i) (labelEntry (r .at) size (0 + r .index)) (setPart s ++ rest) = rw (← r .is) (label-stands i h) in
-      let e' : Stands (labelPlace i) (labelEntry (r .at) size (r .index)) (setPart s ++ rest) = rw zero-add at e in
+      let e : Stands (labelEntryAt i) (labelEntry (r .at) size (0 + r .index)) (setPart s ++ rest) = rw (← r .is) (label-stands i h) in
+      let e' : Stands (labelEntryAt i) (labelEntry (r .at) size (r .index)) (setPart s ++ rest) = rw zero-add at e in
       let k : i < maxLabels = omega (arith, f .labels) in
       let v : r .at + size ≤ length (print s) = fits (r .stands) in
       rw (
         labels-read s f rest,
         there s f rest (length (labelsOf (allSteps s))) maxLabels i h k,
-        words-head (labelPlace i) (r .at) (size ∷ r .index ∷ []) (omega (arith, v, f .bytes)) e',
-        words-read (labelPlace i) (r .at ∷ size ∷ r .index ∷ []) 1 (omega arith) (omega (arith, v, f .bytes)) e',
-        words-read (labelPlace i) (r .at ∷ size ∷ r .index ∷ []) 2 (omega arith) (omega (arith, r .below, f .steps)) e',
+        words-head (labelEntryAt i) (r .at) (size ∷ r .index ∷ []) (omega (arith, v, f .bytes)) e',
+        words-read (labelEntryAt i) (r .at ∷ size ∷ r .index ∷ []) 1 (omega arith) (omega (arith, v, f .bytes)) e',
+        words-read (labelEntryAt i) (r .at ∷ size ∷ r .index ∷ []) 2 (omega arith) (omega (arith, r .below, f .steps)) e',
       )
 
   -- label i's bytes, and its step
