@@ -8,6 +8,7 @@ pub mod Form
 pub mod Scan
 pub mod Safe
 pub mod Layout
+pub mod Reads
 pub mod Emit
 pub mod Put
 pub mod ReadSet
