@@ -53,6 +53,7 @@ pub mod Fitting
 pub mod WithinLimits
 pub mod Rising
 pub mod Words
+pub mod FolderOf
 pub mod Reads
 pub mod ReadSteps
 pub mod ReadFolders
