@@ -8,3 +8,6 @@ pub mod History
 pub mod Elements
 pub mod Folders
 pub mod Examples
+pub mod Automaton
+pub mod Tables
+pub mod Shape

@@ -38,6 +38,14 @@ before (step descendant t ∷ p) = []
 unfoldable pub keywords : Path → List Word
 keywords p = cut (before p) p
 
+-- for each label of a path, in order, the run that ends with it; `w` is the run before the steps that are left
+unfoldable pub labelWords : Word → Path → List Word
+labelWords w [] = []
+labelWords w (step child (label n) ∷ p) = (w ++ (name n ∷ [])) ∷ labelWords (w ++ (name n ∷ [])) p
+labelWords w (step child star ∷ p) = labelWords [] p
+labelWords w (step descendant (label n) ∷ p) = (name n ∷ []) ∷ labelWords (name n ∷ []) p
+labelWords w (step descendant star ∷ p) = labelWords [] p
+
 -- some keyword of some path of the set begins with the word
 pub record Begins (set : FolderSet) (word : Word) : Type 0 where
   pub path : Path

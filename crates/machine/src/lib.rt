@@ -1,1 +1,3 @@
-// The shared machine: current prefix, failure moves and matches over a list of open and close calls.
+// The shared machine of a folder set: its automaton, its run and the calls on them.
+pub mod layout;
+pub mod walk;

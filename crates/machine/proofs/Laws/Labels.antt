@@ -8,7 +8,7 @@ use lib.ListN.{length, length-append}
 use Rattle.notation.specs.Names.{Name}
 use Rattle.notation.specs.Sets.{child, descendant, label, star, step, Path, FolderSet}
 use Rattle.notation.specs.Form.{pathsOf}
-use Rattle.machine.specs.Words.{Symbol, document, name, Word, ended, cut, before, keywords, Begins}
+use Rattle.machine.specs.Words.{Symbol, document, name, Word, ended, cut, before, keywords, labelWords, Begins}
 use Rattle.machine.specs.Walk.{followedBy}
 
 -- no keyword is empty
@@ -27,14 +27,6 @@ cut-some (step descendant star ∷ p) w k m = elim (List·Memᴰ·append-cases (
 pub keyword-some : (p : Path) (k : Word) → List·Memᴰ k (keywords p) → k ≡ [] → ⊥
 unfolding keywords
 keyword-some p = cut-some p (before p)
-
--- for each label of a path, in order, the run that ends with it; `w` is the run before the steps that are left
-unfoldable pub labelWords : Word → Path → List Word
-labelWords w [] = []
-labelWords w (step child (label n) ∷ p) = followedBy w n ∷ labelWords (followedBy w n) p
-labelWords w (step child star ∷ p) = labelWords [] p
-labelWords w (step descendant (label n) ∷ p) = (name n ∷ []) ∷ labelWords (name n ∷ []) p
-labelWords w (step descendant star ∷ p) = labelWords [] p
 
 -- u is a beginning of k
 record Front (u k : Word) : Type 0 where

@@ -1,0 +1,215 @@
+-- The automaton (paper 01: the board): a set's bytes as the notation keeps them, and the shared machine's tables after them. What is stored
+-- is the definitions written down; numbers take two bytes, the lower first, and spare bytes are 0.
+use Prim.Native.Nat.{ℕ, zero, suc, _+_, _*_, _%_}
+use mathlib.Core.Bool.{Bool, true, false, not, _&&_, cond}
+use mathlib.Core.List.{List, [], _∷_, _++_, map}
+use lib.Dec.{eqb}
+use lib.ListN.{length}
+use Rattle.notation.specs.Names.{Name}
+use Rattle.notation.specs.Limits.{maxPaths, maxSteps, maxLabels}
+use Rattle.notation.specs.Sets.{Axis, child, descendant, Test, label, star, Step, step, Path, FolderSet, axisOf, testOf}
+use Rattle.notation.specs.Form.{pathsOf, stepsOf, labelsOf}
+use Rattle.notation.specs.Layout.{setSize, setPart, le16, joined, padded}
+use Rattle.notation.specs.Reads.{isDescendant, isStar}
+use Rattle.machine.specs.Words.{Symbol, document, name, Word, sameSymbol, before, labelWords, begins}
+use Rattle.machine.specs.Prefix.{failure}
+
+-- sizes and offsets
+
+unfoldable pub hashes : ℕ
+hashes = 256
+
+unfoldable pub linkSize : ℕ
+linkSize = 8
+
+-- bytes of a mask: one bit a step
+unfoldable pub maskSize : ℕ
+maskSize = 256
+
+unfoldable pub headsAt : ℕ
+unfolding setSize
+headsAt = setSize
+
+unfoldable pub linksAt : ℕ
+unfolding headsAt hashes
+linksAt = headsAt + 2 * hashes
+
+unfoldable pub masksAt : ℕ
+unfolding linksAt linkSize maxLabels
+masksAt = linksAt + linkSize * maxLabels
+
+unfoldable pub startAt : ℕ
+unfolding masksAt maskSize
+startAt = masksAt + 6 * maskSize
+
+unfoldable pub automatonSize : ℕ
+automatonSize = 65536
+
+-- a hash of a name
+unfoldable pub hashFrom : ℕ → Name → ℕ
+hashFrom h [] = h
+hashFrom h (b ∷ n) = hashFrom ((31 * h + b) % 256) n
+
+abbrev pub hash : Name → ℕ
+hash n = hashFrom 0 n
+
+-- the number of the first element that passes the test, counted from k; 0 for none
+unfoldable pub find {ℓ} : {A : Type ℓ} → (A → Bool) → ℕ → List A → ℕ
+find test k [] = 0
+find test k (a ∷ l) = cond (test a) k (find test (suc k) l)
+
+-- the labels of a set and, for each, the word of its keyword that ends with it
+abbrev pub allSteps : FolderSet → List Step
+allSteps s = stepsOf (pathsOf s)
+
+abbrev pub allLabels : FolderSet → List Name
+allLabels s = labelsOf (allSteps s)
+
+unfoldable pub wordsIn : List Path → List Word
+wordsIn [] = []
+wordsIn (p ∷ ps) = labelWords (before p) p ++ wordsIn ps
+
+abbrev pub allWords : FolderSet → List Word
+allWords s = wordsIn (pathsOf s)
+
+unfoldable pub sameWord : Word → Word → Bool
+sameWord [] [] = true
+sameWord [] (t ∷ v) = false
+sameWord (s ∷ w) [] = false
+sameWord (s ∷ w) (t ∷ v) = sameSymbol s t && sameWord w v
+
+-- states: 0 is the empty word, 1 is `#`, and a word that ends with a label is 2 more than the place of the first label that ends it
+unfoldable pub stateIn : List Word → Word → ℕ
+stateIn words [] = 0
+stateIn words (document ∷ []) = 1
+stateIn words (document ∷ s ∷ w) = find (sameWord (document ∷ s ∷ w)) 2 words
+stateIn words (name n ∷ w) = find (sameWord (name n ∷ w)) 2 words
+
+abbrev pub stateOf : FolderSet → Word → ℕ
+stateOf s w = stateIn (allWords s) w
+
+-- a word without its last symbol
+unfoldable pub shortened : Word → Word
+shortened [] = []
+shortened (s ∷ []) = []
+shortened (s ∷ t ∷ w) = s ∷ shortened (t ∷ w)
+
+-- chains: the first label of each hash, and for each label the next one of its hash; 1 more than the label's place, 0 for none
+
+abbrev pub hasHash : ℕ → Name → Bool
+hasHash h n = eqb (hash n) h
+
+-- f 0, f 1, .. , n values
+unfoldable pub tabulate : (ℕ → ℕ) → ℕ → List ℕ
+tabulate f zero = []
+tabulate f (suc n) = tabulate f n ++ (f n ∷ [])
+
+abbrev pub headOf : List Name → ℕ → ℕ
+headOf names h = find (hasHash h) 1 names
+
+abbrev pub heads : List Name → List ℕ
+heads names = tabulate (headOf names) hashes
+
+unfoldable pub nexts : ℕ → List Name → List ℕ
+nexts k [] = []
+nexts k (n ∷ names) = find (hasHash (hash n)) (suc (suc k)) names ∷ nexts (suc k) names
+
+-- a label's links: the next label of its chain, the states of its word without the last symbol and of the longest proper end of its
+-- word that begins a keyword, and the length of its word
+pub data Link : Type 0 where
+  link : ℕ → ℕ → ℕ → ℕ → Link
+
+abbrev pub linkEntry : Link → List ℕ
+linkEntry (link next parent fail size) = le16 next ++ (le16 parent ++ (le16 fail ++ le16 size))
+
+unfoldable pub linksOf : FolderSet → List ℕ → List Word → List Link
+linksOf s [] words = []
+linksOf s (next ∷ more) [] = []
+linksOf s (next ∷ more) (w ∷ words) =
+    link next (stateOf s (shortened w)) (stateOf s (failure s w)) (length w) ∷ linksOf s more words
+
+abbrev pub links : FolderSet → List Link
+links s = linksOf s (nexts 0 (allLabels s)) (allWords s)
+
+-- masks: one bit a step in set order, eight steps a byte, the first step in the lowest bit
+
+-- a step with whether it is the first and the last of its path
+pub data Role : Type 0 where
+  role : Step → Bool → Bool → Role
+
+unfoldable pub rolesFrom : Bool → Path → List Role
+rolesFrom first [] = []
+rolesFrom first (s ∷ []) = role s first true ∷ []
+rolesFrom first (s ∷ t ∷ p) = role s first false ∷ rolesFrom false (t ∷ p)
+
+unfoldable pub rolesIn : List Path → List Role
+rolesIn [] = []
+rolesIn (p ∷ ps) = rolesFrom true p ++ rolesIn ps
+
+abbrev pub roles : FolderSet → List Role
+roles s = rolesIn (pathsOf s)
+
+-- `*`; `/` and `//` of a step that is not the first; `//` and `/` of a first step; the last step
+abbrev pub isStarRole : Role → Bool
+isStarRole (role s first last) = isStar (testOf s)
+
+abbrev pub isChildRole : Role → Bool
+isChildRole (role s first last) = not first && not (isDescendant (axisOf s))
+
+abbrev pub isDescendantRole : Role → Bool
+isDescendantRole (role s first last) = not first && isDescendant (axisOf s)
+
+abbrev pub isAnywhereRole : Role → Bool
+isAnywhereRole (role s first last) = first && isDescendant (axisOf s)
+
+abbrev pub isRootRole : Role → Bool
+isRootRole (role s first last) = first && not (isDescendant (axisOf s))
+
+abbrev pub isLastRole : Role → Bool
+isLastRole (role s first last) = last
+
+abbrev pub bit : Bool → ℕ
+bit true = 1
+bit false = 0
+
+-- eight bits of a byte, the first in the lowest place
+unfoldable pub packed : (ℕ → Bool) → ℕ
+packed b = bit (b 0) + 2 * bit (b 1) + 4 * bit (b 2) + 8 * bit (b 3) + 16 * bit (b 4) + 32 * bit (b 5) + 64 * bit (b 6) + 128 * bit (b 7)
+
+-- bits 8 j to 8 j + 7 are byte j
+abbrev pub byteOf : (ℕ → Bool) → ℕ → ℕ
+byteOf b j = packed (λ k. b (8 * j + k))
+
+abbrev pub bitBytes : (ℕ → Bool) → ℕ → List ℕ
+bitBytes b n = tabulate (byteOf b) n
+
+-- the test of role i; no for a role that is not there
+unfoldable pub roleAt : (Role → Bool) → List Role → ℕ → Bool
+roleAt f [] i = false
+roleAt f (r ∷ rs) zero = f r
+roleAt f (r ∷ rs) (suc i) = roleAt f rs i
+
+abbrev pub mask : (Role → Bool) → FolderSet → List ℕ
+mask f s = bitBytes (roleAt f (roles s)) maskSize
+
+unfoldable pub masks : FolderSet → List ℕ
+masks s = mask isStarRole s ++ (mask isChildRole s ++ (mask isDescendantRole s ++ (mask isAnywhereRole s ++ (mask isRootRole s ++ mask isLastRole s))))
+
+-- the bytes of the tables
+unfoldable pub headBytes : List ℕ → List ℕ
+headBytes hs = joined (map le16 hs)
+
+unfoldable pub linkBytes : List Link → List ℕ
+linkBytes ls = padded (linkSize * maxLabels) (joined (map linkEntry ls))
+
+-- a set's bytes with any heads, links, masks and initial state
+unfoldable pub assembled : FolderSet → List ℕ → List Link → List ℕ → ℕ → List ℕ
+assembled s hs ls ms first = padded automatonSize (setPart s ++ (headBytes hs ++ (linkBytes ls ++ (ms ++ le16 first))))
+
+-- a fresh run is in state 1 where `#` begins a keyword, else in state 0
+abbrev pub startState : FolderSet → ℕ
+startState s = bit (begins s (document ∷ []))
+
+-- the automaton of a set
+unfoldable pub automatonOf : FolderSet → List ℕ
+automatonOf s = assembled s (heads (allLabels s)) (links s) (masks s) (startState s)

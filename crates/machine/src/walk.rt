@@ -1,0 +1,7 @@
+// The walk of an open over the automaton's tables.
+
+// Where a walk arrived, and by how many failure moves.
+pub struct Walk {
+    pub moves: usize,
+    pub state: usize,
+}
