@@ -37,3 +37,4 @@ pub mod FaultNumbers
 pub mod Counts
 pub mod Verdict
 pub mod Within
+pub mod Refusals
