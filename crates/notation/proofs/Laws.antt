@@ -38,3 +38,6 @@ pub mod Counts
 pub mod Verdict
 pub mod Within
 pub mod Refusals
+pub mod AcceptedSet
+pub mod ReadAnswer
+pub mod SameParts
