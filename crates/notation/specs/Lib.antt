@@ -9,6 +9,7 @@ pub mod Accepted
 pub mod Scan
 pub mod Safe
 pub mod Layout
+pub mod Reads
 pub mod Emit
 pub mod Put
 pub mod ReadSet

@@ -5,6 +5,7 @@ pub mod limits;
 pub mod names;
 pub mod put;
 pub mod read;
+pub mod reads;
 pub mod scan;
 
 // A path's place: its index among all paths of the set.

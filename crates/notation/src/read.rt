@@ -8,7 +8,7 @@ use crate::scan::Tally;
 ghost use mathlib.Core.Path.{_≡_};
 ghost use mathlib.Core.List.{_++_};
 ghost use Prim.Native.Nat.{_≤_};
-ghost use lib.ListN.{length, drop};
+ghost use lib.ListN.{length, drop, replicate};
 ghost use lib.Seq.{sets};
 ghost use Rattle.notation.specs.Limits.{maxSetBytes};
 ghost use Rattle.notation.specs.Layout.{setSize};
@@ -40,4 +40,39 @@ fn put_counts(part: &mut [u8], size: usize, t: Tally)
     put::put_pair(part, 0, size, t.folders);
     put::put_pair(part, 4, t.paths, t.steps);
     put::put16(part, 8, t.labels);
+}
+
+fn clear_set(part: &mut [u8])
+    requires { ⌜ setSize ≤ length (now part) ⌝ }
+    ensures { λ _. ⌜ now (part .exit) ≡ replicate setSize 0 ++ drop setSize (now (part .entry)) ⌝ }
+{
+    put::clear(part, SET_SIZE);
+}
+
+// An accepted text, laid out.
+fn fill(text: &[u8], part: &mut [u8])
+    requires { ⌜ (length (now text) ≤ maxSetBytes) × (Within (scan start (now text) .tally)) × (setSize ≤ length (now part)) ⌝ }
+    ensures { λ _. ⌜ now (part .exit) ≡ partRead (now (text .entry)) ++ drop setSize (now (part .entry)) ⌝ }
+{
+    clear_set(part);
+    put::copy(part, TEXT_AT, text);
+    let s = fill_tables(text, part);
+    let t = s.tally;
+    put_counts(part, text.len(), t);
+}
+
+// Reads a set's text into the first bytes of `part`. Answers 0, or the number of the refusal: 1 for a short buffer, then 2 to 7 in
+// build's order. A refusal changes nothing. Two passes over the text, and one over the buffer.
+pub fn read_set(text: &[u8], part: &mut [u8]) -> u8
+    ensures { λ r. ⌜ ReadSet (now (text .entry)) (now (part .entry)) r (now (part .exit)) ⌝ }
+{
+    if part.len() < SET_SIZE {
+        return 1;
+    }
+    let refused = scan::refusal(text);
+    if refused != 0 {
+        return refused;
+    }
+    fill(text, part);
+    0
 }

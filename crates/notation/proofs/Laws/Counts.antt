@@ -1,9 +1,7 @@
 -- No count falls while a text is read, so a text whose counts are within the limits at its end is within them at each byte.
-use Prim.Native.Nat.{ℕ, _+_, _*_, _≤_}
+use Prim.Native.Nat.{ℕ, _≤_}
 use native.Mathlib.Omega.{arith}
-use mathlib.Core.Path.{_≡_, refl}
 use mathlib.Core.List.{List, [], _∷_}
-use Rattle.notation.specs.Limits.{maxPaths, maxSteps, maxLabels}
 use Rattle.notation.specs.Scan.{counted, scanned, scan}
 use Rattle.notation.specs.Put.{Within}
 use Rattle.notation.specs.declared.scan.Mode.{Mode}

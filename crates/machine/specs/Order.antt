@@ -1,0 +1,32 @@
+-- A call's order of refusals (paper 01: Service codes): the refusal given is the first whose condition holds.
+use mathlib.Core.Path.{_≡_}
+use mathlib.Core.Bool.{Bool, true, false, cond}
+use mathlib.Core.Option.{Option, none, some}
+use mathlib.Core.List.{List, [], _∷_, _++_, List·Memᴰ}
+use Rattle.notation.specs.Refusals.{Refusal}
+
+-- a refusal with its condition, tested
+pub data Condition : Type 0 where
+  gives : Bool → Refusal → Condition
+
+abbrev pub holds : Condition → Bool
+holds (gives b r) = b
+
+abbrev pub refusalOf : Condition → Refusal
+refusalOf (gives b r) = r
+
+-- this refusal's condition holds, and none before it does
+pub record FirstOf (order : List Condition) (r : Refusal) : Type 0 where
+  pub before : List Condition
+  pub later : List Condition
+  pub joined : before ++ (gives true r ∷ later) ≡ order
+  pub unmet : (c : Condition) → List·Memᴰ c before → holds c ≡ false
+
+-- the same, computed
+unfoldable pub first : List Condition → Option Refusal
+first [] = none
+first (gives b r ∷ later) = cond b (some r) (first later)
+
+abbrev pub isNone : Option Refusal → Bool
+isNone none = true
+isNone (some r) = false

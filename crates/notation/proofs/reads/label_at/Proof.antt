@@ -1,0 +1,65 @@
+-- `reads::label_at`: by what `has` and `word_at` ensure.
+use native.Mathlib.Omega.{arith}
+use mathlib.Core.Path.{_≡_}
+use mathlib.Core.Bool.{true, false}
+use Rattle.notation.specs.Reads.{present, labelCount, labelAt}
+use Rattle.notation.specs.Layout.{labelsAt, labelSize}
+use Rattle.notation.specs.Limits.{maxLabels}
+use borrow.Author.Needs.{needs}
+use Rattle.notation.proofs.reads.label_at.Statement.{statement}
+use Rattle.notation.proofs.reads.label_at.Tie as tie
+
+labels-requires : tie.Need-labels-requires
+labels-requires c κs = search needs
+
+has-requires : tie.Need-has-requires
+has-requires c κs = search needs
+
+mul-from : tie.Need-mul-from
+mul-from c = omega (arith, c .before .has .ensures .1 (c .if1 .taken))
+
+add-from : tie.Need-add-from
+add-from c = omega (arith, c .before .has .ensures .1 (c .if1 .taken))
+
+word-at-requires : tie.Need-word-at-requires
+word-at-requires c κs = search needs
+
+add-word-at : tie.Need-add-word-at
+add-word-at c = omega (arith, c .before .before .has .ensures .1 (c .before .if1 .taken))
+
+word-at-requires-2 : tie.Need-word-at-requires-2
+word-at-requires-2 c κs = search needs
+
+add-word-at-2 : tie.Need-add-word-at-2
+add-word-at-2 c = omega (arith, c .before .before .before .has .ensures .1 (c .before .before .if1 .taken))
+
+word-at-requires-3 : tie.Need-word-at-requires-3
+word-at-requires-3 c κs = search needs
+
+returns : tie.Need-returns
+unfolding labelAt maxLabels labelsAt labelSize
+returns c = let a = c .before .before .before .before .before .before .before .args in
+    let there : present (a .part .now) (labelCount (a .part .now)) maxLabels (a .i) ≡ true = cc in
+    (rw there (cc), omega arith)
+
+returns-2 : tie.Need-returns-2
+unfolding labelAt maxLabels
+returns-2 c = let a = c .before .before .before .before .args in
+    let gone : present (a .part .now) (labelCount (a .part .now)) maxLabels (a .i) ≡ false = cc in
+    (rw gone, omega arith)
+
+pub label-at-spec : {M : Type 1} → statement M
+label-at-spec =
+    tie.close
+    (tie.spec
+    labels-requires
+    has-requires
+    mul-from
+    add-from
+    word-at-requires
+    add-word-at
+    word-at-requires-2
+    add-word-at-2
+    word-at-requires-3
+    returns
+    returns-2)

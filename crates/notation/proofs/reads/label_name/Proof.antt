@@ -1,0 +1,38 @@
+-- `reads::label_name`: the slice that `label_at` names, if it names one.
+use mathlib.Core.Path.{sym, _∙_}
+use borrow.Author.Needs.{needs}
+use Rattle.notation.proofs.reads.label_name.Statement.{statement}
+use Rattle.notation.proofs.reads.label_name.Tie as tie
+
+label-at-requires : tie.Need-label-at-requires
+label-at-requires c κs = search needs
+
+enum-known-at : tie.Need-enum-known-at
+enum-known-at c = search needs
+
+text-slice-requires : tie.Need-text-slice-requires
+text-slice-requires c κs = search needs
+
+enum-told : tie.Need-enum-told
+enum-told c = search needs
+
+slice-aggregate-result : tie.Need-slice-aggregate-result
+slice-aggregate-result c = search needs
+
+returns : tie.Need-returns
+returns c = rw (sym (c .before .before .before .before .label-at .ensures .0) ∙ c .before .before .at .given .1) (c .text-slice .ensures)
+
+returns-2 : tie.Need-returns-2
+returns-2 c = rw (sym (c .before .before .before .label-at .ensures .0) ∙ c .before .enum-told .given .1)
+
+pub label-name-spec : {M : Type 1} → statement M
+label-name-spec =
+    tie.close
+    (tie.spec
+    label-at-requires
+    enum-known-at
+    text-slice-requires
+    enum-told
+    slice-aggregate-result
+    returns
+    returns-2)
