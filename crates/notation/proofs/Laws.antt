@@ -44,7 +44,6 @@ pub mod Within
 pub mod Refusals
 pub mod AcceptedSet
 pub mod ReadAnswer
-pub mod SameParts
 pub mod Verdict
 pub mod Stands
 pub mod Entries

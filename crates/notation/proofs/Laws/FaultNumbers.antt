@@ -11,7 +11,7 @@ use Rattle.notation.specs.Limits.{maxSteps}
 use Rattle.notation.specs.Sets.{Path, folder, FolderSet, testOf}
 use Rattle.notation.specs.Refusals.{Refusal, shortBuffer, oversize, bentForm, outOfTurn, longName, longPath, full, foreignByte, torn, looseEnd, tooDeep, crossed, noSuchPlace, strangeShape, numberOf}
 use Rattle.notation.specs.Form.{every, longTest, stepFaults, pathFaults, pathsFaults, faultsAfter, faults, firstOf, any, numbersFall, namesLong, pathsLong}
-use Rattle.notation.proofs.Laws.Tests.{cases, and-left}
+use Rattle.notation.proofs.Laws.Tests.{cases, and-left, or-left}
 use Rattle.notation.proofs.Laws.Faults.{has, has-4, has-5, has-6}
 
 -- the first fault is one of the list, and a list without a first fault is empty
@@ -89,18 +89,14 @@ set-ours (folder n ps ∷ fs) last =
     ours-append (cond (leb n last) (outOfTurn ∷ []) []) (pathsFaults ps ++ faultsAfter n fs) (turn-ours (leb n last))
     (ours-append (pathsFaults ps) (faultsAfter n fs) (paths-ours ps) (set-ours fs n))
 
-or-no : (a b : Bool) → (a || b) ≡ false → a ≡ false
-or-no true b e = e
-or-no false b e = refl
-
 none-first : (fs : List Refusal) → every ours fs ≡ true → has 4 fs ≡ false → has 5 fs ≡ false → has 6 fs ≡ false → firstOf fs ≡ 0
 unfolding every any
 none-first [] o e₄ e₅ e₆ = refl
 none-first (r ∷ fs) o e₄ e₅ e₆ =
     let one : ours r ≡ true = and-left (ours r) (every ours fs) o in
-    let n₄ : eqb (numberOf r) 4 ≡ false = or-no (eqb (numberOf r) 4) (has 4 fs) e₄ in
-    let n₅ : eqb (numberOf r) 5 ≡ false = or-no (eqb (numberOf r) 5) (has 5 fs) e₅ in
-    let n₆ : eqb (numberOf r) 6 ≡ false = or-no (eqb (numberOf r) 6) (has 6 fs) e₆ in
+    let n₄ : eqb (numberOf r) 4 ≡ false = or-left (eqb (numberOf r) 4) (has 4 fs) e₄ in
+    let n₅ : eqb (numberOf r) 5 ≡ false = or-left (eqb (numberOf r) 5) (has 5 fs) e₅ in
+    let n₆ : eqb (numberOf r) 6 ≡ false = or-left (eqb (numberOf r) 6) (has 6 fs) e₆ in
     let none : ours r ≡ false = rw (n₄, n₅, n₆) in
     absurd (true≢false (sym one ∙ none))
 

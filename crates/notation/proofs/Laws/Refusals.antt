@@ -8,10 +8,10 @@ use mathlib.Core.List.{List, []}
 use lib.Dec.{eqb}
 use borrow.Author.Tests.{eqb-true, eqb-false, eq-eqb, ne-eqb}
 use Rattle.notation.specs.Refusals.{Refusal, numberOf}
-use Rattle.notation.specs.Form.{OfForm, overBytes, overFull, faults, firstOf}
+use Rattle.notation.specs.Form.{OfForm, overBytes, numbersFall, namesLong, pathsLong, overFull, faults, firstOf}
 use Rattle.notation.specs.Scan.{refusalOf, orElse}
 use Rattle.notation.proofs.Laws.Tests.{cases}
-use Rattle.notation.proofs.Laws.FaultNumbers.{fault-among, first-empty}
+use Rattle.notation.proofs.Laws.FaultNumbers.{fault-among, first-empty, turn-fault, name-fault, path-fault, no-fault}
 use Rattle.notation.proofs.Laws.Verdict.{Standing, oversized, bent, written, standing, over-refused, bent-refused, written-refused}
 
 -- the first fault, or else 7 where a table is over-full
@@ -33,6 +33,10 @@ full-seven : (b : Bool) → whenFull b ≡ 7 → b ≡ true
 full-seven true e = refl
 full-seven false e = absurd (omega (arith, e))
 
+full-none : (b : Bool) → whenFull b ≡ 0 → b ≡ false
+full-none true e = absurd (omega (arith, e))
+full-none false e = refl
+
 -- a number from 1 to 6 is the first fault's
 from-first : (a k : ℕ) (b : Bool) → 1 ≤ k → k ≤ 6 → orElse a (whenFull b) ≡ k → a ≡ k
 from-first a k b low high e =
@@ -48,6 +52,13 @@ from-full a b high e =
     cases (eqb a 0)
     (λ z. let none = eqb-true a 0 z in (none, full-seven b (sym (orElse-second a (whenFull b) none) ∙ e)))
     (λ f. let c : a ≡ 7 = rw f at e in absurd (omega (arith, high (λ z. omega arith))))
+
+-- 0: neither
+pub from-none : (a : ℕ) (b : Bool) → orElse a (cond b 7 0) ≡ 0 → (a ≡ 0) × (b ≡ false)
+from-none a b e =
+    cases (eqb a 0)
+    (λ z. let none = eqb-true a 0 z in (none, full-none b (sym (orElse-second a (whenFull b) none) ∙ e)))
+    (λ f. let c : a ≡ 0 = rw f at e in absurd (eqb-false a 0 f c))
 
 module _ (text : List ℕ) where
   abbrev first : OfForm text → ℕ
@@ -90,6 +101,24 @@ module _ (text : List ℕ) where
     λ e. on-fault (numberOf r) low high e (standing text),
     λ h. answer (h .0) (h .1) ∙ (orElse-first (first (h .1)) (whenFull (overFull (h .1 .set))) (λ z. omega (arith, h .2)) ∙ h .2),
   )
+
+  -- each of them on its condition
+  pub refused-4 : refusalOf text ≡ 4 → (o : OfForm text) × (numbersFall (o .set) ≡ true)
+  refused-4 e = let h = on-fault 4 (omega arith) (omega arith) e (standing text) in (h .1, turn-fault (h .1 .set) (h .2))
+
+  pub refused-5 : refusalOf text ≡ 5 → (o : OfForm text) × (namesLong (o .set) ≡ true)
+  refused-5 e = let h = on-fault 5 (omega arith) (omega arith) e (standing text) in (h .1, name-fault (h .1 .set) (h .2))
+
+  pub refused-6 : refusalOf text ≡ 6 → (o : OfForm text) × (pathsLong (o .set) ≡ true)
+  refused-6 e = let h = on-fault 6 (omega arith) (omega arith) e (standing text) in (h .1, path-fault (h .1 .set) (h .2))
+
+  -- where a condition of 4, 5 and 6 holds, one of them is the answer
+  pub refused-some : overBytes text ≡ false → (o : OfForm text)
+      → ((numbersFall (o .set) ≡ false) × (namesLong (o .set) ≡ false) × (pathsLong (o .set) ≡ false) → ⊥)
+      → (4 ≤ refusalOf text) × (refusalOf text ≤ 6)
+  refused-some few o some =
+      let any : first o ≡ 0 → ⊥ = λ z. some (no-fault (o .set) .0 z) in
+      rw (answer few o, orElse-first (first o) (whenFull (overFull (o .set))) any) (fault-among (o .set) any)
 
   on-7 : refusalOf text ≡ 7 → Standing text
       → (overBytes text ≡ false) × (o : OfForm text) × (faults (o .set) ≡ []) × (overFull (o .set) ≡ true)
