@@ -41,6 +41,9 @@ pub mod Sized
 pub mod Put
 pub mod Filled
 pub mod Within
+pub mod Refusals
+pub mod AcceptedSet
+pub mod ReadAnswer
 pub mod Verdict
 pub mod Stands
 pub mod Entries

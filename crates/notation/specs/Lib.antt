@@ -5,6 +5,7 @@ pub mod Classes
 pub mod Sets
 pub mod Print
 pub mod Form
+pub mod Accepted
 pub mod Scan
 pub mod Safe
 pub mod Layout

@@ -1,17 +1,17 @@
 -- The first fault of a set: none exactly when no condition of 4, 5 and 6 holds; a 4, 5 or 6 only on its condition.
-use Prim.Native.Nat.{ℕ, suc}
+use Prim.Native.Nat.{ℕ, suc, _≤_}
 use native.Mathlib.Omega.{arith}
 use mathlib.Core.Path.{_≡_, refl, sym, ap₂, _∙_}
 use mathlib.Core.Logic.{_↔_}
 use mathlib.Core.Bool.{Bool, true, false, cond, _&&_, _||_, true≢false, and-assoc}
 use mathlib.Core.List.{List, [], _∷_, _++_}
 use lib.Dec.{leb, eqb}
-use borrow.Author.Tests.{eq-eqb}
+use borrow.Author.Tests.{eq-eqb, eqb-true}
 use Rattle.notation.specs.Limits.{maxSteps}
 use Rattle.notation.specs.Sets.{Path, folder, FolderSet, testOf}
 use Rattle.notation.specs.Refusals.{Refusal, shortBuffer, oversize, bentForm, outOfTurn, longName, longPath, full, foreignByte, torn, looseEnd, tooDeep, crossed, noSuchPlace, strangeShape, numberOf}
 use Rattle.notation.specs.Form.{every, longTest, stepFaults, pathFaults, pathsFaults, faultsAfter, faults, firstOf, any, numbersFall, namesLong, pathsLong}
-use Rattle.notation.proofs.Laws.Tests.{and-left}
+use Rattle.notation.proofs.Laws.Tests.{cases, and-left, or-left}
 use Rattle.notation.proofs.Laws.Faults.{has, has-4, has-5, has-6}
 
 -- the first fault is one of the list, and a list without a first fault is empty
@@ -41,6 +41,10 @@ first-none : (k : ℕ) (fs : List Refusal) → firstOf fs ≡ 0 → has k fs ≡
 unfolding any
 first-none k [] e = refl
 first-none k (r ∷ fs) e = absurd (numbered r e)
+
+pub first-empty : (fs : List Refusal) → firstOf fs ≡ 0 → fs ≡ []
+first-empty [] e = refl
+first-empty (r ∷ fs) e = absurd (numbered r e)
 
 -- a set's faults are 4, 5 and 6 only
 
@@ -85,22 +89,36 @@ set-ours (folder n ps ∷ fs) last =
     ours-append (cond (leb n last) (outOfTurn ∷ []) []) (pathsFaults ps ++ faultsAfter n fs) (turn-ours (leb n last))
     (ours-append (pathsFaults ps) (faultsAfter n fs) (paths-ours ps) (set-ours fs n))
 
-or-no : (a b : Bool) → (a || b) ≡ false → a ≡ false
-or-no true b e = e
-or-no false b e = refl
-
 none-first : (fs : List Refusal) → every ours fs ≡ true → has 4 fs ≡ false → has 5 fs ≡ false → has 6 fs ≡ false → firstOf fs ≡ 0
 unfolding every any
 none-first [] o e₄ e₅ e₆ = refl
 none-first (r ∷ fs) o e₄ e₅ e₆ =
     let one : ours r ≡ true = and-left (ours r) (every ours fs) o in
-    let n₄ : eqb (numberOf r) 4 ≡ false = or-no (eqb (numberOf r) 4) (has 4 fs) e₄ in
-    let n₅ : eqb (numberOf r) 5 ≡ false = or-no (eqb (numberOf r) 5) (has 5 fs) e₅ in
-    let n₆ : eqb (numberOf r) 6 ≡ false = or-no (eqb (numberOf r) 6) (has 6 fs) e₆ in
+    let n₄ : eqb (numberOf r) 4 ≡ false = or-left (eqb (numberOf r) 4) (has 4 fs) e₄ in
+    let n₅ : eqb (numberOf r) 5 ≡ false = or-left (eqb (numberOf r) 5) (has 5 fs) e₅ in
+    let n₆ : eqb (numberOf r) 6 ≡ false = or-left (eqb (numberOf r) 6) (has 6 fs) e₆ in
     let none : ours r ≡ false = rw (n₄, n₅, n₆) in
     absurd (true≢false (sym one ∙ none))
 
+among : (n : ℕ) → (eqb n 4 || (eqb n 5 || eqb n 6)) ≡ true → (4 ≤ n) × (n ≤ 6)
+among n e =
+    cases (eqb n 4) (λ y. let h = eqb-true n 4 y in (omega arith, omega arith))
+    (λ f.
+    cases (eqb n 5) (λ y. let h = eqb-true n 5 y in (omega arith, omega arith))
+    (λ g.
+    let y : eqb n 6 ≡ true = rw (f, g) at e in
+    let h = eqb-true n 6 y in
+    (omega arith, omega arith)))
+
+first-among : (fs : List Refusal) → every ours fs ≡ true → (firstOf fs ≡ 0 → ⊥) → (4 ≤ firstOf fs) × (firstOf fs ≤ 6)
+unfolding every
+first-among [] o some = absurd (some refl)
+first-among (r ∷ fs) o some = among (numberOf r) (and-left (ours r) (every ours fs) o)
+
 module _ (s : FolderSet) where
+  pub fault-among : (firstOf (faults s) ≡ 0 → ⊥) → (4 ≤ firstOf (faults s)) × (firstOf (faults s) ≤ 6)
+  fault-among = first-among (faults s) (set-ours s 0)
+
   pub turn-fault : firstOf (faults s) ≡ 4 → numbersFall s ≡ true
   turn-fault e = sym (has-4 s 0) ∙ first-has 3 (faults s) e
 

@@ -1,7 +1,7 @@
 -- The three ways a text can stand: over the byte limit, of no form, or the text of a well-formed set; and what it is refused with in each.
 use Prim.Native.Nat.{ℕ}
-use mathlib.Core.Path.{_≡_, refl, sym, _∙_}
-use mathlib.Core.Bool.{Bool, true, false, cond, true≢false}
+use mathlib.Core.Path.{_≡_, sym, _∙_}
+use mathlib.Core.Bool.{true, false, cond, true≢false}
 use mathlib.Core.List.{List}
 use Rattle.notation.specs.Sets.{FolderSet}
 use Rattle.notation.specs.Print.{print}

@@ -1,7 +1,7 @@
 -- A well-formed set that meets no refusal fits its tables: a folder has a path, and no path is over its limit of steps.
 use Prim.Native.Nat.{ℕ, zero, suc, _+_, _*_, _≤_, _<_, zero-le}
 use mathlib.Core.Path.{_≡_, refl, ap}
-use mathlib.Core.Bool.{Bool, true, false, _&&_, _||_, cond}
+use mathlib.Core.Bool.{Bool, true, false, _&&_, cond}
 use mathlib.Core.List.{List, [], _∷_, _++_}
 use native.Mathlib.Nat.{not-suc-le-zero, le-of-suc-le-suc}
 use native.Mathlib.Omega.{arith}
@@ -13,18 +13,10 @@ use Rattle.notation.specs.Sets.{Path, folder, FolderSet, testOf, folderN
 use Rattle.notation.specs.Refusals.{Refusal, outOfTurn, longName, longPath}
 use Rattle.notation.specs.Form.{every, nonEmpty, formedPath, formedFolder, formed, pathsOf, stepsOf, labelsOf, overBytes, overFull, longTest, stepFaults, pathFaults, pathsFaults, faultsAfter, faults}
 use Rattle.notation.specs.Print.{print}
-use Rattle.notation.proofs.Laws.Tests.{and-left, and-right}
+use Rattle.notation.proofs.Laws.Tests.{and-left, and-right, or-left, or-right}
 use Rattle.notation.proofs.Laws.FolderTable.{noFolder}
 use Rattle.notation.proofs.Laws.LabelTable.{steps-append}
 use Rattle.notation.proofs.Laws.Fitting.{Fitting}
-
-or-left : (a b : Bool) → (a || b) ≡ false → a ≡ false
-or-left true b e = e
-or-left false b e = refl
-
-or-right : (a b : Bool) → (a || b) ≡ false → b ≡ false
-or-right true b e = cc
-or-right false b e = e
 
 -- the parts of an empty list are empty
 pub none-left : {A : Type 0} (l r : List A) → l ++ r ≡ [] → l ≡ []
