@@ -65,14 +65,14 @@ pub enum FolderIndex {
     Missing,
 }
 
-fn byte_at(part: &[u8], i: usize) -> usize
+pub fn byte_at(part: &[u8], i: usize) -> usize
     ensures { λ r. ⌜ (r ≡ getD (now (part .entry)) i 0) × (r < 256) ⌝ }
 {
     if i < part.len() { part[i] as usize } else { 0 }
 }
 
 // A number of two bytes, the lower first.
-fn word_at(part: &[u8], at: usize) -> usize
+pub fn word_at(part: &[u8], at: usize) -> usize
     ensures { λ r. ⌜ (r ≡ word16 (now (part .entry)) at) × (r < 65536) ⌝ }
 {
     if at < part.len() {
