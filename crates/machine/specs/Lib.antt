@@ -11,3 +11,8 @@ pub mod Examples
 pub mod Automaton
 pub mod Tables
 pub mod Shape
+pub mod Bits
+pub mod Chain
+pub mod Run
+pub mod RunCalls
+pub mod Asking
