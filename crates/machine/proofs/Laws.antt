@@ -17,3 +17,5 @@ pub mod Alike
 pub mod Adding
 pub mod Whole
 pub mod Examples
+pub mod Stores
+pub mod Assembled
