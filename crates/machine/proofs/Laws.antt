@@ -21,3 +21,5 @@ pub mod Alike
 pub mod Adding
 pub mod Whole
 pub mod Examples
+pub mod Stores
+pub mod Assembled
