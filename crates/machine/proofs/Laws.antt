@@ -4,9 +4,10 @@ pub mod Prefix
 pub mod Walk
 pub mod Labels
 pub mod Bits
-pub mod Find
+pub mod Finding
 pub mod States
 pub mod Goto
+pub mod Linked
 pub mod Order
 pub mod Calls
 pub mod Steps

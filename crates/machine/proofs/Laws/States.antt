@@ -17,7 +17,7 @@ use Rattle.machine.specs.Automaton.{find, allSteps, allLabels, wordsIn, 
 use Rattle.machine.proofs.Laws.Basics.{both, both-true, cases, clash}
 use Rattle.machine.proofs.Laws.Words.{same-symbol, symbol-same, begins-is, is-begins, begins-shorter}
 use Rattle.machine.proofs.Laws.Labels.{LabelWord, begins-label, Kind, empty, root, labelled, begins-kind}
-use Rattle.machine.proofs.Laws.Find.{find-none, FoundAt, find-some}
+use Rattle.machine.proofs.Laws.Finding.{find-none, FoundAt, find-some}
 
 pub same-word : (u v : Word) → sameWord u v ≡ true → u ≡ v
 unfolding sameWord
