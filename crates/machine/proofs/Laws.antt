@@ -8,6 +8,7 @@ pub mod Finding
 pub mod States
 pub mod Goto
 pub mod Linked
+pub mod Walked
 pub mod Order
 pub mod Calls
 pub mod Steps
