@@ -25,3 +25,7 @@ pub mod Whole
 pub mod Examples
 pub mod Stores
 pub mod Assembled
+pub mod PathSteps
+pub mod RunBytes
+pub mod Means
+pub mod OpenBits
