@@ -29,3 +29,5 @@ pub mod PathSteps
 pub mod RunBytes
 pub mod Means
 pub mod OpenBits
+pub mod RowStores
+pub mod Opening
