@@ -31,3 +31,4 @@ pub mod Means
 pub mod OpenBits
 pub mod RowStores
 pub mod Opening
+pub mod Starting
