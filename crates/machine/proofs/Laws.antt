@@ -32,3 +32,4 @@ pub mod OpenBits
 pub mod RowStores
 pub mod Opening
 pub mod Starting
+pub mod RunShape

@@ -147,7 +147,7 @@ member-at [] d h = absurd (not-suc-le-zero h)
 member-at (n ∷ names) zero h = List·Memᴰ·head refl
 member-at (n ∷ names) (suc d) h = List·Memᴰ·tail (member-at names d (le-of-suc-le-suc h))
 
-short-at : (names : List Name) (d : ℕ) → d ≤ length names → Short names → length (getD ([] ∷ names) d []) ≤ maxName
+pub short-at : (names : List Name) (d : ℕ) → d ≤ length names → Short names → length (getD ([] ∷ names) d []) ≤ maxName
 short-at names zero h t = omega arith
 short-at names (suc d) h t = t (getD names d []) (member-at names d h)
 
