@@ -33,3 +33,5 @@ pub mod RowStores
 pub mod Opening
 pub mod Starting
 pub mod RunShape
+pub mod FolderPlaces
+pub mod Asking

@@ -2,11 +2,12 @@
 use Prim.Native.Nat.{ℕ, _+_, _*_, _≤_, _<_}
 use mathlib.Core.Path.{_≡_}
 use mathlib.Core.Bool.{Bool, true, false}
-use mathlib.Core.List.{List, _++_}
+use mathlib.Core.List.{List, [], _++_}
 use lib.Dec.{eqb}
-use lib.ListN.{length}
+use lib.ListN.{length, getD}
 use Rattle.notation.specs.Names.{Name}
 use Rattle.notation.specs.Sets.{Test, label, star, FolderSet, testOf}
+use Rattle.notation.specs.Form.{pathsOf, numbersFall}
 use Rattle.notation.specs.Layout.{setPart}
 use Rattle.notation.specs.Activity.{sameName, takes}
 use Rattle.notation.specs.Reads.{word16, labelEntryAt}
@@ -31,6 +32,9 @@ isLabelRole e (role s first last) = isLabel e (testOf s)
 
 pub record Means (s : FolderSet) (a : List ℕ) : Type 0 where
   pub fit : Fitting s
+  -- no path is empty, and the folders' numbers rise
+  pub full : (i : ℕ) → i < length (pathsOf s) → 1 ≤ length (getD (pathsOf s) i [])
+  pub rising : numbersFall s ≡ false
   pub more : List ℕ
   pub stored : a ≡ setPart s ++ more
   pub long : automatonSize ≤ length a
