@@ -35,3 +35,5 @@ pub mod Starting
 pub mod RunShape
 pub mod FolderPlaces
 pub mod Asking
+pub mod Following
+pub mod Demand3

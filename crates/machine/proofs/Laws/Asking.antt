@@ -62,7 +62,7 @@ none-any : (f : ℕ → Bool) → any f [] ≡ false
 unfolding any
 none-any f = refl
 
-within-out : (k n : ℕ) → within 1 n k ≡ true → (1 ≤ k) × (k ≤ n)
+pub within-out : (k n : ℕ) → within 1 n k ≡ true → (1 ≤ k) × (k ≤ n)
 within-out k n h = go (leb 1 k) (leb k n) refl refl h
   where
     go : (x y : Bool) → leb 1 k ≡ x → leb k n ≡ y → (x && y) ≡ true → (1 ≤ k) × (k ≤ n)

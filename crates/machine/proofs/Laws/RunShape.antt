@@ -19,7 +19,7 @@ use Rattle.notation.specs.Reads.{labelCount}
 use Rattle.notation.proofs.Laws.Reads.{labels-read}
 use Rattle.machine.specs.Limits.{maxDepth, maxOpens}
 use Rattle.machine.specs.Prefix.{prefixOf}
-use Rattle.machine.specs.Order.{Condition, gives, first}
+use Rattle.machine.specs.Order.{Condition, gives, first, numberIn}
 use Rattle.machine.specs.Calls.{Lent, openCall, closeCall, Level, level, nameOf, State, namesOf, openNames, depth, nothingOpen, deepest, opensSpent, isInnermost, openOrder, closeOrder, refusal}
 use Rattle.machine.specs.Automaton.{automatonSize, stateOf, allLabels}
 use Rattle.machine.specs.Shape.{automatonShaped, allBelow}
@@ -37,11 +37,6 @@ use Rattle.machine.proofs.Laws.Means.{Means}
 -- the counters of a state
 abbrev pub countersOf : State → Counters
 countersOf st = record { opens = st .opens; closes = st .closes; moves = st .moves }
-
--- a refusal's number, 0 for none
-abbrev pub numberIn : Option Refusal → ℕ
-numberIn none = 0
-numberIn (some r) = numberOf r
 
 pub given-first : (order : List Condition) → given order ≡ numberIn (first order)
 unfolding given first
