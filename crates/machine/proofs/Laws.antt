@@ -36,4 +36,7 @@ pub mod RunShape
 pub mod FolderPlaces
 pub mod Asking
 pub mod Following
+pub mod FullPaths
+pub mod NameChain
+pub mod LabelSteps
 pub mod Demand3
