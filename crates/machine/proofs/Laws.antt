@@ -39,4 +39,5 @@ pub mod Following
 pub mod FullPaths
 pub mod NameChain
 pub mod LabelSteps
+pub mod SetAutomaton
 pub mod Demand3
