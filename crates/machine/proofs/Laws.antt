@@ -8,6 +8,8 @@ pub mod Finding
 pub mod States
 pub mod Goto
 pub mod Linked
+pub mod WithBit
+pub mod Marking
 pub mod Walked
 pub mod Order
 pub mod Calls
