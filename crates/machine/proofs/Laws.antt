@@ -10,6 +10,8 @@ pub mod Goto
 pub mod Linked
 pub mod WithBit
 pub mod Marking
+pub mod MaskRows
+pub mod Masked
 pub mod Walked
 pub mod Order
 pub mod Calls
