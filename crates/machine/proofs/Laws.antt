@@ -12,6 +12,7 @@ pub mod WithBit
 pub mod Marking
 pub mod MaskRows
 pub mod Masked
+pub mod Started
 pub mod Walked
 pub mod Order
 pub mod Calls

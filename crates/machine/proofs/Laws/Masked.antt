@@ -13,6 +13,7 @@ use lib.Seq.{getD-append-add, getD-append-seam, take-append-seam}
 use Rattle.notation.specs.Limits.{maxPaths, maxSteps}
 use Rattle.notation.specs.Sets.{child, descendant, Test, Step, step, Path, FolderSet, axisOf, testOf}
 use Rattle.notation.specs.Print.{printPath}
+use Rattle.notation.specs.Layout.{setPart}
 use Rattle.notation.specs.Form.{pathsOf, stepsOf}
 use Rattle.notation.specs.Reads.{isDescendant, isStar, stepAt, pathAt, pathCount}
 use Rattle.notation.specs.declared.reads.PathAt.{PathAt}
@@ -80,6 +81,21 @@ no-steps : length (stepsOf []) ≡ 0
 unfolding stepsOf
 no-steps = refl
 
+-- a path of the set, as it is read
+pub path-in : (s : FolderSet) (fit : Fitting s) (more : List ℕ) (pre : List Path) (p : Path) (ps : List Path) → pathsOf s ≡ pre ++ (p ∷ ps)
+    → (at : ℕ) × (pathAt (setPart s ++ more) (record { 0 = length pre }) ≡ PathAt.Path (length (stepsOf pre)) (length p) at (length (printPath p)))
+path-in s fit more pre p ps e =
+    let h : length pre < length (pathsOf s) = omega (arith, ap length e, length-append pre (p ∷ ps)) in
+    let r = path-read s fit more (length pre) h in
+    let q : getD (pathsOf s) (length pre) [] ≡ p = ap (λ (l : List Path). getD l (length pre) []) e ∙ getD-append-seam pre p ps [] in
+    let t : take (length pre) (pathsOf s) ≡ pre = ap (take (length pre)) e ∙ take-append-seam pre (p ∷ ps) in
+    (r .at, r .answer ∙ ap₂ (λ (l : List Path) (y : Path). PathAt.Path (length (stepsOf l)) (length y) (r .at) (length (printPath y))) t q)
+
+-- and its steps
+pub steps-here : (s : FolderSet) (pre : List Path) (p : Path) (ps : List Path) → pathsOf s ≡ pre ++ (p ∷ ps) → allSteps s ≡ stepsOf pre ++ (p ++ stepsOf ps)
+unfolding stepsOf
+steps-here s pre p ps e = ap stepsOf e ∙ steps-append pre (p ∷ ps)
+
 module _ (s : FolderSet) (fit : Fitting s) (hs : List ℕ) (ls : List Link) (f : ℕ) (sizes : (ms : List ℕ) → length ms ≡ 6 * maskSize → Sized hs ls ms) (rest : List ℕ) where
   -- the bytes with a row of bits for masks
   abbrev bytes : (ℕ → Bool) → List ℕ
@@ -133,28 +149,19 @@ module _ (s : FolderSet) (fit : Fitting s) (hs : List ℕ) (ls : List Link) (f :
       later : (k : ℕ) → k < length (y ∷ p) → getD (allSteps s) (suc i + k) noStep ≡ getD (y ∷ p) k noStep
       later k l = let e : suc i + k ≡ i + suc k = omega arith in ap (λ (j : ℕ). getD (allSteps s) j noStep) e ∙ g (suc k) (omega arith)
 
-  -- a path of the set, as it is read
   path-here : (b : ℕ → Bool) (pre : List Path) (p : Path) (ps : List Path) → pathsOf s ≡ pre ++ (p ∷ ps)
       → (at : ℕ) × (pathAt (bytes b) (record { 0 = length pre }) ≡ PathAt.Path (length (stepsOf pre)) (length p) at (length (printPath p)))
   path-here b pre p ps e =
       let x = after-set s fit hs ls (bitBytes b (6 * maskSize)) f rest in
-      let h : length pre < length (pathsOf s) = omega (arith, ap length e, length-append pre (p ∷ ps)) in
-      let r = path-read s fit (x .0) (length pre) h in
-      let q : getD (pathsOf s) (length pre) [] ≡ p = ap (λ (l : List Path). getD l (length pre) []) e ∙ getD-append-seam pre p ps [] in
-      let t : take (length pre) (pathsOf s) ≡ pre = ap (take (length pre)) e ∙ take-append-seam pre (p ∷ ps) in
-      (r .at, rw (x .1) (r .answer ∙ ap₂ (λ (l : List Path) (y : Path). PathAt.Path (length (stepsOf l)) (length y) (r .at) (length (printPath y))) t q))
-
-  -- the steps of a path of the set
-  steps-here : (pre : List Path) (p : Path) (ps : List Path) → pathsOf s ≡ pre ++ (p ∷ ps) → allSteps s ≡ stepsOf pre ++ (p ++ stepsOf ps)
-  unfolding stepsOf
-  steps-here pre p ps e = ap stepsOf e ∙ steps-append pre (p ∷ ps)
+      let r = path-in s fit (x .0) pre p ps e in
+      (r .0, rw (x .1) (r .1))
 
   mark-path-bits : (b : ℕ → Bool) (pre : List Path) (p : Path) (ps : List Path) → pathsOf s ≡ pre ++ (p ∷ ps)
       → markPath (length pre) (bytes b) ≡ bytes (roleBits (length (stepsOf pre)) (rolesFrom true p) b)
   unfolding markPath
   mark-path-bits b pre p ps e =
       let r = path-here b pre p ps e in
-      let split = steps-here pre p ps e in
+      let split = steps-here s pre p ps e in
       rw (r .1) (path-bits p (length (stepsOf pre)) true b (omega (arith, ap length split, length-append (stepsOf pre) (p ++ stepsOf ps), length-append p (stepsOf ps))) (step-here split))
     where
       step-here : allSteps s ≡ stepsOf pre ++ (p ++ stepsOf ps) → (k : ℕ) → k < length p → getD (allSteps s) (length (stepsOf pre) + k) noStep ≡ getD p k noStep
