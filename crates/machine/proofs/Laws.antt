@@ -13,6 +13,7 @@ pub mod Marking
 pub mod MaskRows
 pub mod Masked
 pub mod Started
+pub mod ChainPlaces
 pub mod Walked
 pub mod Order
 pub mod Calls
