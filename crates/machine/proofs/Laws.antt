@@ -14,6 +14,7 @@ pub mod MaskRows
 pub mod Masked
 pub mod Started
 pub mod ChainPlaces
+pub mod Compiled
 pub mod Walked
 pub mod Order
 pub mod Calls

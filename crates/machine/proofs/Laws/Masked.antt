@@ -51,11 +51,11 @@ bits-append i (r ∷ rs) ts b =
     let e : suc i + length rs ≡ i + suc (length rs) = omega arith in
     bits-append (suc i) rs ts (markBits i r b) ∙ ap (λ (j : ℕ). roleBits j ts (roleBits (suc i) rs (markBits i r b))) e
 
-bit-in : (m i : ℕ) → m < 6 → i < 8 * maskSize → place m i < 8 * (6 * maskSize)
+pub bit-in : (m i : ℕ) → m < 6 → i < 8 * maskSize → place m i < 8 * (6 * maskSize)
 unfolding maskSize
 bit-in m i k h = omega arith
 
-byte-in : (m i : ℕ) → m < 6 → i < 8 * maskSize → place m i / 8 < 6 * maskSize
+pub byte-in : (m i : ℕ) → m < 6 → i < 8 * maskSize → place m i / 8 < 6 * maskSize
 unfolding maskSize
 byte-in m i k h = omega arith
 
@@ -65,7 +65,7 @@ axis-small true false = omega arith
 axis-small false true = omega arith
 axis-small false false = omega arith
 
-all-small : maxPaths * maxSteps ≡ 8 * maskSize
+pub all-small : maxPaths * maxSteps ≡ 8 * maskSize
 unfolding maxPaths maxSteps maskSize
 all-small = refl
 
