@@ -17,3 +17,5 @@ pub mod Run
 pub mod RunCalls
 pub mod Asking
 pub mod Demand3
+pub mod Masks
+pub mod Compiled

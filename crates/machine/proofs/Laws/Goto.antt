@@ -67,7 +67,7 @@ same-test true false f g = sym (f refl)
 same-test false true f g = g refl
 same-test false false f g = refl
 
-past-end : {A : Type 0} (l : List A) (j : ℕ) → length l ≤ j → drop j l ≡ []
+pub past-end : {A : Type 0} (l : List A) (j : ℕ) → length l ≤ j → drop j l ≡ []
 past-end [] zero h = refl
 past-end [] (suc j) h = refl
 past-end (x ∷ l) zero h = absurd (omega arith)

@@ -27,7 +27,8 @@ next-small names l h =
     let r = range-below (suc (suc (0 + l))) (length (drop (suc l) names)) (find (hasHash (hash (getD names l []))) (suc (suc (0 + l))) (drop (suc l) names)) (find-range (hasHash (hash (getD names l []))) (suc (suc (0 + l))) (drop (suc l) names)) in
     omega (arith, next-at 0 names l h, length-drop (suc l) names, r)
 
-small : (n v : ℕ) → n ≤ maxLabels → v ≤ suc n → v < 65536
+-- such numbers fit two bytes
+pub small : (n v : ℕ) → n ≤ maxLabels → v ≤ suc n → v < 65536
 unfolding maxLabels
 small n v h k = omega arith
 

@@ -105,7 +105,7 @@ label-among s l = words-in (pathsOf s) (l .ofSet) (l .atLabel)
 pub among-label : (s : FolderSet) {u : Word} → List·Memᴰ u (allWords s) → LabelWord s u
 among-label s m = let r = words-of (pathsOf s) m in record { path = r .0; ofSet = r .1; atLabel = r .2 }
 
-at-among : {A : Type 0} (ws : List A) (d : A) (l : ℕ) → l < length ws → List·Memᴰ (getD ws l d) ws
+pub at-among : {A : Type 0} (ws : List A) (d : A) (l : ℕ) → l < length ws → List·Memᴰ (getD ws l d) ws
 at-among [] d l h = absurd (omega arith)
 at-among (w ∷ ws) d zero h = List·Memᴰ·head refl
 at-among (w ∷ ws) d (suc l) h = List·Memᴰ·tail (at-among ws d l (omega arith))

@@ -16,6 +16,7 @@ use Rattle.machine.specs.Prefix.{IsPrefix, longestEnd, failure}
 use Rattle.machine.specs.Walk.{followedBy, Walked, walked, movesOf, arrivedAt, counted, stuck, arrive, walkIn, walk}
 use Rattle.machine.specs.Automaton.{allLabels, allWords, stateIn, stateOf}
 use Rattle.machine.specs.Tables.{failAt, sizeOf, failOf, goto, oneMore, walkFrom, walkOver}
+use Rattle.machine.specs.Compiled.{storedWalk}
 use Rattle.machine.specs.declared.walk.Walk.{Walk}
 use Rattle.machine.proofs.Laws.Basics.{cases, clash}
 use Rattle.machine.proofs.Laws.Words.{begins-is}
@@ -31,10 +32,6 @@ FailAt s a l = failAt a l ≡ stateOf s (failure s (getD (allWords s) l []))
 -- and of all labels whose words have at most n symbols
 abbrev pub FailsTo : FolderSet → List ℕ → ℕ → Type 0
 FailsTo s a n = (l : ℕ) → l < length (allLabels s) → length (getD (allWords s) l []) ≤ n → FailAt s a l
-
--- a walk as it is stored
-abbrev pub storedWalk : FolderSet → Walked → Walk
-storedWalk s x = record { moves = movesOf x; state = stateOf s (arrivedAt x) }
 
 stored-more : (s : FolderSet) (x : Walked) → oneMore (storedWalk s x) ≡ storedWalk s (counted x)
 stored-more s (walked m v) = ap (λ (k : ℕ). record { moves = k; state = stateOf s v }) (add-one m)
