@@ -34,7 +34,9 @@ pub mod Stores
 pub mod Assembled
 pub mod PathSteps
 pub mod RunBytes
+pub mod FullPaths
 pub mod Means
+pub mod LabelSteps
 pub mod OpenBits
 pub mod RowStores
 pub mod Opening
@@ -43,8 +45,4 @@ pub mod RunShape
 pub mod FolderPlaces
 pub mod Asking
 pub mod Following
-pub mod FullPaths
-pub mod NameChain
-pub mod LabelSteps
-pub mod SetAutomaton
 pub mod Demand3

@@ -175,7 +175,7 @@ module _ (s : FolderSet) (a : List ℕ) (m : Means s a) (st : State) (few : Few 
         ← names-length s st g,
         state-at s names (st .matched) (names-deep s st g) (names-short s st g) rest (length names) (omega arith) (m .fit),
         take-length names,
-        m .sizes (prefixOf s names) (current-prefix s names .starts),
+        m .tables .size (prefixOf s names) (current-prefix s names .starts),
         g .prefix,
       )
 

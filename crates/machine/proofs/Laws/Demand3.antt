@@ -12,6 +12,7 @@ use Rattle.notation.specs.Names.{Name, within}
 use Rattle.notation.specs.Sets.{Folder, FolderSet, folderNumber}
 use Rattle.notation.specs.Form.{pathsOf}
 use Rattle.notation.specs.Fit.{nameAt, Active}
+use Rattle.notation.specs.Accepted.{Accepted}
 use Rattle.notation.specs.declared.PathPlace.{PathPlace}
 use Rattle.notation.specs.declared.FolderNumber.{FolderNumber}
 use Rattle.machine.specs.Words.{any}
@@ -21,7 +22,8 @@ use Rattle.machine.specs.Calls.{asLeft, Call, openCall, closeCall, State
 use Rattle.machine.specs.History.{acceptedCalls, opensIn, closesIn, stillOpen, FittedAfterOpen, opensOf, SameAnswers}
 use Rattle.machine.specs.Elements.{elementsOf, childlessDepths}
 use Rattle.machine.specs.Folders.{placesOf, FolderMatched, folderMatched}
-use Rattle.machine.specs.Automaton.{automatonSize}
+use Rattle.machine.specs.Automaton.{automatonSize, automatonOf}
+use Rattle.machine.specs.Shape.{automatonShaped}
 use Rattle.machine.specs.Run.{runSize, runOf}
 use Rattle.machine.specs.RunCalls.{given, startRefusal, openRefusal, closeRefusal}
 use Rattle.machine.specs.Asking.{askPath, askFolder, askStep, askPrefix, nameRefusal, askName}
@@ -33,7 +35,7 @@ use Rattle.machine.proofs.Laws.Matches.{run-matched, run-matched-there}
 use Rattle.machine.proofs.Laws.Moves.{Few}
 use Rattle.machine.proofs.Laws.Whole.{Whole, whole}
 use Rattle.machine.proofs.Laws.Folders.{folder-matched}
-use Rattle.machine.proofs.Laws.Means.{Means}
+use Rattle.machine.proofs.Laws.Means.{Means, means}
 use Rattle.machine.proofs.Laws.RunShape.{open-refused, close-refused}
 use Rattle.machine.proofs.Laws.FolderPlaces.{hasNumber, Placed, missing, at, placed}
 use Rattle.machine.proofs.Laws.Asking.{asked, within-out, ask-path, ask-folder, ask-step, ask-prefix, ask-name-refused, ask-name}
@@ -198,3 +200,8 @@ demand3-means s a m buffer long made =
       moves = rw e refl;
       movesMost = rw e (w .moves);
     }
+
+-- of every accepted set, whatever stands behind its automaton, every buffer of the size of a run or more, and every list of calls
+pub demand3 : (text : List ℕ) (s : FolderSet) → Accepted text s → (rest : List ℕ) → automatonShaped (automatonOf s ++ rest) ≡ true → (buffer : List ℕ) → runSize ≤ length buffer
+    → (made : List Made) → Demand3 s (automatonOf s ++ rest) buffer made
+demand3 text s accepted rest shaped buffer long made = demand3-means s (automatonOf s ++ rest) (means text s accepted rest shaped) buffer long made

@@ -10,33 +10,33 @@ use borrow.Author.Tests.{ltb-true, ltb-false, eqb-true, eq-eqb}
 use lib.Dec.{ltb, eqb}
 use lib.ListN.{length, getD, take, length-append, List·getD-append}
 use lib.Seq.{getD-append-add}
-use Rattle.notation.specs.Limits.{maxLabels}
 use Rattle.notation.specs.Names.{Name}
 use Rattle.notation.specs.Sets.{Test, label, star, Step, step, Path, FolderSet, testOf}
 use Rattle.notation.specs.Form.{pathsOf, stepsOf, labelOf, labelsOf}
-use Rattle.notation.specs.Print.{print}
-use Rattle.notation.specs.Layout.{setPart}
 use Rattle.notation.specs.Activity.{sameName}
-use Rattle.notation.specs.Reads.{word16, labelEntryAt, labelCount, present, labelAt}
-use Rattle.notation.specs.declared.reads.LabelAt.{LabelAt}
-use Rattle.notation.proofs.Laws.Fitting.{Fitting}
+use Rattle.notation.specs.Reads.{word16, labelEntryAt}
 use Rattle.notation.proofs.Laws.PathTable.{stepsBefore}
 use Rattle.notation.proofs.Laws.LabelTable.{noStep}
-use Rattle.notation.proofs.Laws.Reads.{labels-read, there}
-use Rattle.notation.proofs.Laws.ReadPaths.{LabelRead, label-read}
 use Rattle.machine.specs.Words.{any}
-use Rattle.machine.specs.Automaton.{allSteps, allLabels, roles, rolesIn, roleAt}
+use Rattle.machine.specs.Automaton.{allSteps, allLabels, Role, role, roles, rolesIn, roleAt}
 use Rattle.machine.specs.Chain.{chainLabels}
+use Rattle.machine.specs.Compiled.{placesOf, LabelStep, Compiled}
 use Rattle.machine.proofs.Laws.Basics.{cases, clash, any-is, is-any}
 use Rattle.machine.proofs.Laws.Words.{same-name, name-same}
-use Rattle.machine.proofs.Laws.Goto.{Chained, same-test}
+use Rattle.machine.proofs.Laws.Goto.{same-test}
 use Rattle.machine.proofs.Laws.PathSteps.{anyStep, Located, locate, role-at, role-past}
-use Rattle.machine.proofs.Laws.NameChain.{named, chain-named}
-use Rattle.machine.proofs.Laws.Means.{isLabel, isLabelRole}
+
+-- a label of this name
+abbrev pub isLabel : Name → Test → Bool
+isLabel e (label n) = sameName n e
+isLabel e star = false
+
+abbrev pub isLabelRole : Name → Role → Bool
+isLabelRole e (role s first last) = isLabel e (testOf s)
 
 -- membership in the places of a name
-named-in : (e : Name) (j : ℕ) (names : List Name) (l : ℕ) → l < length names → sameName (getD names l []) e ≡ true → List·Memᴰ (j + l) (named e j names)
-unfolding named
+named-in : (e : Name) (j : ℕ) (names : List Name) (l : ℕ) → l < length names → sameName (getD names l []) e ≡ true → List·Memᴰ (j + l) (placesOf e j names)
+unfolding placesOf
 named-in e j [] l h t = absurd (not-suc-le-zero h)
 named-in e j (n ∷ names) zero h t =
     let z : j + 0 ≡ j = omega arith in
@@ -45,8 +45,8 @@ named-in e j (n ∷ names) (suc l) h t =
     let z : j + suc l ≡ suc j + l = omega arith in
     rw z (Memᴰ·append-right (cond (sameName n e) (j ∷ []) []) (named-in e (suc j) names l (le-of-suc-le-suc h) t))
 
-in-named : (e : Name) (j : ℕ) (names : List Name) (x : ℕ) → List·Memᴰ x (named e j names) → (l : ℕ) × (l < length names) × (x ≡ j + l) × (sameName (getD names l []) e ≡ true)
-unfolding named
+in-named : (e : Name) (j : ℕ) (names : List Name) (x : ℕ) → List·Memᴰ x (placesOf e j names) → (l : ℕ) × (l < length names) × (x ≡ j + l) × (sameName (getD names l []) e ≡ true)
+unfolding placesOf
 in-named e j [] x p = absurd (List·Memᴰ·not-nil p)
 in-named e j (n ∷ names) x p = go (λ q. in-named e (suc j) names x q) (List·Memᴰ·append-cases (cond (sameName n e) (j ∷ []) []) p)
   where
@@ -54,8 +54,8 @@ in-named e j (n ∷ names) x p = go (λ q. in-named e (suc j) names x q) (List·
     first true t q = (0, omega arith, omega (arith, List·Memᴰ·eq-of-singleton q), t)
     first false t q = absurd (List·Memᴰ·not-nil q)
 
-    go : (List·Memᴰ x (named e (suc j) names) → (l : ℕ) × (l < length names) × (x ≡ suc j + l) × (sameName (getD names l []) e ≡ true))
-        → List·Memᴰ x (cond (sameName n e) (j ∷ []) []) ⊎ List·Memᴰ x (named e (suc j) names)
+    go : (List·Memᴰ x (placesOf e (suc j) names) → (l : ℕ) × (l < length names) × (x ≡ suc j + l) × (sameName (getD names l []) e ≡ true))
+        → List·Memᴰ x (cond (sameName n e) (j ∷ []) []) ⊎ List·Memᴰ x (placesOf e (suc j) names)
         → (l : ℕ) × (l < length (n ∷ names)) × (x ≡ j + l) × (sameName (getD (n ∷ names) l []) e ≡ true)
     go f (inl q) = first (sameName n e) refl q
     go f (inr q) = let r = f q in (suc (r .0), omega (arith, r .1), omega (arith, r .2), r .3)
@@ -106,53 +106,36 @@ is-label : (e : Name) (t : Test) → isLabel e t ≡ true → (n : Name) × (t �
 is-label e (label n) h = (n, refl, same-name n e h)
 is-label e star h = clash h refl
 
-module _ (s : FolderSet) (fit : Fitting s) (more : List ℕ) where
-  abbrev a : List ℕ
-  a = setPart s ++ more
-
+module _ (s : FolderSet) (a : List ℕ) (c : Compiled s a) where
   abbrev ss : List Step
   ss = allSteps s
 
-  abbrev read : (l : ℕ) → l < length (allLabels s) → LabelRead a (print s) ss l (getD (allLabels s) l [])
-  read l h = label-read s fit more l h
-
-  label-step : (at size x at' size' y : ℕ) → LabelAt.Label at size x ≡ LabelAt.Label at' size' y → x ≡ y
-  label-step at size x at' size' y e = cc
-
-  -- the step that is stored for label l
-  owner : (l : ℕ) (h : l < length (allLabels s)) → word16 a (labelEntryAt l + 4) ≡ read l h .index
-  unfolding labelAt
-  owner l h =
-      let k : l < maxLabels = omega (arith, fit .labels) in
-      let r = rw (labels-read s fit more, there s fit more (length (allLabels s)) maxLabels l h k) at (read l h .answer) in
-      label-step _ _ _ _ _ _ r
-
   -- step i is a label of this name exactly if it is stored for one of the labels on the name's chain that have the name
-  pub label-bits : Chained s a → (e : Name) (i : ℕ) → any (λ l. eqb (word16 a (labelEntryAt l + 4)) i) (chainLabels a e) ≡ roleAt (isLabelRole e) (roles s) i
-  label-bits c e i =
-      rw (chain-named s a c e)
-      (same-test (any (λ l. eqb (word16 a (labelEntryAt l + 4)) i) (named e 0 (allLabels s))) (roleAt (isLabelRole e) (roles s) i) there' back)
+  pub label-bits : (e : Name) (i : ℕ) → any (λ l. eqb (word16 a (labelEntryAt l + 4)) i) (chainLabels a e) ≡ roleAt (isLabelRole e) (roles s) i
+  label-bits e i =
+      rw (c .chain e)
+      (same-test (any (λ l. eqb (word16 a (labelEntryAt l + 4)) i) (placesOf e 0 (allLabels s))) (roleAt (isLabelRole e) (roles s) i) there' back)
     where
-      there' : any (λ l. eqb (word16 a (labelEntryAt l + 4)) i) (named e 0 (allLabels s)) ≡ true → roleAt (isLabelRole e) (roles s) i ≡ true
+      there' : any (λ l. eqb (word16 a (labelEntryAt l + 4)) i) (placesOf e 0 (allLabels s)) ≡ true → roleAt (isLabelRole e) (roles s) i ≡ true
       there' t =
-          let r = any-is (λ l. eqb (word16 a (labelEntryAt l + 4)) i) (named e 0 (allLabels s)) t in
+          let r = any-is (λ l. eqb (word16 a (labelEntryAt l + 4)) i) (placesOf e 0 (allLabels s)) t in
           let q = in-named e 0 (allLabels s) (r .0) (r .1) in
           let l = q .0 in
           let is : r .0 ≡ l = omega (arith, q .2) in
-          let x = read l (q .1) in
-          let at : x .index ≡ i = sym (owner l (q .1)) ∙ ap (λ (n : ℕ). word16 a (labelEntryAt n + 4)) (sym is) ∙ eqb-true (word16 a (labelEntryAt (r .0) + 4)) i (r .2) in
-          rw (← at) (role-step e (pathsOf s) (x .index) (x .below) ∙ rw (x .test) (q .3))
+          let x = c .owner l (q .1) in
+          let at : word16 a (labelEntryAt l + 4) ≡ i = ap (λ (n : ℕ). word16 a (labelEntryAt n + 4)) (sym is) ∙ eqb-true (word16 a (labelEntryAt (r .0) + 4)) i (r .2) in
+          rw (← at) (role-step e (pathsOf s) (word16 a (labelEntryAt l + 4)) (x .below) ∙ rw (x .test) (q .3))
 
-      inside : i < length ss → roleAt (isLabelRole e) (roles s) i ≡ true → any (λ l. eqb (word16 a (labelEntryAt l + 4)) i) (named e 0 (allLabels s)) ≡ true
+      inside : i < length ss → roleAt (isLabelRole e) (roles s) i ≡ true → any (λ l. eqb (word16 a (labelEntryAt l + 4)) i) (placesOf e 0 (allLabels s)) ≡ true
       inside h t =
           let y = is-label e (testOf (getD ss i noStep)) (sym (role-step e (pathsOf s) i h) ∙ t) in
           let l = length (labelsOf (take i ss)) in
           let z = label-here ss i (y .0) h (y .1) in
-          let x = read l (z .0) in
-          let at : x .index ≡ i = label-one ss (x .index) i (getD (allLabels s) l []) (y .0) (x .below) h (x .test) (y .1) (x .nth) in
+          let x = c .owner l (z .0) in
+          let at : word16 a (labelEntryAt l + 4) ≡ i = label-one ss (word16 a (labelEntryAt l + 4)) i (getD (allLabels s) l []) (y .0) (x .below) h (x .test) (y .1) (x .nth) in
           let n : getD (allLabels s) l [] ≡ e = z .1 ∙ y .2 in
-          is-any (λ l. eqb (word16 a (labelEntryAt l + 4)) i) (named e 0 (allLabels s)) (named-in e 0 (allLabels s) l (z .0) (rw n (name-same e)))
-          (rw (zero-add l) (eq-eqb (word16 a (labelEntryAt l + 4)) i (owner l (z .0) ∙ at)))
+          is-any (λ l. eqb (word16 a (labelEntryAt l + 4)) i) (placesOf e 0 (allLabels s)) (named-in e 0 (allLabels s) l (z .0) (rw n (name-same e)))
+          (rw (zero-add l) (eq-eqb (word16 a (labelEntryAt l + 4)) i at))
 
-      back : roleAt (isLabelRole e) (roles s) i ≡ true → any (λ l. eqb (word16 a (labelEntryAt l + 4)) i) (named e 0 (allLabels s)) ≡ true
+      back : roleAt (isLabelRole e) (roles s) i ≡ true → any (λ l. eqb (word16 a (labelEntryAt l + 4)) i) (placesOf e 0 (allLabels s)) ≡ true
       back t = cases (ltb i (length ss)) (λ h. inside (ltb-true i (length ss) h) t) (λ h. clash t (role-past (isLabelRole e) (pathsOf s) i (ltb-false i (length ss) h)))

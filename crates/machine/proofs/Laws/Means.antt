@@ -1,52 +1,47 @@
--- What a run needs of its automaton: the set's bytes, the start state, the masks, the labels of a name, the walk, and lengths of words.
-use Prim.Native.Nat.{ℕ, _+_, _*_, _≤_, _<_}
+-- What a run needs of its automaton: the set's bytes, what the tables mean, its size and its shape. The automaton of every accepted set is so.
+use Prim.Native.Nat.{ℕ, _≤_, _<_}
 use mathlib.Core.Path.{_≡_}
-use mathlib.Core.Bool.{Bool, true, false}
+use mathlib.Core.Bool.{true, false}
 use mathlib.Core.List.{List, [], _++_}
-use lib.Dec.{eqb}
-use lib.ListN.{length, getD}
-use Rattle.notation.specs.Names.{Name}
-use Rattle.notation.specs.Sets.{Test, label, star, FolderSet, testOf}
+use native.Mathlib.Omega.{arith}
+use lib.ListN.{length, getD, length-append}
+use Rattle.notation.specs.Sets.{FolderSet}
 use Rattle.notation.specs.Form.{pathsOf, numbersFall}
+use Rattle.notation.specs.Accepted.{Accepted}
 use Rattle.notation.specs.Layout.{setPart}
-use Rattle.notation.specs.Activity.{sameName, takes}
-use Rattle.notation.specs.Reads.{word16, labelEntryAt}
 use Rattle.notation.proofs.Laws.Fitting.{Fitting}
-use Rattle.machine.specs.Words.{Word, any}
-use Rattle.machine.specs.Prefix.{IsPrefix}
-use Rattle.machine.specs.Walk.{walk}
-use Rattle.machine.specs.Automaton.{maskSize, automatonSize, stateOf, startState, Role, role, roles, roleAt, isStarRole, isChildRole, isDescendantRole, isAnywhereRole, isRootRole, isLastRole}
-use Rattle.machine.specs.Tables.{startOf, sizeOf, walkOver}
-use Rattle.machine.specs.Chain.{chainLabels}
+use Rattle.notation.proofs.Laws.AcceptedSet.{accepted-fits}
+use Rattle.machine.specs.Automaton.{automatonSize, heads, allLabels, links, masks, startState, automatonOf}
 use Rattle.machine.specs.Shape.{automatonShaped}
-use Rattle.machine.specs.RunCalls.{maskBit}
-use Rattle.machine.proofs.Laws.Walked.{storedWalk}
-
--- a label of this name
-abbrev pub isLabel : Name → Test → Bool
-isLabel e (label n) = sameName n e
-isLabel e star = false
-
-abbrev pub isLabelRole : Name → Role → Bool
-isLabelRole e (role s first last) = isLabel e (testOf s)
+use Rattle.machine.specs.Compiled.{Compiled}
+use Rattle.machine.proofs.Laws.Assembled.{assembled-length, after-set}
+use Rattle.machine.proofs.Laws.Compiled.{automaton-sized, compiled}
+use Rattle.machine.proofs.Laws.FullPaths.{full-paths}
 
 pub record Means (s : FolderSet) (a : List ℕ) : Type 0 where
   pub fit : Fitting s
   -- no path is empty, and the folders' numbers rise
   pub full : (i : ℕ) → i < length (pathsOf s) → 1 ≤ length (getD (pathsOf s) i [])
   pub rising : numbersFall s ≡ false
+  -- the set's bytes stand first
   pub more : List ℕ
   pub stored : a ≡ setPart s ++ more
   pub long : automatonSize ≤ length a
   pub shaped : automatonShaped a ≡ true
-  pub start : startOf a ≡ startState s
-  pub stars : (i : ℕ) → i < 8 * maskSize → maskBit a 0 i ≡ roleAt isStarRole (roles s) i
-  pub children : (i : ℕ) → i < 8 * maskSize → maskBit a 1 i ≡ roleAt isChildRole (roles s) i
-  pub descendants : (i : ℕ) → i < 8 * maskSize → maskBit a 2 i ≡ roleAt isDescendantRole (roles s) i
-  pub anywhere : (i : ℕ) → i < 8 * maskSize → maskBit a 3 i ≡ roleAt isAnywhereRole (roles s) i
-  pub root : (i : ℕ) → i < 8 * maskSize → maskBit a 4 i ≡ roleAt isRootRole (roles s) i
-  pub lasts : (i : ℕ) → i < 8 * maskSize → maskBit a 5 i ≡ roleAt isLastRole (roles s) i
-  -- step i is a label of this name
-  pub labels : (e : Name) (i : ℕ) → any (λ l. eqb (word16 a (labelEntryAt l + 4)) i) (chainLabels a e) ≡ roleAt (isLabelRole e) (roles s) i
-  pub walks : (w : Word) (e : Name) → IsPrefix s w → walkOver a (stateOf s w) e ≡ storedWalk s (walk s w e)
-  pub sizes : (w : Word) → IsPrefix s w → sizeOf a (stateOf s w) ≡ length w
+  pub tables : Compiled s a
+
+pub means : (text : List ℕ) (s : FolderSet) → Accepted text s → (rest : List ℕ) → automatonShaped (automatonOf s ++ rest) ≡ true → Means s (automatonOf s ++ rest)
+unfolding automatonOf
+means text s acc rest shape =
+    let fit = accepted-fits text s acc in
+    let first = after-set s fit (heads (allLabels s)) (links s) (masks s) (startState s) rest in
+    record {
+      fit = fit;
+      full = full-paths s (acc .well);
+      rising = acc .rising;
+      more = first .0;
+      stored = first .1;
+      long = omega (arith, length-append (automatonOf s) rest, assembled-length s fit (heads (allLabels s)) (links s) (masks s) (startState s) (automaton-sized s fit rest));
+      shaped = shape;
+      tables = compiled text s acc rest;
+    }

@@ -25,7 +25,8 @@ use Rattle.machine.specs.RunCalls.{depthOf, activeAt, seenAt, matchedAt,
 use Rattle.machine.proofs.Laws.Basics.{cases}
 use Rattle.machine.proofs.Laws.PathSteps.{anyStep, Located, locate, bit-at, bit-past, match-at, match-past, roleOf, role-at, role-past}
 use Rattle.machine.proofs.Laws.RunBytes.{Short, depth-read, active-at, seen-at, matched-read}
-use Rattle.machine.proofs.Laws.Means.{Means, isLabel, isLabelRole}
+use Rattle.machine.proofs.Laws.Means.{Means}
+use Rattle.machine.proofs.Laws.LabelSteps.{isLabel, isLabelRole, label-bits}
 
 -- may the step of this role stand here, where the step before is active (x), or was here or further out (y)
 abbrev permits : Role → Bool → Bool → Bool → Bool
@@ -86,9 +87,28 @@ module _ (s : FolderSet) (a : List ℕ) (m : Means s a) (names : List Name) (mat
   abbrev ps : List Path
   ps = pathsOf s
 
+  -- the masks
+  star-bit : (i : ℕ) → i < 8 * maskSize → maskBit a 0 i ≡ roleAt isStarRole (roles s) i
+  star-bit i h = m .tables .masks 0 (omega arith) i h
+
+  child-bit : (i : ℕ) → i < 8 * maskSize → maskBit a 1 i ≡ roleAt isChildRole (roles s) i
+  child-bit i h = m .tables .masks 1 (omega arith) i h
+
+  descendant-bit : (i : ℕ) → i < 8 * maskSize → maskBit a 2 i ≡ roleAt isDescendantRole (roles s) i
+  descendant-bit i h = m .tables .masks 2 (omega arith) i h
+
+  anywhere-bit : (i : ℕ) → i < 8 * maskSize → maskBit a 3 i ≡ roleAt isAnywhereRole (roles s) i
+  anywhere-bit i h = m .tables .masks 3 (omega arith) i h
+
+  root-bit : (i : ℕ) → i < 8 * maskSize → maskBit a 4 i ≡ roleAt isRootRole (roles s) i
+  root-bit i h = m .tables .masks 4 (omega arith) i h
+
+  last-bit : (i : ℕ) → i < 8 * maskSize → maskBit a 5 i ≡ roleAt isLastRole (roles s) i
+  last-bit i h = m .tables .masks 5 (omega arith) i h
+
   candidate-is : (i : ℕ) → i < 8 * maskSize → candidate a e i ≡ (roleAt isStarRole (roles s) i || roleAt (isLabelRole e) (roles s) i)
   unfolding candidate
-  candidate-is i h = rw (m .stars i h, m .labels e i)
+  candidate-is i h = rw (star-bit i h, label-bits s a (m .tables) e i)
 
   active-here : (i : ℕ) → i < 8 * maskSize → activeAt run (length names) i ≡ activeBits s names i
   active-here i h = active-at s names matched deep short rest (length names) (omega arith) i h ∙ ap (λ (l : List Name). activeBits s l i) (take-length names)
@@ -112,10 +132,10 @@ module _ (s : FolderSet) (a : List ℕ) (m : Means s a) (names : List Name) (mat
   permitted-is i h =
       rw (
         depth-read s names matched deep short rest,
-        m .children i h,
-        m .descendants i h,
-        m .anywhere i h,
-        m .root i h,
+        child-bit i h,
+        descendant-bit i h,
+        anywhere-bit i h,
+        root-bit i h,
         shifted-is (activeAt run (length names)) (activeBits s names) active-here i h,
         shifted-is (seenAt run (length names)) (seenBits s names) seen-here i h,
         empty-is names,
@@ -208,7 +228,7 @@ module _ (s : FolderSet) (a : List ℕ) (m : Means s a) (names : List Name) (mat
   pub now-matched : (i : ℕ) → i < 8 * maskSize → nowMatched a run e i ≡ matchBit nowFit 0 ps i
   unfolding nowMatched
   now-matched i h =
-      rw (matched-read s names matched deep short rest i h, now-active i h, m .lasts i h)
+      rw (matched-read s names matched deep short rest i h, now-active i h, last-bit i h)
       (cases (ltb i (length (stepsOf ps))) (λ t. inside (locate ps i (ltb-true i (length (stepsOf ps)) t))) (λ t. past (ltb-false i (length (stepsOf ps)) t)))
     where
       past : length (stepsOf ps) ≤ i → (matchBit matched 0 ps i || (activeBits s (names ++ (e ∷ [])) i && roleAt isLastRole (roles s) i)) ≡ matchBit nowFit 0 ps i

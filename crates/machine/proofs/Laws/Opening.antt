@@ -29,14 +29,15 @@ use Rattle.machine.specs.RunCalls.{depthOf, stateAt, usedBytes, usedBits
 use Rattle.machine.specs.declared.walk.Walk.{Walk}
 use Rattle.machine.proofs.Laws.Prefix.{current-prefix}
 use Rattle.machine.proofs.Laws.Walk.{walk-current}
-use Rattle.machine.proofs.Laws.Walked.{storedWalk}
+use Rattle.machine.specs.Compiled.{storedWalk}
 use Rattle.machine.proofs.Laws.Bits.{tabulate-length}
+use Rattle.machine.proofs.Laws.MaskRows.{bits-same, bits-none}
 use Rattle.machine.proofs.Laws.Stores.{sets-left, past}
 use Rattle.machine.proofs.Laws.PathSteps.{bit-past, match-past}
 use Rattle.machine.proofs.Laws.RunBytes.{Short, matchBytes, rowBytes, zerosFrom, rows-fit, bits-length, rows-more, row-length, row-bytes, run-parts, depth-read, state-at}
 use Rattle.machine.proofs.Laws.Means.{Means}
 use Rattle.machine.proofs.Laws.OpenBits.{now-active, now-seen, now-matched}
-use Rattle.machine.proofs.Laws.RowStores.{bits-same, none-used, bits-over, row-over, empty-row, zeros-row, spliced}
+use Rattle.machine.proofs.Laws.RowStores.{bits-over, row-over, empty-row, zeros-row, spliced}
 
 pub short-open : (names : List Name) (e : Name) → Short names → length e ≤ maxName → Short (names ++ (e ∷ []))
 short-open names e short h n m = go (List·Memᴰ·append-cases names m)
@@ -87,7 +88,7 @@ row-place bits rows n e f = omega arith
 
 module _ (s : FolderSet) (a : List ℕ) (m : Means s a) where
   step-count : stepCount a ≡ length (stepsOf (pathsOf s))
-  step-count = rw (m .stored) (steps-read s (m .fit) (m .more))
+  step-count = m .tables .steps
 
   used-room : usedBytes a ≤ maskSize
   unfolding maskSize maxPaths maxSteps
@@ -101,7 +102,7 @@ module _ (s : FolderSet) (a : List ℕ) (m : Means s a) where
     pub open-walk : (matched : ℕ → Bool) (e : Name) → openWalk a (runWith s names matched ++ rest) e ≡ storedWalk s (walk s (prefixOf s names) e)
     open-walk matched e =
         rw (depth-read s names matched deep short rest, state-at s names matched deep short rest (length names) (omega arith) (m .fit), take-length names)
-        (m .walks (prefixOf s names) e (current-prefix s names .starts))
+        (m .tables .walks (prefixOf s names) (current-prefix s names .starts) e)
 
   -- opening
   module _ (names : List Name) (matched : ℕ → Bool) (deep : length names < maxDepth) (short : Short names) (rest : List ℕ) (e : Name) (size : length e ≤ maxName) where
@@ -178,7 +179,7 @@ module _ (s : FolderSet) (a : List ℕ) (m : Means s a) where
     row-cleared : rowCleared a (rowOf s e held) ≡ replicate rowSize 0
     unfolding rowCleared
     row-cleared =
-        rw (none-used (usedBytes a), empty-row, row-is s e held)
+        rw (← bits-none (usedBytes a), empty-row, row-is s e held)
         (row-over (rowHead e (stateOf s (prefixOf s held))) (replicate activeIn 0) (activeBits s held) (λ i. false) (seenBits s held) (λ i. false) (usedBytes a)
         (head-length e (stateOf s (prefixOf s held)) size) (length-replicate activeIn 0) used-room
         (λ i h k. bit-past (λ p k. active p k held) (pathsOf s) i (omega (arith, used-all)))

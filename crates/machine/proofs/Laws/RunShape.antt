@@ -94,7 +94,7 @@ module _ (s : FolderSet) (a : List ℕ) (m : Means s a) (st : State) (few : Few 
   stored-depth = depth-read s names (st .matched) (names-deep s st g) (names-short s st g) rest ∙ names-length s st g
 
   label-count : labelCount a ≡ length (allLabels s)
-  label-count = rw (m .stored) (labels-read s (m .fit) (m .more))
+  label-count = m .tables .labels
 
   row-shaped : (d : ℕ) → d ≤ length names → rowShaped a run d ≡ true
   row-shaped d h =

@@ -28,7 +28,7 @@ use Rattle.machine.specs.RunCalls.{startRun}
 use Rattle.machine.proofs.Laws.Basics.{cases}
 use Rattle.machine.proofs.Laws.Stores.{past, zeros}
 use Rattle.machine.proofs.Laws.RunBytes.{Short, matchBytes, rowBytes, zerosFrom, rows-fit, run-parts}
-use Rattle.machine.proofs.Laws.RowStores.{bits-same, none-used}
+use Rattle.machine.proofs.Laws.MaskRows.{bits-same, bits-none}
 use Rattle.machine.proofs.Laws.Means.{Means}
 
 none-active : (ps : List Path) (i : ℕ) → stepBit (λ p k. active p k []) ps i ≡ false
@@ -52,7 +52,7 @@ none-matched (p ∷ ps) place i = go (ltb i (length p)) (none-matched ps (suc pl
 
 -- a row of bits of none is zeros
 no-bits : (f : ℕ → Bool) (n : ℕ) → ((i : ℕ) → f i ≡ false) → bitBytes f n ≡ replicate n 0
-no-bits f n h = bits-same f (λ i. false) n (λ i k. h i) ∙ sym (none-used n)
+no-bits f n h = bits-same f (λ i. false) n (λ i k. h i) ∙ bits-none n
 
 -- the state of nothing open
 start-state : (s : FolderSet) → stateOf s (prefixOf s []) ≡ startState s
@@ -118,7 +118,7 @@ module _ (s : FolderSet) where
       let k = runSize - (at + 2) in
       let all : runSize ≡ at + (2 + k) = fits in
       let stored : sets (replicate runSize 0) at (le16 (startOf a)) ≡ runWith s [] (λ k. false) =
-      rw (m .start)
+      rw (m .tables .start)
       (ap (λ (l : List ℕ). sets l at (le16 (startState s))) (zeros runSize at (2 + k) all ∙ ap (λ (l : List ℕ). replicate at 0 ++ l) (zeros (2 + k) 2 k refl))
       ∙ (past (replicate at 0) (replicate 2 0 ++ replicate k 0) at at 0 (le16 (startState s)) (length-replicate at 0) (sym (add-zero at))
       ∙ ap (λ (l : List ℕ). replicate at 0 ++ l) (sets-front (replicate 2 0) (replicate k 0) (le16 (startState s)) refl)
