@@ -8,7 +8,7 @@ use Rattle.machine.specs.Automaton.{hashes}
 use Rattle.machine.specs.Tables.{headAt, nextAt, failAt, sizeAt, sizeOf}
 
 -- chains are of labels, and go on to a later one or end; a place on a chain is 1 more than its label
-pub record Chained (a : List ℕ) : Type 0 where
+pub record Searchable (a : List ℕ) : Type 0 where
   pub few : labelCount a ≤ maxLabels
   pub head : (h : ℕ) → h < hashes → headAt a h ≤ labelCount a
   pub next : (l : ℕ) → l < labelCount a → nextAt a l ≤ labelCount a
@@ -21,5 +21,5 @@ pub record Falling (a : List ℕ) : Type 0 where
   pub shorter : (l : ℕ) → l < labelCount a → sizeOf a (failAt a l) < sizeAt a l
 
 pub record Walkable (a : List ℕ) : Type 0 where
-  pub chained : Chained a
+  pub searchable : Searchable a
   pub falling : Falling a

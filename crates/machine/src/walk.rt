@@ -4,7 +4,7 @@ ghost use Prim.Native.Nat.{suc, _≤_, _<_};
 ghost use Rattle.notation.specs.Reads.{labelCount};
 ghost use Rattle.machine.specs.Automaton.{hash};
 ghost use Rattle.machine.specs.Tables.{sizeOf, failOf, follows, goto, walkOver};
-ghost use Rattle.machine.specs.Walkable.{Chained, Walkable};
+ghost use Rattle.machine.specs.Walkable.{Searchable, Walkable};
 use crate::layout::HEADS_AT;
 use crate::layout::LINK_SIZE;
 use crate::layout::LINKS_AT;
@@ -31,7 +31,7 @@ fn follows_label(a: &[u8], q: usize, e: &[u8], l: usize) -> bool
 
 // The state of the word of state `q` followed by `e`, 0 for none. `h` is the hash of `e`.
 pub fn goto_state(a: &[u8], q: usize, e: &[u8], h: usize) -> usize
-    requires { ⌜ Chained (now a) × (h ≡ hash (now e)) ⌝ }
+    requires { ⌜ Searchable (now a) × (h ≡ hash (now e)) ⌝ }
     ensures { λ r. ⌜ (r ≡ goto (now (a .entry)) q (now (e .entry))) × (r ≤ suc (labelCount (now (a .entry)))) ⌝ }
 {
     let mut k = word_at(a, HEADS_AT + 2 * h);

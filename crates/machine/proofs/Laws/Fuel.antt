@@ -13,7 +13,7 @@ use Rattle.notation.specs.Limits.{maxSteps, maxLabels}
 use Rattle.notation.specs.Reads.{labelCount}
 use Rattle.machine.specs.Automaton.{hashes, hash, hashFrom}
 use Rattle.machine.specs.Tables.{headAt, nextAt, failAt, sizeAt, sizeOf, failOf, follows, gotoFrom, goto, oneMore, walkFrom, walkOver}
-use Rattle.machine.specs.Walkable.{Chained, Falling, Walkable}
+use Rattle.machine.specs.Walkable.{Searchable, Falling, Walkable}
 use Rattle.machine.specs.declared.walk.Walk.{Walk}
 use Rattle.machine.proofs.Laws.Basics.{cases, clash}
 
@@ -33,7 +33,7 @@ unfolding gotoFrom
 goto-none zero a q e = refl
 goto-none (suc more) a q e = refl
 
-module _ (a : List ℕ) (c : Chained a) (q : ℕ) (e : Name) where
+module _ (a : List ℕ) (c : Searchable a) (q : ℕ) (e : Name) where
   enough : (m n l : ℕ) → l < labelCount a → labelCount a ≤ m + l → labelCount a ≤ n + l → gotoFrom m a q e (suc l) ≡ gotoFrom n a q e (suc l)
   unfolding gotoFrom
   enough zero n l i g h = absurd (omega arith)
@@ -144,12 +144,12 @@ record Bounded (a : List ℕ) (more : ℕ) (w : Walk) : Type 0 where
 
 from-bounded : (a : List ℕ) → Walkable a → (e : Name) (m q : ℕ) → q ≤ suc (labelCount a) → Bounded a m (walkFrom m a q e)
 unfolding walkFrom
-from-bounded a w e zero q i = record { arrived = goto-state a (w .chained) q e; moved = omega arith }
+from-bounded a w e zero q i = record { arrived = goto-state a (w .searchable) q e; moved = omega arith }
 from-bounded a w e (suc m) q i = cases (eqb (goto a q e) 0 && not (eqb q 0))
     (λ t.
     let b = from-bounded a w e m (failOf a q) (fail-state a (w .falling) q i) in
     rw t (record { arrived = b .arrived; moved = omega arith }))
-    (λ t. rw t (record { arrived = goto-state a (w .chained) q e; moved = omega arith }))
+    (λ t. rw t (record { arrived = goto-state a (w .searchable) q e; moved = omega arith }))
 
 pub over-state : (a : List ℕ) → Walkable a → (q : ℕ) (e : Name) → q ≤ suc (labelCount a) → walkOver a q e .state ≤ suc (labelCount a)
 unfolding walkOver
