@@ -21,6 +21,7 @@ pub mod Alike
 pub mod Adding
 pub mod Whole
 pub mod Examples
+pub mod AllBelow
 pub mod Fuel
 pub mod Stores
 pub mod Assembled

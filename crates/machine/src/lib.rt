@@ -2,4 +2,5 @@
 pub mod answers;
 pub mod counters;
 pub mod layout;
+pub mod shape;
 pub mod walk;
