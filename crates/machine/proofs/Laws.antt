@@ -19,3 +19,4 @@ pub mod Whole
 pub mod Examples
 pub mod Stores
 pub mod Assembled
+pub mod Find

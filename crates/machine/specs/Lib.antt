@@ -11,3 +11,4 @@ pub mod Examples
 pub mod Automaton
 pub mod Tables
 pub mod Shape
+pub mod Chains

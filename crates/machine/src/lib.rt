@@ -1,3 +1,4 @@
 // The shared machine of a folder set: its automaton, its run and the calls on them.
+pub mod build;
 pub mod layout;
 pub mod walk;
