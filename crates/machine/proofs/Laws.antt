@@ -20,3 +20,5 @@ pub mod Examples
 pub mod Stores
 pub mod Assembled
 pub mod Find
+pub mod SetReads
+pub mod Chains
