@@ -19,6 +19,6 @@ pub mod Whole
 pub mod Examples
 pub mod Stores
 pub mod Assembled
-pub mod Find
+pub mod Tabulate
 pub mod SetReads
 pub mod Chains

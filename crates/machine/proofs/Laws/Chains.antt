@@ -19,7 +19,7 @@ use Rattle.notation.proofs.Laws.Fitting.{Fitting}
 use Rattle.machine.specs.Automaton.{hashes, maskSize, headsAt, linksAt, linkSize, hash, hashFrom, find, allLabels, hasHash, tabulate, heads, nexts, Link, link, assembled}
 use Rattle.machine.specs.Tables.{headAt}
 use Rattle.machine.specs.Chains.{linkedBy, linked, chained}
-use Rattle.machine.proofs.Laws.Find.{find-below, tabulate-length, tabulate-at, tabulate-set, tabulate-constant}
+use Rattle.machine.proofs.Laws.Tabulate.{find-below, tabulate-length, tabulate-at, tabulate-set, tabulate-constant}
 use Rattle.machine.proofs.Laws.Assembled.{nextOf, withNext, noLink, Sized, head-read, head-put, next-put}
 use Rattle.machine.proofs.Laws.SetReads.{label-bytes}
 

@@ -1,4 +1,4 @@
--- The first element that passes a test, and lists made by a function of the place.
+-- Lists made by a function of the place, and how large a found place is.
 use Prim.Native.Nat.{ℕ, zero, suc, _+_, _≤_, _<_}
 use native.Mathlib.Nat.{not-suc-le-zero, le-of-suc-le-suc, eq-or-lt-of-le}
 use native.Mathlib.Omega.{arith}
