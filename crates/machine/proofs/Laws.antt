@@ -3,6 +3,10 @@ pub mod Words
 pub mod Prefix
 pub mod Walk
 pub mod Labels
+pub mod Bits
+pub mod Find
+pub mod States
+pub mod Goto
 pub mod Order
 pub mod Calls
 pub mod Steps
@@ -17,6 +21,7 @@ pub mod Alike
 pub mod Adding
 pub mod Whole
 pub mod Examples
+pub mod Fuel
 pub mod Stores
 pub mod Assembled
 pub mod Tabulate

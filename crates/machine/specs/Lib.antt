@@ -12,3 +12,9 @@ pub mod Automaton
 pub mod Tables
 pub mod Shape
 pub mod Chains
+pub mod Walkable
+pub mod Bits
+pub mod Chain
+pub mod Run
+pub mod RunCalls
+pub mod Asking

@@ -1,0 +1,14 @@
+-- Bits of bytes.
+use Prim.Native.Nat.{ℕ, _+_, _/_, _%_, _^_}
+use mathlib.Core.Bool.{Bool}
+use mathlib.Core.List.{List}
+use lib.Dec.{eqb}
+use lib.ListN.{getD}
+
+-- bit k of a byte, the lowest first
+unfoldable pub bitOf : ℕ → ℕ → Bool
+bitOf n k = eqb (n / 2 ^ k % 2) 1
+
+-- bit i of the bytes from `base` on, eight to a byte
+abbrev pub bitIn : List ℕ → ℕ → ℕ → Bool
+bitIn bytes base i = bitOf (getD bytes (base + i / 8) 0) (i % 8)
