@@ -25,6 +25,7 @@ pub mod Whole
 pub mod Examples
 pub mod AllBelow
 pub mod Fuel
+pub mod Shaped
 pub mod Stores
 pub mod Assembled
 pub mod Tabulate
