@@ -26,6 +26,7 @@ pub mod Examples
 pub mod AllBelow
 pub mod Fuel
 pub mod Shaped
+pub mod Searched
 pub mod Stores
 pub mod Assembled
 pub mod Tabulate
