@@ -27,6 +27,7 @@ pub mod AllBelow
 pub mod Fuel
 pub mod Shaped
 pub mod Searched
+pub mod Growing
 pub mod Stores
 pub mod Assembled
 pub mod Tabulate

@@ -13,6 +13,7 @@ pub mod Tables
 pub mod Shape
 pub mod Chains
 pub mod Walkable
+pub mod Fails
 pub mod Bits
 pub mod Chain
 pub mod Run
