@@ -28,6 +28,7 @@ pub mod Fuel
 pub mod Shaped
 pub mod Searched
 pub mod Growing
+pub mod Staged
 pub mod Stores
 pub mod Assembled
 pub mod Tabulate
