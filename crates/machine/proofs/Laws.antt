@@ -29,6 +29,7 @@ pub mod Shaped
 pub mod Searched
 pub mod Growing
 pub mod Staged
+pub mod Fails
 pub mod Stores
 pub mod Assembled
 pub mod Tabulate
