@@ -1,36 +1,34 @@
 -- The automaton of every accepted set passes the shape test, whatever stands behind it.
-use Prim.Native.Nat.{ℕ, zero, suc, _+_, _*_, _≤_, _<_}
-use mathlib.Core.Path.{_≡_, refl, sym, _∙_, ap, subst}
+use Prim.Native.Nat.{ℕ, _+_, _*_, _≤_, _<_}
+use mathlib.Core.Path.{_≡_, _∙_, ap}
 use mathlib.Core.Bool.{Bool, true, false}
-use mathlib.Core.Logic.{_⊎_, inl, inr}
+use mathlib.Core.Logic.{inl, inr}
 use mathlib.Core.List.{List, [], _∷_, _++_, List·Memᴰ, List·Memᴰ·not-nil, List·Memᴰ·cases-cons}
 use native.Mathlib.Omega.{arith}
 use lib.ListN.{length, getD, length-append}
 use borrow.Author.Tests.{ltb-false}
-use Rattle.notation.specs.Names.{Name}
-use Rattle.notation.specs.Limits.{maxSetBytes, maxPaths, maxSteps, maxLabels}
+use Rattle.notation.specs.Limits.{maxSetBytes, maxPaths, maxSteps}
 use Rattle.notation.specs.Sets.{child, descendant, label, star, step, Path, FolderSet}
 use Rattle.notation.specs.Form.{any, formed, pathsOf, pathLong, pathsLong, namesLong}
 use Rattle.notation.specs.Accepted.{Accepted}
-use Rattle.notation.specs.Layout.{stepsAt, setPart}
+use Rattle.notation.specs.Layout.{stepsAt}
 use Rattle.notation.specs.Reads.{textLen, folderCount, pathCount, stepCount, labelCount}
 use Rattle.notation.proofs.Laws.Fitting.{Fitting}
 use Rattle.notation.proofs.Laws.AcceptedSet.{accepted-fits}
-use Rattle.notation.proofs.Laws.Reads.{text-len, folders-read, paths-read, steps-read, labels-read}
+use Rattle.notation.proofs.Laws.Reads.{text-len, folders-read, paths-read, steps-read}
 use Rattle.machine.specs.Words.{name, Word, before, labelWords, begins, document}
 use Rattle.machine.specs.Walk.{followedBy}
-use Rattle.machine.specs.Automaton.{maskSize, bit, mask, masks, roles, isStarRole, isChildRole, isDescendantRole, isAnywhereRole, isRootRole, isLastRole, allLabels, allWords, heads, links, Link, startState, assembled, automatonOf}
-use Rattle.machine.specs.Tables.{startOf}
+use Rattle.machine.specs.Automaton.{maskSize, bit, masks, allLabels, heads, links, startState, automatonOf}
 use Rattle.machine.specs.Shape.{automatonShaped}
 use Rattle.machine.specs.Walkable.{Walkable}
 use Rattle.machine.specs.Fails.{Growing}
 use Rattle.machine.proofs.Laws.Labels.{LabelWord, begins-label}
 use Rattle.machine.proofs.Laws.Tabulate.{tabulate-length}
-use Rattle.machine.proofs.Laws.Assembled.{nextOf, parentOf, failureOf, lengthOf, noLink, Sized, start-read, after-set}
+use Rattle.machine.proofs.Laws.Assembled.{nextOf, parentOf, failureOf, lengthOf, start-read}
 use Rattle.machine.proofs.Laws.States.{word-ends, label-begins}
-use Rattle.machine.proofs.Laws.Staged.{wordAt, failureAt, Links, Short, sized, stage-grows}
+use Rattle.machine.proofs.Laws.Staged.{Links, Short, sized, stage-grows}
 use Rattle.machine.proofs.Laws.Fails.{links-length, links-at}
-use Rattle.machine.proofs.Laws.Shaped.{Counts, FolderFacts, PathFacts, LabelFacts, LinkFacts, Shaped, is-shaped}
+use Rattle.machine.proofs.Laws.Shaped.{FolderFacts, PathFacts, LabelFacts, Shaped, is-shaped}
 use Rattle.machine.proofs.Laws.SetShape.{neither, folder-facts, path-facts, step-fact, label-facts}
 use Rattle.machine.proofs.Laws.SetReads.{of-set}
 

@@ -2,20 +2,20 @@
 -- walkable, so that they never show.
 use Prim.Native.Nat.{ℕ, zero, suc, _+_, _*_, _%_, _≤_, _<_}
 use mathlib.Core.Path.{_≡_, refl, sym, _∙_, ap}
-use mathlib.Core.Bool.{Bool, true, false, not, _&&_, cond}
+use mathlib.Core.Bool.{not, _&&_, cond}
 use mathlib.Core.List.{List, [], _∷_}
 use native.Mathlib.Nat.{mod-lt}
 use native.Mathlib.Omega.{arith}
-use lib.Dec.{eqb, eqb·suc-zero}
+use lib.Dec.{eqb}
 use borrow.Author.Tests.{eqb-true, eqb-false, eq-eqb, ne-eqb}
 use Rattle.notation.specs.Names.{Name}
 use Rattle.notation.specs.Limits.{maxSteps, maxLabels}
 use Rattle.notation.specs.Reads.{labelCount}
 use Rattle.machine.specs.Automaton.{hashes, hash, hashFrom}
-use Rattle.machine.specs.Tables.{headAt, nextAt, failAt, sizeAt, sizeOf, failOf, follows, gotoFrom, goto, oneMore, walkFrom, walkOver}
+use Rattle.machine.specs.Tables.{headAt, nextAt, sizeOf, failOf, follows, gotoFrom, goto, oneMore, walkFrom, walkOver}
 use Rattle.machine.specs.Walkable.{Searchable, Falling, Walkable}
 use Rattle.machine.specs.declared.walk.Walk.{Walk}
-use Rattle.machine.proofs.Laws.Basics.{cases, clash}
+use Rattle.machine.proofs.Laws.Basics.{cases}
 
 -- a hash is one of the heads'
 hash-from : (h : ℕ) (n : Name) → h < hashes → hashFrom h n < hashes

@@ -1,21 +1,20 @@
 -- The stored numbers of an accepted set are in their ranges: its bytes pass the part of the shape test that is about them.
 use Prim.Native.Nat.{ℕ, zero, suc, _+_, _*_, _≤_, _<_}
-use mathlib.Core.Path.{_≡_, refl, sym, _∙_, ap}
-use mathlib.Core.Bool.{Bool, true, false, _&&_, _||_}
+use mathlib.Core.Path.{_≡_, refl, ap}
+use mathlib.Core.Bool.{Bool, true, false, _||_}
 use mathlib.Core.List.{List, [], _∷_, _++_, map}
 use native.Mathlib.Nat.{add-zero}
 use native.Mathlib.Omega.{arith}
 use lib.Dec.{leb}
-use lib.ListN.{length, getD, length-map, length-append}
-use borrow.Author.Tests.{leb-true, leb-false, ltb-false}
-use Rattle.notation.specs.Names.{Name, within, tooLong}
-use Rattle.notation.specs.Limits.{maxName, maxSetBytes, maxNumber, maxPaths, maxSteps, maxLabels}
+use lib.ListN.{length, getD, length-map}
+use borrow.Author.Tests.{leb-true, ltb-false}
+use Rattle.notation.specs.Names.{within, tooLong}
+use Rattle.notation.specs.Limits.{maxName, maxNumber, maxPaths, maxSteps, maxLabels}
 use Rattle.notation.specs.Sets.{child, descendant, label, star, Step, step, Path, Folder, folder, FolderSet, folderNumber, folderPaths}
-use Rattle.notation.specs.Print.{print, printPath}
-use Rattle.notation.specs.Form.{any, every, nonEmpty, formedPath, formedFolder, formed, pathsOf, stepsOf, labelsOf, pathLong, pathsLong, namesLong}
-use Rattle.notation.specs.Accepted.{Accepted}
+use Rattle.notation.specs.Print.{print}
+use Rattle.notation.specs.Form.{any, every, nonEmpty, formedPath, formedFolder, formed, pathsOf, pathLong, pathsLong, namesLong}
 use Rattle.notation.specs.Layout.{stepsAt, stepEntry, tablesOf, setPart}
-use Rattle.notation.specs.Reads.{word16, textLen, folderCount, pathCount, stepCount, labelCount, pathEntryAt, labelEntryAt, storedNumber, storedFirst, folderAt, pathAt, labelAt}
+use Rattle.notation.specs.Reads.{folderCount, pathCount, stepCount, labelCount, storedNumber, storedFirst, folderAt, pathAt, labelAt}
 use Rattle.notation.specs.declared.reads.FolderAt.{FolderAt}
 use Rattle.notation.specs.declared.reads.PathAt.{PathAt}
 use Rattle.notation.specs.declared.reads.LabelAt.{LabelAt}
@@ -24,11 +23,11 @@ use Rattle.notation.proofs.Laws.Entries.{entry, map-at}
 use Rattle.notation.proofs.Laws.Sections.{steps-stand}
 use Rattle.notation.proofs.Laws.LabelTable.{noStep}
 use Rattle.notation.proofs.Laws.FolderTable.{noFolder, pathsBefore, paths-before-most}
-use Rattle.notation.proofs.Laws.PathTable.{stepsBefore, steps-through}
+use Rattle.notation.proofs.Laws.PathTable.{steps-through}
 use Rattle.notation.proofs.Laws.Fitting.{Fitting, roomy, one-byte}
 use Rattle.notation.proofs.Laws.Reads.{text-len, folders-read, paths-read, steps-read, labels-read, there}
 use Rattle.notation.proofs.Laws.ReadFolders.{folder-read}
-use Rattle.notation.proofs.Laws.ReadPaths.{PathRead, path-read, LabelRead, label-read}
+use Rattle.notation.proofs.Laws.ReadPaths.{path-read, label-read}
 use Rattle.machine.specs.Automaton.{allSteps, allLabels}
 use Rattle.machine.proofs.Laws.Basics.{both, both-true}
 use Rattle.machine.proofs.Laws.Shaped.{FolderFacts, PathFacts, LabelFacts}
