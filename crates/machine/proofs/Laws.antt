@@ -29,3 +29,5 @@ pub mod Assembled
 pub mod Tabulate
 pub mod SetReads
 pub mod Chains
+pub mod Placed
+pub mod Parents

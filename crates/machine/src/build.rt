@@ -1,2 +1,3 @@
 // Building an automaton behind a read set: a pass for each of its tables.
 pub mod chains;
+pub mod parents;
