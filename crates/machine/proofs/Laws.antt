@@ -31,3 +31,4 @@ pub mod SetReads
 pub mod Chains
 pub mod Placed
 pub mod Parents
+pub mod Elsewhere

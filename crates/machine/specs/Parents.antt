@@ -1,6 +1,6 @@
 -- The pass over an automaton's bytes that stores each label's parent and the length of its word, step by step in set order. It follows the
 -- code; a law says that it stores those of the automaton's definition.
-use Prim.Native.Nat.{ℕ, zero, suc, _+_, _*_, _≤_, _<_}
+use Prim.Native.Nat.{ℕ, zero, suc, _+_, _*_, _≤_}
 use mathlib.Core.Bool.{Bool, true, false, cond}
 use mathlib.Core.List.{List}
 use lib.Dec.{eqb, ltb}
@@ -12,6 +12,7 @@ use Rattle.notation.specs.declared.reads.PathAt.{PathAt}
 use Rattle.notation.specs.declared.reads.StepAt.{StepAt}
 use Rattle.machine.specs.Automaton.{linksAt, linkSize}
 use Rattle.machine.specs.Tables.{sizeOf, goto}
+use Rattle.machine.specs.Walkable.{Searchable}
 use Rattle.machine.specs.declared.build.parents.Place.{Place}
 
 -- the bytes, and how far the pass is: the labels and the paths met, and the state of the word before the next step
@@ -71,8 +72,8 @@ parented (suc left) i at a = parented left (i + 1) (passed i at a .place) (passe
 abbrev pub outset : Place
 outset = record { labels = 0; paths = 0; state = 0 }
 
--- numbers stay small
-pub record Within (i : ℕ) (at : Place) : Type 0 where
-  pub paths : at .paths ≤ i
-  pub steps : i < 65536
+-- between steps the chains can be searched, and the numbers stay small
+pub record Sound (most : ℕ) (at : Place) (a : List ℕ) : Type 0 where
+  pub searchable : Searchable a
+  pub paths : at .paths ≤ most
   pub state : at .state ≤ 65536

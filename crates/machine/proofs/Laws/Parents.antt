@@ -196,14 +196,14 @@ module _ (s : FolderSet) (fit : Fitting s) (ls : List Link) (ms : List ℕ) (f :
         let m : withLength (length w + 1) p ≡ marked s (getD (allWords s) l []) k = rw (word, shortened-followed w e, length-append w (name e ∷ [])) in
         ap (λ (n : ℕ). sets (sets (stage l) (linksAt + linkSize * l + 2) (le16 (stateOf s w))) (linksAt + linkSize * l + 6) (le16 n)) size
         ∙ ap (λ (a : List ℕ). sets a (linksAt + linkSize * l + 6) (le16 (length w + 1)))
-          (parent-put s fit (heads (allLabels s)) ks ms f (sized ks (counts l)) rest l (stateOf s w) b
-          ∙ ap (λ (x : Link). assembled s (heads (allLabels s)) (set ks l (withParent (stateOf s w) x)) ms f ++ rest) here)
+        (parent-put s fit (heads (allLabels s)) ks ms f (sized ks (counts l)) rest l (stateOf s w) b
+        ∙ ap (λ (x : Link). assembled s (heads (allLabels s)) (set ks l (withParent (stateOf s w) x)) ms f ++ rest) here)
         ∙ size-put s fit (heads (allLabels s)) ks' ms f (sized ks' n') rest l (length w + 1) (omega (arith, n'))
         ∙ ap (λ (x : List Link). assembled s (heads (allLabels s)) x ms f ++ rest)
-          (ap (λ (x : Link). set ks' l (withLength (length w + 1) x)) (getD-set-same ks l p noLink b)
-          ∙ set-set ks l p (withLength (length w + 1) p)
-          ∙ ap (λ (x : Link). set ks l x) m
-          ∙ upTo-step s ls counted l (omega (arith, count)))
+        (ap (λ (x : Link). set ks' l (withLength (length w + 1) x)) (getD-set-same ks l p noLink b)
+        ∙ set-set ks l p (withLength (length w + 1) p)
+        ∙ ap (λ (x : Link). set ks l x) m
+        ∙ upTo-step s ls counted l (omega (arith, count)))
 
     found : goto (stage (l + 1)) (stateOf s w) (labelName (stage (l + 1)) l) ≡ stateOf s (followedBy w e)
     unfolding stage
@@ -211,7 +211,7 @@ module _ (s : FolderSet) (fit : Fitting s) (ls : List Link) (ms : List ℕ) (f :
         let b : l + 1 ≤ length (allLabels s) = omega arith in
         ap (goto (stage (l + 1)) (stateOf s w)) (named ∙ label-name)
         ∙ goto-word s (stage (l + 1)) (chains (l + 1) b) w is-prefix e (λ m k.
-            cases (ltb m (l + 1)) (λ t. inl (parents (l + 1) m b (ltb-true m (l + 1) t))) (λ t. inr (l, omega (arith, ltb-false m (l + 1) t), word)))
+        cases (ltb m (l + 1)) (λ t. inl (parents (l + 1) m b (ltb-true m (l + 1) t))) (λ t. inr (l, omega (arith, ltb-false m (l + 1) t), word)))
       where
         named : labelName (stage (l + 1)) l ≡ getD (allLabels s) l []
         named = label-bytes s fit (heads (allLabels s)) (upTo s ls (l + 1)) ms f rest l h
@@ -246,7 +246,7 @@ module _ (s : FolderSet) (fit : Fitting s) (ls : List Link) (ms : List ℕ) (f :
   first-not l i gone (p ∷ ps) e n =
       of-set s fit (heads (allLabels s)) (upTo s ls l) ms f rest (λ a. startsAt (pathAt a (record { 0 = length gone })) i ≡ false)
       (λ more. rw (path-read s fit more (length gone) (omega (arith, ap length e, length-append gone (p ∷ ps))) .answer)
-        (ne-eqb (stepsBefore (pathsOf s) (length gone)) i (λ q. absurd (omega (arith, steps-before s gone (p ∷ ps) e)))))
+      (ne-eqb (stepsBefore (pathsOf s) (length gone)) i (λ q. absurd (omega (arith, steps-before s gone (p ∷ ps) e)))))
 
   -- a step's test
   after : (i l begun left : ℕ) (w : Word) (a : Axis) (t : Test) (p : Path) (ps : List Path) → Ready s i l begun w (step a t) p ps
@@ -352,15 +352,15 @@ module _ (s : FolderSet) (fit : Fitting s) (ls : List Link) (ms : List ℕ) (f :
       (step-here l i (h .front) (step child t) (p ++ stepsOf ps) (h .steps) (h .frontSize))
       (rw (← h .goneSize) (first-here l i (h .gone) (step child t ∷ p) ps (h .paths) (omega (arith, h .until))))
       ∙ (after i l (begun + 1) (length (p ++ stepsOf ps)) (document ∷ []) child t p ps
-        (begin s i l begun w (step child t) (document ∷ []) p ps h (begun-words s t p ps (h .done) (h .words)) (rooted refl))
-        (λ l' w' r. inside p ps (outside ps) (i + 1) l' (begun + 1) w' r))
+      (begin s i l begun w (step child t) (document ∷ []) p ps h (begun-words s t p ps (h .done) (h .words)) (rooted refl))
+      (λ l' w' r. inside p ps (outside ps) (i + 1) l' (begun + 1) w' r))
   outside ((step descendant t ∷ p) ∷ ps) i l begun w h =
       next-step (length (p ++ stepsOf ps)) i (at l begun w) (stage l) true
       (step-here l i (h .front) (step descendant t) (p ++ stepsOf ps) (h .steps) (h .frontSize))
       (rw (← h .goneSize) (first-here l i (h .gone) (step descendant t ∷ p) ps (h .paths) (omega (arith, h .until))))
       ∙ (after i l (begun + 1) (length (p ++ stepsOf ps)) [] descendant t p ps
-        (begin s i l begun w (step descendant t) [] p ps h (begun-deep s t p ps (h .done) (h .words)) (nothing refl))
-        (λ l' w' r. inside p ps (outside ps) (i + 1) l' (begun + 1) w' r))
+      (begin s i l begun w (step descendant t) [] p ps h (begun-deep s t p ps (h .done) (h .words)) (nothing refl))
+      (λ l' w' r. inside p ps (outside ps) (i + 1) l' (begun + 1) w' r))
 
   -- the whole pass
   pub parented-is : every nonEmpty (pathsOf s) ≡ true

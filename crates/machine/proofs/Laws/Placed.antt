@@ -128,13 +128,13 @@ short-in (p ∷ ps) i h =
     let xs : List Word = labelWords (before p) p in
     cases (ltb i (length xs))
     (λ e. let k : i < length xs = ltb-true i (length xs) e in
-      rw (List·getD-append xs (wordsIn ps) [] i k) (omega (arith, path-short p (before p) i k, before-short p)))
+    rw (List·getD-append xs (wordsIn ps) [] i k) (omega (arith, path-short p (before p) i k, before-short p)))
     (λ e. let k : length xs ≤ i = ltb-false i (length xs) e in
-      let q : i ≡ length xs + (i - length xs) = omega arith in
-      let b : i - length xs < length (wordsIn ps) = omega (arith, length-append xs (wordsIn ps)) in
-      let r : length (getD (wordsIn ps) (i - length xs) []) ≤ i - length xs + 2 = short-in ps (i - length xs) b in
-      let f : getD (xs ++ wordsIn ps) i [] ≡ getD (wordsIn ps) (i - length xs) [] = ap (λ (j : ℕ). getD (xs ++ wordsIn ps) j []) q ∙ getD-append-add xs (wordsIn ps) (i - length xs) [] in
-      rw f (omega arith))
+    let q : i ≡ length xs + (i - length xs) = omega arith in
+    let b : i - length xs < length (wordsIn ps) = omega (arith, length-append xs (wordsIn ps)) in
+    let r : length (getD (wordsIn ps) (i - length xs) []) ≤ i - length xs + 2 = short-in ps (i - length xs) b in
+    let f : getD (xs ++ wordsIn ps) i [] ≡ getD (wordsIn ps) (i - length xs) [] = ap (λ (j : ℕ). getD (xs ++ wordsIn ps) j []) q ∙ getD-append-add xs (wordsIn ps) (i - length xs) [] in
+    rw f (omega arith))
 
 pub words-short : (s : FolderSet) (i : ℕ) → i < length (allWords s) → length (getD (allWords s) i []) ≤ i + 2
 words-short s = short-in (pathsOf s)

@@ -17,7 +17,7 @@ ghost use Rattle.notation.specs.Reads.{pathAt, stepCount, labelCount, labelName
 ghost use Rattle.machine.specs.Automaton.{automatonSize};
 ghost use Rattle.machine.specs.Tables.{sizeOf, goto};
 ghost use Rattle.machine.specs.Walkable.{Searchable};
-ghost use Rattle.machine.specs.Parents.{startsAt, entered, wordStored, labelled, passed, parented, outset, Within};
+ghost use Rattle.machine.specs.Parents.{startsAt, entered, wordStored, labelled, passed, parented, outset, Sound};
 
 // How far the pass is: the labels and the paths met, and the state of the word before the next step.
 pub struct Place {
@@ -103,7 +103,7 @@ fn follow(part: &[u8], q: usize, l: usize) -> usize
 // A label's step: its parent and length are stored, and its word's state is the next one.
 fn put_word(part: &mut [u8], at: Place) -> Place
     requires { ⌜ Searchable (now part) × ((at .state ≤ 65536) × (automatonSize ≤ length (now part))) ⌝ }
-    ensures { λ r. ⌜ (now (part .exit) ≡ labelled at (now (part .entry)) .bytes) × (r ≡ labelled at (now (part .entry)) .place) ⌝ }
+    ensures { λ r. ⌜ (now (part .exit) ≡ labelled at (now (part .entry)) .bytes) × ((r ≡ labelled at (now (part .entry)) .place) × (Sound (at .paths) r (now (part .exit)))) ⌝ }
 {
     let l = at.labels;
     let q = at.state;
@@ -120,8 +120,8 @@ fn put_word(part: &mut [u8], at: Place) -> Place
 
 // One step.
 fn pass_step(part: &mut [u8], i: usize, at: Place) -> Place
-    requires { ⌜ Searchable (now part) × ((Within i at) × (automatonSize ≤ length (now part))) ⌝ }
-    ensures { λ r. ⌜ (now (part .exit) ≡ passed i at (now (part .entry)) .bytes) × (r ≡ passed i at (now (part .entry)) .place) ⌝ }
+    requires { ⌜ (Sound i at (now part)) × ((i < 65536) × (automatonSize ≤ length (now part))) ⌝ }
+    ensures { λ r. ⌜ (now (part .exit) ≡ passed i at (now (part .entry)) .bytes) × ((r ≡ passed i at (now (part .entry)) .place) × (Sound (i + 1) r (now (part .exit)))) ⌝ }
 {
     let first = starts_path(part, at.paths, i);
     let x = reads::step_at(part, i);
