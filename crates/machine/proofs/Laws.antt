@@ -23,7 +23,13 @@ pub mod Alike
 pub mod Adding
 pub mod Whole
 pub mod Examples
+pub mod AllBelow
 pub mod Fuel
+pub mod Shaped
+pub mod Searched
+pub mod Growing
+pub mod Staged
+pub mod Fails
 pub mod Stores
 pub mod Assembled
 pub mod Tabulate

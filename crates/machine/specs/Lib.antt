@@ -14,6 +14,7 @@ pub mod Shape
 pub mod Chains
 pub mod Parents
 pub mod Walkable
+pub mod Fails
 pub mod Bits
 pub mod Chain
 pub mod Run
