@@ -38,3 +38,4 @@ pub mod Chains
 pub mod Placed
 pub mod Parents
 pub mod Elsewhere
+pub mod Linking
