@@ -37,3 +37,7 @@ pub mod Assembled
 pub mod Tabulate
 pub mod SetReads
 pub mod Chains
+pub mod Placed
+pub mod Parents
+pub mod Elsewhere
+pub mod Linking

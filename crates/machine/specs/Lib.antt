@@ -12,6 +12,7 @@ pub mod Automaton
 pub mod Tables
 pub mod Shape
 pub mod Chains
+pub mod Parents
 pub mod Walkable
 pub mod Fails
 pub mod Bits
