@@ -13,7 +13,7 @@ use Rattle.notation.specs.Names.{Name}
 use Rattle.notation.specs.Limits.{maxSteps}
 use Rattle.notation.specs.Sets.{FolderSet}
 use Rattle.notation.specs.Layout.{le16}
-use Rattle.notation.specs.Reads.{labelName}
+use Rattle.notation.specs.Reads.{labelCount, labelName}
 use Rattle.notation.proofs.Laws.Fitting.{Fitting}
 use Rattle.machine.specs.Words.{Symbol, name, Word}
 use Rattle.machine.specs.Prefix.{IsPrefix, failure}
@@ -28,7 +28,7 @@ use Rattle.machine.proofs.Laws.Assembled.{nextOf, parentOf, failureOf, 
 use Rattle.machine.proofs.Laws.States.{StateKind, ofEmpty, ofRoot, ofLabel, state-kind, state-empty, words-count, word-ends, label-parent, shortened-followed}
 use Rattle.machine.proofs.Laws.Goto.{Linked}
 use Rattle.machine.proofs.Laws.Walked.{FailsTo, fail-word, walk-over}
-use Rattle.machine.proofs.Laws.Staged.{wordAt, failureAt, Links, Short, word-size, stage, sized, staged, size-here, fail-here, size-state}
+use Rattle.machine.proofs.Laws.Staged.{wordAt, failureAt, Links, Short, word-size, stage, sized, staged, count-here, size-here, fail-here, size-state}
 
 -- a link with another failure keeps the rest
 same-next : (v : ℕ) (k : Link) → nextOf (withFailure v k) ≡ nextOf k
@@ -233,3 +233,7 @@ module _ (s : FolderSet) (fit : Fitting s) (short : Short s) (ms : List ℕ) (f 
       let start : Stage s 1 0 ls = record { links = k; lower = λ j i b. absurd (omega (arith, word-size s j i)); upto = λ j i b. absurd (omega arith) } in
       let r = to (suc maxSteps) ls start in
       r .1 ∙ ap at (all-right (r .0) (r .2))
+
+  -- the same, for the count of labels that the code goes by
+  pub fails-made : (ls : List Link) → Links s ls → failedTo (labelCount (assembled s (heads (allLabels s)) ls ms f ++ rest)) (suc maxSteps) (assembled s (heads (allLabels s)) ls ms f ++ rest) ≡ assembled s (heads (allLabels s)) (links s) ms f ++ rest
+  fails-made ls k = rw (count-here s fit short ms f masks rest ls k) (fails-is ls k)
