@@ -30,6 +30,15 @@ pub mod Alike
 pub mod Adding
 pub mod Whole
 pub mod Examples
+pub mod AllBelow
+pub mod Fuel
+pub mod Shaped
+pub mod SetShape
+pub mod Searched
+pub mod Growing
+pub mod Staged
+pub mod Fails
+pub mod BuiltShape
 pub mod Stores
 pub mod Assembled
 pub mod PathSteps
@@ -46,3 +55,10 @@ pub mod FolderPlaces
 pub mod Asking
 pub mod Following
 pub mod Demand3
+pub mod Tabulate
+pub mod SetReads
+pub mod Chains
+pub mod Placed
+pub mod Parents
+pub mod Elsewhere
+pub mod Linking

@@ -23,7 +23,6 @@ use Rattle.machine.specs.History.{acceptedCalls, opensIn, closesIn, stil
 use Rattle.machine.specs.Elements.{elementsOf, childlessDepths}
 use Rattle.machine.specs.Folders.{placesOf, FolderMatched, folderMatched}
 use Rattle.machine.specs.Automaton.{automatonSize, automatonOf}
-use Rattle.machine.specs.Shape.{automatonShaped}
 use Rattle.machine.specs.Run.{runSize, runOf}
 use Rattle.machine.specs.RunCalls.{given, startRefusal, openRefusal, closeRefusal}
 use Rattle.machine.specs.Asking.{askPath, askFolder, askStep, askPrefix, nameRefusal, askName}
@@ -202,6 +201,6 @@ demand3-means s a m buffer long made =
     }
 
 -- of every accepted set, whatever stands behind its automaton, every buffer of the size of a run or more, and every list of calls
-pub demand3 : (text : List ℕ) (s : FolderSet) → Accepted text s → (rest : List ℕ) → automatonShaped (automatonOf s ++ rest) ≡ true → (buffer : List ℕ) → runSize ≤ length buffer
+pub demand3 : (text : List ℕ) (s : FolderSet) → Accepted text s → (rest : List ℕ) (buffer : List ℕ) → runSize ≤ length buffer
     → (made : List Made) → Demand3 s (automatonOf s ++ rest) buffer made
-demand3 text s accepted rest shaped buffer long made = demand3-means s (automatonOf s ++ rest) (means text s accepted rest shaped) buffer long made
+demand3 text s accepted rest buffer long made = demand3-means s (automatonOf s ++ rest) (means text s accepted rest) buffer long made

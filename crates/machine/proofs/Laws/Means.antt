@@ -16,6 +16,7 @@ use Rattle.machine.specs.Shape.{automatonShaped}
 use Rattle.machine.specs.Compiled.{Compiled}
 use Rattle.machine.proofs.Laws.Assembled.{assembled-length, after-set}
 use Rattle.machine.proofs.Laws.Compiled.{automaton-sized, compiled}
+use Rattle.machine.proofs.Laws.BuiltShape.{built-shaped}
 use Rattle.machine.proofs.Laws.FullPaths.{full-paths}
 
 pub record Means (s : FolderSet) (a : List ℕ) : Type 0 where
@@ -30,9 +31,9 @@ pub record Means (s : FolderSet) (a : List ℕ) : Type 0 where
   pub shaped : automatonShaped a ≡ true
   pub tables : Compiled s a
 
-pub means : (text : List ℕ) (s : FolderSet) → Accepted text s → (rest : List ℕ) → automatonShaped (automatonOf s ++ rest) ≡ true → Means s (automatonOf s ++ rest)
+pub means : (text : List ℕ) (s : FolderSet) → Accepted text s → (rest : List ℕ) → Means s (automatonOf s ++ rest)
 unfolding automatonOf
-means text s acc rest shape =
+means text s acc rest =
     let fit = accepted-fits text s acc in
     let first = after-set s fit (heads (allLabels s)) (links s) (masks s) (startState s) rest in
     record {
@@ -42,6 +43,6 @@ means text s acc rest shape =
       more = first .0;
       stored = first .1;
       long = omega (arith, length-append (automatonOf s) rest, assembled-length s fit (heads (allLabels s)) (links s) (masks s) (startState s) (automaton-sized s fit rest));
-      shaped = shape;
+      shaped = built-shaped s acc rest;
       tables = compiled text s acc rest;
     }
