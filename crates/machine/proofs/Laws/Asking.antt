@@ -1,45 +1,40 @@
 -- On the run of a machine's state the asking calls answer what the machine has, and 13 exactly where what is asked of is not there.
 use Prim.Native.Nat.{ℕ, zero, suc, _+_, _-_, _*_, _≤_, _<_, pred}
-use mathlib.Core.Path.{_≡_, refl, sym, _∙_, ap, ap₂, subst}
+use mathlib.Core.Path.{_≡_, refl, ap₂}
 use mathlib.Core.Bool.{Bool, true, false, not, _&&_, _||_, cond}
-use mathlib.Core.List.{List, [], _∷_, _++_}
+use mathlib.Core.List.{List, [], _++_}
 use native.Mathlib.Omega.{arith}
 use native.Mathlib.Nat.{zero-add}
-use borrow.Author.Tests.{ltb-true, ltb-false, lt-ltb, le-ltb, leb-true, eq-eqb}
-use lib.Dec.{leb, ltb, eqb}
-use lib.ListN.{length, getD, take, length-append}
+use borrow.Author.Tests.{ltb-true, ltb-false, leb-true, eq-eqb}
+use lib.Dec.{leb, ltb}
+use lib.ListN.{length, getD}
 use lib.Seq.{take-length}
 use Rattle.notation.specs.Limits.{maxPaths, maxSteps}
 use Rattle.notation.specs.Names.{Name, within}
 use Rattle.notation.specs.Sets.{Path, FolderSet, folderNumber, folderPaths}
-use Rattle.notation.specs.Form.{pathsOf, stepsOf}
+use Rattle.notation.specs.Form.{pathsOf}
 use Rattle.notation.specs.Print.{print}
-use Rattle.notation.specs.Layout.{setPart}
 use Rattle.notation.specs.Activity.{active}
 use Rattle.notation.specs.Reads.{pathAt, folderAt, folderOf, folderIndex}
 use Rattle.notation.specs.declared.PathPlace.{PathPlace}
 use Rattle.notation.specs.declared.FolderNumber.{FolderNumber}
 use Rattle.notation.specs.declared.reads.PathAt.{PathAt}
 use Rattle.notation.specs.declared.reads.FolderAt.{FolderAt}
-use Rattle.notation.specs.declared.reads.FolderIndex.{FolderIndex}
 use Rattle.notation.proofs.Laws.PathTable.{stepsBefore, steps-through}
 use Rattle.notation.proofs.Laws.FolderTable.{noFolder, pathsBefore, paths-between, paths-before-most}
 use Rattle.notation.proofs.Laws.ReadPaths.{PathRead, path-read, path-missing}
 use Rattle.notation.proofs.Laws.ReadFolders.{folder-read, folder-of-read}
 use Rattle.machine.specs.Prefix.{prefixOf}
 use Rattle.machine.specs.Words.{any}
-use Rattle.machine.specs.Folders.{countFrom, placesOf, placesFrom, folderMatched}
+use Rattle.machine.specs.Folders.{countFrom, placesFrom, folderMatched}
 use Rattle.machine.specs.Calls.{State, openNames, depth, activeStep}
-use Rattle.machine.specs.Calls as machine
-use Rattle.machine.specs.Automaton.{maskSize, stateOf}
-use Rattle.machine.specs.Tables.{sizeOf}
-use Rattle.machine.specs.Shape.{automatonShaped}
-use Rattle.machine.specs.Run.{matchBit, activeBits, runOf}
-use Rattle.machine.specs.RunCalls.{depthOf, storedName, stateAt, activeAt, matchedAt, runShaped, given}
-use Rattle.machine.specs.Asking.{askRefusal, yesNo, answered, hasPath, lastMatched, placeMatched, askPath, hasFolder, pathsOfFolder, indexPaths, askFolder, hasStep, stepActive, askStep, measured, askPrefix, hasDepth, nameRefusal, askName}
+use Rattle.machine.specs.Automaton.{maskSize}
+use Rattle.machine.specs.Run.{runOf}
+use Rattle.machine.specs.RunCalls.{depthOf, storedName, activeAt, given}
+use Rattle.machine.specs.Asking.{askRefusal, yesNo, answered, hasPath, placeMatched, askPath, hasFolder, indexPaths, askFolder, askStep, askPrefix, nameRefusal, askName}
 use Rattle.machine.specs.declared.answers.Asked.{Asked}
 use Rattle.machine.specs.declared.answers.Length.{Length}
-use Rattle.machine.proofs.Laws.Basics.{cases, both-true}
+use Rattle.machine.proofs.Laws.Basics.{cases}
 use Rattle.machine.proofs.Laws.Prefix.{current-prefix}
 use Rattle.machine.proofs.Laws.Sound.{Sound}
 use Rattle.machine.proofs.Laws.Moves.{Few}

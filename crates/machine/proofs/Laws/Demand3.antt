@@ -1,38 +1,34 @@
 -- Demand 3, whole: of every accepted set, every buffer and every list of calls.
-use Prim.Native.Nat.{ℕ, zero, suc, _+_, _≤_, _<_, pred}
+use Prim.Native.Nat.{ℕ, _+_, _≤_, _<_, pred}
 use mathlib.Core.Path.{_≡_, refl, sym, _∙_, ap, subst}
-use mathlib.Core.Bool.{Bool, true, false, not, _&&_, cond}
+use mathlib.Core.Bool.{Bool, true, false, _&&_, cond}
 use mathlib.Core.Logic.{_↔_}
 use mathlib.Core.List.{List, [], _∷_, _++_, map, List·Memᴰ, List·Memᴰ·not-nil}
 use native.Mathlib.Omega.{arith}
-use borrow.Author.Tests.{ltb-true, ltb-false, lt-ltb, le-ltb, leb-true, le-leb, eqb-true, eq-eqb}
-use lib.Dec.{leb, ltb, eqb}
+use borrow.Author.Tests.{ltb-true, ltb-false, lt-ltb, le-ltb, le-leb, eqb-true, eq-eqb}
+use lib.Dec.{ltb, eqb}
 use lib.ListN.{length, getD, drop, List·getD-eq-default}
 use Rattle.notation.specs.Names.{Name, within}
-use Rattle.notation.specs.Sets.{Folder, FolderSet, folderNumber}
+use Rattle.notation.specs.Sets.{FolderSet, folderNumber}
 use Rattle.notation.specs.Form.{pathsOf}
 use Rattle.notation.specs.Fit.{nameAt, Active}
 use Rattle.notation.specs.Accepted.{Accepted}
 use Rattle.notation.specs.declared.PathPlace.{PathPlace}
 use Rattle.notation.specs.declared.FolderNumber.{FolderNumber}
-use Rattle.machine.specs.Words.{any}
-use Rattle.machine.specs.Prefix.{CurrentPrefix}
-use Rattle.machine.specs.Order.{numberIn}
-use Rattle.machine.specs.Calls.{asLeft, Call, openCall, closeCall, State, openNames, pathAt, activeStep, refusal, run}
-use Rattle.machine.specs.History.{acceptedCalls, opensIn, closesIn, stillOpen, FittedAfterOpen, opensOf, SameAnswers}
-use Rattle.machine.specs.Elements.{elementsOf, childlessDepths}
-use Rattle.machine.specs.Folders.{placesOf, FolderMatched, folderMatched}
+use Rattle.machine.specs.Calls.{asLeft, Call, openCall, State, openNames, pathAt, activeStep, run}
+use Rattle.machine.specs.History.{stillOpen, FittedAfterOpen, opensOf, SameAnswers}
+use Rattle.machine.specs.Folders.{placesOf, folderMatched}
 use Rattle.machine.specs.Automaton.{automatonSize, automatonOf}
 use Rattle.machine.specs.Run.{runSize, runOf}
-use Rattle.machine.specs.RunCalls.{given, startRefusal, openRefusal, closeRefusal}
+use Rattle.machine.specs.RunCalls.{given, startRefusal}
 use Rattle.machine.specs.Asking.{askPath, askFolder, askStep, askPrefix, nameRefusal, askName}
-use Rattle.machine.specs.Demand3.{Made, openAsLeft, closeAsLeft, callOf, callsOf, Left, leftBy, Answers, HasFolder, HasMatchedPath, StepThere, PrefixAnswered, SameAsked, Demand3}
+use Rattle.machine.specs.Demand3.{Made, openAsLeft, callsOf, leftBy, Answers, HasFolder, HasMatchedPath, StepThere, PrefixAnswered, SameAsked, Demand3}
 use Rattle.machine.specs.declared.answers.Asked.{Asked}
 use Rattle.machine.specs.declared.answers.Length.{Length}
 use Rattle.machine.proofs.Laws.Basics.{cases, clash, both-true, any-is, is-any}
 use Rattle.machine.proofs.Laws.Matches.{run-matched, run-matched-there}
 use Rattle.machine.proofs.Laws.Moves.{Few}
-use Rattle.machine.proofs.Laws.Whole.{Whole, whole}
+use Rattle.machine.proofs.Laws.Whole.{whole}
 use Rattle.machine.proofs.Laws.Folders.{folder-matched}
 use Rattle.machine.proofs.Laws.Means.{Means, means}
 use Rattle.machine.proofs.Laws.RunShape.{open-refused, close-refused}

@@ -1,20 +1,20 @@
 -- Where numbers rise, the places of a folder's paths are those of the one folder that has its number, and none where no folder has it.
-use Prim.Native.Nat.{ℕ, zero, suc, _+_, _≤_, _<_}
-use mathlib.Core.Path.{_≡_, refl, sym, _∙_, ap}
-use mathlib.Core.Bool.{Bool, true, false, _||_, cond}
-use mathlib.Core.List.{List, [], _∷_, _++_, append-nil}
+use Prim.Native.Nat.{ℕ, suc, _+_, _≤_, _<_}
+use mathlib.Core.Path.{_≡_, refl}
+use mathlib.Core.Bool.{Bool, true, false, _||_}
+use mathlib.Core.List.{[], _∷_, _++_, append-nil}
 use native.Mathlib.Omega.{arith}
 use native.Mathlib.Nat.{add-zero}
 use borrow.Author.Tests.{leb-false, eqb-true, ne-eqb}
 use lib.Dec.{leb, eqb}
 use lib.ListN.{length, getD, take, length-append}
-use Rattle.notation.specs.Sets.{Path, Folder, folder, FolderSet, folderNumber, folderPaths}
-use Rattle.notation.specs.Form.{pathsOf, numbersFallAfter, numbersFall}
+use Rattle.notation.specs.Sets.{folder, FolderSet, folderNumber, folderPaths}
+use Rattle.notation.specs.Form.{pathsOf, numbersFallAfter}
 use Rattle.notation.specs.Reads.{folderIndex}
 use Rattle.notation.specs.declared.reads.FolderIndex.{FolderIndex}
 use Rattle.notation.proofs.Laws.FolderTable.{noFolder, pathsBefore}
 use Rattle.machine.specs.Words.{any}
-use Rattle.machine.specs.Folders.{countFrom, placesFrom, placesOf}
+use Rattle.machine.specs.Folders.{countFrom, placesFrom}
 use Rattle.machine.proofs.Laws.Basics.{cases}
 
 -- some folder of the set has this number

@@ -1,35 +1,34 @@
 -- Call by call, what is left of run and counters is the run and the counters of the machine's state.
-use Prim.Native.Nat.{ℕ, zero, suc, _+_, _≤_, _<_}
+use Prim.Native.Nat.{ℕ, suc, _<_}
 use mathlib.Core.Path.{_≡_, refl, sym, _∙_, ap, ap₂, subst}
-use mathlib.Core.Bool.{Bool, true, false, _||_, cond}
+use mathlib.Core.Bool.{_||_}
 use mathlib.Core.Option.{Option, none, some}
-use mathlib.Core.List.{List, [], _∷_, _++_, map, reverse, reverse-cons, List·Memᴰ, List·Memᴰ·head, Memᴰ·append-right}
+use mathlib.Core.List.{List, [], _∷_, _++_, map, reverse-cons, List·Memᴰ·head, Memᴰ·append-right}
 use native.Mathlib.Omega.{arith}
 use native.Mathlib.Numerals.{add-one}
-use borrow.Author.Tests.{ne-eqb, leb-false}
+use borrow.Author.Tests.{leb-false}
 use lib.Dec.{eqb}
 use lib.ListN.{length, getD, drop, length-append}
 use Rattle.notation.specs.Limits.{maxName}
 use Rattle.notation.specs.Names.{Name}
 use Rattle.notation.specs.Sets.{FolderSet}
 use Rattle.notation.specs.Form.{pathsOf}
-use Rattle.notation.specs.Refusals.{Refusal, numberOf, shortBuffer, oversize, bentForm, outOfTurn, longName, longPath, full, foreignByte, torn, looseEnd, tooDeep, crossed, noSuchPlace, strangeShape}
+use Rattle.notation.specs.Refusals.{Refusal, shortBuffer, oversize, bentForm, outOfTurn, longName, longPath, full, foreignByte, torn, looseEnd, tooDeep, crossed, noSuchPlace, strangeShape}
 use Rattle.notation.specs.Activity.{fits}
 use Rattle.machine.specs.Limits.{maxDepth}
 use Rattle.machine.specs.Words.{Word}
-use Rattle.machine.specs.Prefix.{prefixOf}
 use Rattle.machine.specs.Walk.{movesOf, walk}
 use Rattle.machine.specs.Order.{isNone, numberIn}
-use Rattle.machine.specs.Calls.{asLeft, otherwise, Call, openCall, closeCall, Level, level, nameOf, State, namesOf, openNames, depth, fresh, opened, closedFrom, closed, refusal, accepted, done, step, after}
+use Rattle.machine.specs.Calls.{asLeft, otherwise, Call, openCall, closeCall, Level, nameOf, State, namesOf, openNames, fresh, opened, closedFrom, closed, refusal, accepted, step, after}
 use Rattle.machine.specs.Calls as machine
 use Rattle.machine.specs.Run.{runSize, runWith, runOf}
-use Rattle.machine.specs.RunCalls.{openWalk, openRefusal, openRun, openCounters, closeRefusal, closeRun, closeCounters, noCounters}
-use Rattle.machine.specs.Demand3.{Made, openAsLeft, closeAsLeft, openOther, closeOther, callOf, callsOf, Left, started, leaves, leftAfter, leftBy}
+use Rattle.machine.specs.RunCalls.{openWalk, openRun, openCounters, closeRun, closeCounters, noCounters}
+use Rattle.machine.specs.Demand3.{Made, openAsLeft, closeAsLeft, openOther, closeOther, callOf, callsOf, Left, leaves, leftAfter, leftBy}
 use Rattle.machine.specs.declared.counters.Counters.{Counters}
 use Rattle.machine.specs.declared.walk.Walk.{Walk}
-use Rattle.machine.proofs.Laws.Basics.{cases, clash}
+use Rattle.machine.proofs.Laws.Basics.{cases}
 use Rattle.machine.proofs.Laws.Calls.{Openable, open-accepted, Closable, close-accepted, lent-otherwise-open, lent-otherwise-close, always}
-use Rattle.machine.proofs.Laws.Steps.{names-opened, step-accepted, step-refused}
+use Rattle.machine.proofs.Laws.Steps.{step-refused}
 use Rattle.machine.proofs.Laws.Sound.{Sound}
 use Rattle.machine.proofs.Laws.Moves.{Few, fresh-few, open-few, close-few}
 use Rattle.machine.proofs.Laws.RunBytes.{Short}

@@ -1,9 +1,9 @@
 -- The steps of the labels of a name are the steps that have that label.
-use Prim.Native.Nat.{ℕ, zero, suc, _+_, _≤_, _<_}
-use mathlib.Core.Path.{_≡_, refl, sym, _∙_, ap, subst}
+use Prim.Native.Nat.{ℕ, zero, suc, _+_, _<_}
+use mathlib.Core.Path.{_≡_, refl, sym, _∙_, ap}
 use mathlib.Core.Bool.{Bool, true, false, cond}
 use mathlib.Core.Logic.{_⊎_, inl, inr}
-use mathlib.Core.List.{List, [], _∷_, _++_, List·Memᴰ, List·Memᴰ·head, List·Memᴰ·tail, List·Memᴰ·not-nil, List·Memᴰ·append-cases, List·Memᴰ·eq-of-singleton, Memᴰ·append-left, Memᴰ·append-right}
+use mathlib.Core.List.{List, [], _∷_, _++_, List·Memᴰ, List·Memᴰ·head, List·Memᴰ·not-nil, List·Memᴰ·append-cases, List·Memᴰ·eq-of-singleton, Memᴰ·append-right}
 use native.Mathlib.Omega.{arith}
 use native.Mathlib.Nat.{not-suc-le-zero, le-of-suc-le-suc, zero-add}
 use borrow.Author.Tests.{ltb-true, ltb-false, eqb-true, eq-eqb}
@@ -20,11 +20,11 @@ use Rattle.notation.proofs.Laws.LabelTable.{noStep}
 use Rattle.machine.specs.Words.{any}
 use Rattle.machine.specs.Automaton.{allSteps, allLabels, Role, role, roles, rolesIn, roleAt}
 use Rattle.machine.specs.Chain.{chainLabels}
-use Rattle.machine.specs.Compiled.{placesOf, LabelStep, Compiled}
+use Rattle.machine.specs.Compiled.{placesOf, Compiled}
 use Rattle.machine.proofs.Laws.Basics.{cases, clash, any-is, is-any}
 use Rattle.machine.proofs.Laws.Words.{same-name, name-same}
 use Rattle.machine.proofs.Laws.Goto.{same-test}
-use Rattle.machine.proofs.Laws.PathSteps.{anyStep, Located, locate, role-at, role-past}
+use Rattle.machine.proofs.Laws.PathSteps.{anyStep, locate, role-at, role-past}
 
 -- a label of this name
 abbrev pub isLabel : Name → Test → Bool

@@ -5,13 +5,12 @@ use mathlib.Core.Bool.{Bool, true, false, not, _&&_, _||_}
 use mathlib.Core.List.{List, [], _∷_, _++_}
 use native.Mathlib.Omega.{arith}
 use native.Mathlib.Nat.{add-suc}
-use borrow.Author.Tests.{ltb-true, ltb-false, le-leb, eq-eqb, ne-eqb, eqb-true}
-use lib.Dec.{leb, ltb, eqb}
-use lib.ListN.{length, getD, take}
+use borrow.Author.Tests.{ltb-true, ltb-false, le-leb, ne-eqb, eqb-true}
+use lib.Dec.{ltb, eqb}
+use lib.ListN.{length, getD}
 use lib.Seq.{take-length}
 use Rattle.notation.specs.Names.{Name}
-use Rattle.notation.specs.Limits.{maxName}
-use Rattle.notation.specs.Sets.{Axis, child, descendant, Test, label, star, Step, step, Path, FolderSet, axisOf, testOf}
+use Rattle.notation.specs.Sets.{Axis, child, descendant, Test, label, star, step, Path, FolderSet, axisOf, testOf}
 use Rattle.notation.specs.Form.{pathsOf, stepsOf}
 use Rattle.notation.specs.Reads.{isDescendant, isStar}
 use Rattle.notation.specs.Fit.{stepAt}
@@ -19,9 +18,9 @@ use Rattle.notation.specs.Activity.{takes, byAxis, allowed, here, isEmpty, acti
 use Rattle.notation.proofs.Laws.Innermost.{active-more, seen-more}
 use Rattle.notation.proofs.Laws.PathTable.{stepsBefore}
 use Rattle.machine.specs.Limits.{maxDepth}
-use Rattle.machine.specs.Automaton.{maskSize, Role, role, roles, rolesIn, roleAt, isStarRole, isChildRole, isDescendantRole, isAnywhereRole, isRootRole, isLastRole}
+use Rattle.machine.specs.Automaton.{maskSize, Role, role, roles, roleAt, isStarRole, isChildRole, isDescendantRole, isAnywhereRole, isRootRole, isLastRole}
 use Rattle.machine.specs.Run.{stepBit, matchBit, activeBits, seenBits, runWith}
-use Rattle.machine.specs.RunCalls.{depthOf, activeAt, seenAt, matchedAt, maskBit, candidate, shifted, permitted, nowActive, nowSeen, nowMatched}
+use Rattle.machine.specs.RunCalls.{depthOf, activeAt, seenAt, maskBit, candidate, shifted, permitted, nowActive, nowSeen, nowMatched}
 use Rattle.machine.proofs.Laws.Basics.{cases}
 use Rattle.machine.proofs.Laws.PathSteps.{anyStep, Located, locate, bit-at, bit-past, match-at, match-past, roleOf, role-at, role-past}
 use Rattle.machine.proofs.Laws.RunBytes.{Short, depth-read, active-at, seen-at, matched-read}

@@ -1,31 +1,27 @@
 -- An accepted open of a run gives the run of the names with one more and of the matches with those paths that fit now; its failure moves
 -- are the machine's. An accepted close takes the last name away again. A start gives the fresh run.
-use Prim.Native.Nat.{ℕ, zero, suc, _+_, _-_, _*_, _/_, _≤_, _<_, pred}
-use mathlib.Core.Path.{_≡_, refl, sym, _∙_, ap, ap₂, subst}
-use mathlib.Core.Bool.{Bool, true, false, _||_}
+use Prim.Native.Nat.{ℕ, zero, suc, _+_, _*_, _≤_, _<_, pred}
+use mathlib.Core.Path.{_≡_, refl, sym, _∙_, ap, ap₂}
+use mathlib.Core.Bool.{Bool, false, _||_}
 use mathlib.Core.Logic.{_⊎_, inl, inr}
 use mathlib.Core.List.{List, [], _∷_, _++_, append-assoc, List·Memᴰ, List·Memᴰ·append-cases, List·Memᴰ·eq-of-singleton, Memᴰ·append-left}
 use native.Mathlib.Omega.{arith}
-use native.Mathlib.Nat.{add-zero}
 use lib.ListN.{length, getD, take, drop, replicate, length-append, length-replicate}
 use lib.Seq.{sets, take-length}
 use Rattle.notation.specs.Limits.{maxName, maxPaths, maxSteps}
 use Rattle.notation.specs.Names.{Name}
-use Rattle.notation.specs.Sets.{Path, FolderSet}
+use Rattle.notation.specs.Sets.{FolderSet}
 use Rattle.notation.specs.Form.{pathsOf, stepsOf}
-use Rattle.notation.specs.Layout.{setPart, le16, joined, padded}
+use Rattle.notation.specs.Layout.{le16, joined, padded}
 use Rattle.notation.specs.Reads.{stepCount}
 use Rattle.notation.specs.Activity.{active, seen, fits}
 use Rattle.notation.proofs.Laws.Padded.{sets-front, length-padded, joined-snoc}
-use Rattle.notation.proofs.Laws.Fitting.{Fitting}
-use Rattle.notation.proofs.Laws.Reads.{steps-read}
 use Rattle.machine.specs.Limits.{maxDepth}
-use Rattle.machine.specs.Words.{Word}
 use Rattle.machine.specs.Prefix.{prefixOf}
-use Rattle.machine.specs.Walk.{movesOf, arrivedAt, walk}
+use Rattle.machine.specs.Walk.{walk}
 use Rattle.machine.specs.Automaton.{maskSize, stateOf, byteOf, bitBytes}
-use Rattle.machine.specs.Run.{matchesAt, rowsAt, nameIn, stateIn, activeIn, seenIn, rowSize, rowAt, runSize, stepBit, matchBit, activeBits, seenBits, rowOf, rowsFrom, runWith}
-use Rattle.machine.specs.RunCalls.{depthOf, stateAt, usedBytes, usedBits, nowActive, nowSeen, nowMatched, openWalk, rowWritten, openRun, rowCleared, closeRun}
+use Rattle.machine.specs.Run.{matchesAt, rowsAt, nameIn, stateIn, activeIn, rowSize, rowAt, runSize, matchBit, activeBits, seenBits, rowOf, rowsFrom, runWith}
+use Rattle.machine.specs.RunCalls.{usedBytes, usedBits, nowActive, nowSeen, nowMatched, openWalk, rowWritten, openRun, rowCleared, closeRun}
 use Rattle.machine.specs.declared.walk.Walk.{Walk}
 use Rattle.machine.proofs.Laws.Prefix.{current-prefix}
 use Rattle.machine.proofs.Laws.Walk.{walk-current}

@@ -1,15 +1,15 @@
 -- Stores into a row and into the match bits: rows of bits over rows of bits, as far as they are used.
-use Prim.Native.Nat.{ℕ, zero, suc, _+_, _-_, _*_, _≤_, _<_}
+use Prim.Native.Nat.{ℕ, _+_, _-_, _*_, _≤_, _<_}
 use mathlib.Core.Path.{_≡_, refl, sym, _∙_, ap}
-use mathlib.Core.Bool.{Bool, true, false}
-use mathlib.Core.List.{List, [], _∷_, _++_, append-assoc, append-nil}
+use mathlib.Core.Bool.{Bool, false}
+use mathlib.Core.List.{List, _++_}
 use native.Mathlib.Omega.{arith}
-use native.Mathlib.Nat.{add-zero, add-suc, zero-add}
-use lib.ListN.{length, take, drop, replicate, length-append, length-replicate, replicate-append-replicate}
+use native.Mathlib.Nat.{add-zero}
+use lib.ListN.{length, take, drop, replicate}
 use lib.Seq.{sets, take-at, drop-at, drop-drop}
-use Rattle.notation.proofs.Laws.Padded.{sets-past, sets-front}
-use Rattle.machine.specs.Automaton.{maskSize, packed, tabulate, byteOf, bitBytes}
-use Rattle.machine.specs.Run.{activeIn, seenIn, rowSize, rowAt, runSize}
+use Rattle.notation.proofs.Laws.Padded.{sets-front}
+use Rattle.machine.specs.Automaton.{maskSize, byteOf, bitBytes}
+use Rattle.machine.specs.Run.{activeIn, seenIn, rowSize, runSize}
 use Rattle.machine.proofs.Laws.Bits.{tabulate-length}
 use Rattle.machine.proofs.Laws.MaskRows.{bits-same, bits-none, bits-split}
 use Rattle.machine.proofs.Laws.Stores.{sets-left, past, zeros}

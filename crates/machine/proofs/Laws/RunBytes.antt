@@ -1,27 +1,26 @@
 -- A run's bytes: its parts, and what is read of them.
-use Prim.Native.Nat.{ℕ, zero, suc, _+_, _-_, _*_, _/_, _%_, _≤_, _<_}
+use Prim.Native.Nat.{ℕ, zero, suc, _+_, _-_, _*_, _/_, _≤_, _<_}
 use mathlib.Core.Path.{_≡_, refl, sym, _∙_, ap, subst}
-use mathlib.Core.Bool.{Bool, true, false}
+use mathlib.Core.Bool.{Bool}
 use mathlib.Core.List.{List, [], _∷_, _++_, append-assoc, append-nil, List·Memᴰ, List·Memᴰ·head, List·Memᴰ·tail}
 use native.Mathlib.Omega.{arith}
 use native.Mathlib.Nat.{not-suc-le-zero, le-of-suc-le-suc, add-zero}
-use lib.ListN.{length, getD, take, drop, replicate, length-append, length-replicate}
+use lib.ListN.{length, getD, take, drop, replicate, length-append}
 use Rattle.notation.specs.Limits.{maxName, maxLabels}
 use Rattle.notation.specs.Names.{Name}
-use Rattle.notation.specs.Sets.{Path, FolderSet}
+use Rattle.notation.specs.Sets.{FolderSet}
 use Rattle.notation.specs.Form.{pathsOf}
 use Rattle.notation.specs.Layout.{le16, joined, padded}
 use Rattle.notation.specs.Reads.{word16}
-use Rattle.notation.proofs.Laws.Stands.{Stands, itself, left, right, read, slice}
-use Rattle.notation.proofs.Laws.Padded.{length-padded, joined-snoc}
+use Rattle.notation.proofs.Laws.Stands.{Stands, left, right, read, slice}
+use Rattle.notation.proofs.Laws.Padded.{length-padded}
 use Rattle.notation.proofs.Laws.Entries.{OfWidth, none, more, joined-length, entry}
 use Rattle.notation.proofs.Laws.Fitting.{Fitting}
 use Rattle.notation.proofs.Laws.Words.{word-read}
 use Rattle.machine.specs.Limits.{maxDepth}
-use Rattle.machine.specs.Words.{Word}
 use Rattle.machine.specs.Prefix.{prefixOf}
-use Rattle.machine.specs.Automaton.{maskSize, stateOf, bitBytes, byteOf, allLabels}
-use Rattle.machine.specs.Bits.{bitOf, bitIn}
+use Rattle.machine.specs.Automaton.{maskSize, stateOf, bitBytes, byteOf}
+use Rattle.machine.specs.Bits.{bitIn}
 use Rattle.machine.specs.Run.{matchesAt, rowsAt, nameIn, stateIn, activeIn, seenIn, rowSize, rowAt, runSize, matchBit, activeBits, seenBits, rowOf, rowsFrom, runWith}
 use Rattle.machine.specs.RunCalls.{depthOf, nameLength, storedName, stateAt, activeAt, seenAt, matchedAt}
 use Rattle.machine.proofs.Laws.Bits.{tabulate-length, bits-bit}

@@ -1,32 +1,30 @@
 -- Everything that the calls make passes the shape test, and on it an open and a close are refused as the machine says.
 use Prim.Native.Nat.{ℕ, zero, suc, _+_, _*_, _≤_, _<_}
-use mathlib.Core.Path.{_≡_, refl, sym, _∙_, ap, subst}
-use mathlib.Core.Bool.{Bool, true, false, not, _&&_, _||_, cond}
-use mathlib.Core.Option.{Option, none, some}
-use mathlib.Core.List.{List, [], _∷_, _++_, map, reverse, reverse-cons, List·Memᴰ}
+use mathlib.Core.Path.{_≡_, refl, sym, _∙_, ap}
+use mathlib.Core.Bool.{Bool, true, false, not, _&&_}
+use mathlib.Core.List.{List, [], _∷_, _++_, map, reverse, reverse-cons}
 use native.Mathlib.Omega.{arith}
-use borrow.Author.Tests.{le-leb, le-ltb, lt-ltb, eq-eqb, ne-eqb, eqb-true, eqb-false, leb-false}
-use lib.Dec.{leb, ltb, eqb}
+use borrow.Author.Tests.{le-leb, le-ltb, lt-ltb, eq-eqb, ne-eqb, leb-false}
+use lib.Dec.{ltb, eqb}
 use lib.ListN.{length, getD, take, length-append, length-map, length-reverse}
 use lib.Seq.{getD-at}
 use Rattle.notation.specs.Limits.{maxName}
 use Rattle.notation.specs.Names.{Name, nameForm, tooLong}
 use Rattle.notation.specs.Sets.{FolderSet}
 use Rattle.notation.specs.Form.{nonEmpty}
-use Rattle.notation.specs.Refusals.{Refusal, numberOf, shortBuffer, strangeShape, torn, longName, looseEnd, tooDeep, full, crossed}
+use Rattle.notation.specs.Refusals.{torn, longName, looseEnd, crossed}
 use Rattle.notation.specs.Activity.{sameName}
 use Rattle.notation.specs.Reads.{labelCount}
-use Rattle.notation.proofs.Laws.Reads.{labels-read}
 use Rattle.machine.specs.Limits.{maxDepth, maxOpens}
 use Rattle.machine.specs.Prefix.{prefixOf}
 use Rattle.machine.specs.Order.{Condition, gives, first, numberIn}
-use Rattle.machine.specs.Calls.{Lent, openCall, closeCall, Level, level, nameOf, State, namesOf, openNames, depth, nothingOpen, deepest, opensSpent, isInnermost, openOrder, closeOrder, refusal}
+use Rattle.machine.specs.Calls.{Lent, openCall, closeCall, Level, level, nameOf, State, namesOf, openNames, depth, isInnermost, openOrder, refusal}
 use Rattle.machine.specs.Automaton.{automatonSize, stateOf, allLabels}
-use Rattle.machine.specs.Shape.{automatonShaped, allBelow}
-use Rattle.machine.specs.Run.{runSize, runWith, runOf}
-use Rattle.machine.specs.RunCalls.{depthOf, nameLength, storedName, stateAt, rowShaped, runShaped, countersShaped, shaped, given, tooShort, rootShut, openConditions, closeConditions, openRefusal, closeRefusal}
+use Rattle.machine.specs.Shape.{allBelow}
+use Rattle.machine.specs.Run.{runSize, runOf}
+use Rattle.machine.specs.RunCalls.{depthOf, storedName, rowShaped, runShaped, countersShaped, shaped, given, tooShort, rootShut, openRefusal, closeRefusal}
 use Rattle.machine.specs.declared.counters.Counters.{Counters}
-use Rattle.machine.proofs.Laws.Basics.{cases, both-true}
+use Rattle.machine.proofs.Laws.Basics.{both-true}
 use Rattle.machine.proofs.Laws.Prefix.{current-prefix}
 use Rattle.machine.proofs.Laws.States.{state-within}
 use Rattle.machine.proofs.Laws.Sound.{Sound, sound-names}

@@ -1,5 +1,5 @@
 -- What a start leaves is the fresh run.
-use Prim.Native.Nat.{ℕ, zero, suc, _+_, _-_, _*_, _≤_}
+use Prim.Native.Nat.{ℕ, suc, _+_, _-_}
 use mathlib.Core.Path.{_≡_, refl, sym, _∙_, ap, ap₂}
 use mathlib.Core.Bool.{Bool, true, false, _&&_, cond, and-false}
 use mathlib.Core.List.{List, [], _∷_, _++_, append-assoc, append-nil, List·Memᴰ·not-nil}
@@ -9,17 +9,15 @@ use lib.Dec.{ltb, eqb}
 use lib.ListN.{length, drop, replicate, length-replicate, replicate-append-replicate}
 use lib.Seq.{sets}
 use Rattle.notation.specs.Limits.{maxName}
-use Rattle.notation.specs.Names.{Name}
 use Rattle.notation.specs.Sets.{Path, FolderSet}
 use Rattle.notation.specs.Form.{pathsOf}
 use Rattle.notation.specs.Layout.{le16, joined, padded}
 use Rattle.notation.specs.Activity.{active, seen}
 use Rattle.notation.proofs.Laws.Padded.{sets-front, padded-none}
 use Rattle.notation.proofs.Laws.Innermost.{active-none, seen-none}
-use Rattle.machine.specs.Limits.{maxDepth}
 use Rattle.machine.specs.Words.{document, begins}
 use Rattle.machine.specs.Prefix.{longestEnd, prefixOf}
-use Rattle.machine.specs.Automaton.{maskSize, stateIn, stateOf, startState, bit, bitBytes}
+use Rattle.machine.specs.Automaton.{maskSize, stateIn, stateOf, startState, bitBytes}
 use Rattle.machine.specs.Calls.{fresh}
 use Rattle.machine.specs.Tables.{startOf}
 use Rattle.machine.specs.Run.{matchesAt, rowsAt, nameIn, activeIn, seenIn, rowSize, rowAt, runSize, stepBit, matchBit, activeBits, seenBits, rowOf, rowsFrom, runWith, runOf}
@@ -27,7 +25,7 @@ use Rattle.machine.specs.Run as layout
 use Rattle.machine.specs.RunCalls.{startRun}
 use Rattle.machine.proofs.Laws.Basics.{cases}
 use Rattle.machine.proofs.Laws.Stores.{past, zeros}
-use Rattle.machine.proofs.Laws.RunBytes.{Short, matchBytes, rowBytes, zerosFrom, rows-fit, run-parts}
+use Rattle.machine.proofs.Laws.RunBytes.{Short, rowBytes, zerosFrom, run-parts}
 use Rattle.machine.proofs.Laws.MaskRows.{bits-same, bits-none}
 use Rattle.machine.proofs.Laws.Means.{Means}
 
