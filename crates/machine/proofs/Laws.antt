@@ -54,6 +54,7 @@ pub mod RunShape
 pub mod FolderPlaces
 pub mod Asking
 pub mod Following
+pub mod MadeShape
 pub mod Demand3
 pub mod Tabulate
 pub mod SetReads

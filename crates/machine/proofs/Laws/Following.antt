@@ -50,7 +50,7 @@ pub few-after : (s : FolderSet) (calls : List Call) (st : State) → Few s st []
 few-after s calls st f = always s (Few s) (open-few s) (close-few s) calls st [] f
 
 -- every refusal has a number
-number-none : (o : Option Refusal) → eqb (numberIn o) 0 ≡ isNone o
+pub number-none : (o : Option Refusal) → eqb (numberIn o) 0 ≡ isNone o
 number-none none = refl
 number-none (some shortBuffer) = refl
 number-none (some oversize) = refl
@@ -67,11 +67,11 @@ number-none (some crossed) = refl
 number-none (some noSuchPlace) = refl
 number-none (some strangeShape) = refl
 
-accepted-asked : (st : State) (e : Name) → accepted st (openCall asLeft e) ≡ isNone (refusal st (openCall asLeft e))
+pub accepted-asked : (st : State) (e : Name) → accepted st (openCall asLeft e) ≡ isNone (refusal st (openCall asLeft e))
 unfolding accepted
 accepted-asked st e = refl
 
-accepted-closed : (st : State) (e : Name) → accepted st (closeCall asLeft e) ≡ isNone (refusal st (closeCall asLeft e))
+pub accepted-closed : (st : State) (e : Name) → accepted st (closeCall asLeft e) ≡ isNone (refusal st (closeCall asLeft e))
 unfolding accepted
 accepted-closed st e = refl
 
