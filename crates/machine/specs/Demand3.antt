@@ -107,32 +107,36 @@ pub record SameAsked (a one other : List ℕ) : Type 0 where
   pub steps : (place : PathPlace) (k : ℕ) → askStep a one place k ≡ askStep a other place k
   pub prefix : askPrefix a one ≡ askPrefix a other
 
--- all of demand 3, of a set, its automaton, the buffer of the run, and the calls
-pub record Demand3 (s : FolderSet) (a buffer : List ℕ) (made : List Made) : Type 0 where
+-- all of demand 3: of a set, its automaton, the buffer of the run and the calls made; `calls` is what the machine is fed, `still` the names
+-- opened and not yet closed, and `t` run and counters as last left
+pub record Holds (s : FolderSet) (a buffer : List ℕ) (made : List Made) (calls : List Call) (still : List Name) (t : Left) : Type 0 where
   -- the start that makes the fresh run is accepted
   pub starts : startRefusal a buffer ≡ 0
   -- a call lent all as last left is refused as the machine refuses it, with the same number, and is else accepted
   pub openRefusals : (before later : List Made) (e : Name) → before ++ (openAsLeft e ∷ later) ≡ made
-      → let t = leftBy a buffer before in openRefusal a (t .bytes) (t .counters) e ≡ numberIn (refusal (run s (callsOf before)) (openCall asLeft e))
+      → let u = leftBy a buffer before in openRefusal a (u .bytes) (u .counters) e ≡ numberIn (refusal (run s (callsOf before)) (openCall asLeft e))
   pub closeRefusals : (before later : List Made) (e : Name) → before ++ (closeAsLeft e ∷ later) ≡ made
-      → let t = leftBy a buffer before in closeRefusal a (t .bytes) (t .counters) e ≡ numberIn (refusal (run s (callsOf before)) (closeCall asLeft e))
+      → let u = leftBy a buffer before in closeRefusal a (u .bytes) (u .counters) e ≡ numberIn (refusal (run s (callsOf before)) (closeCall asLeft e))
   -- "The marked paths are exactly those that fitted right after some accepted open"
-  pub paths : (place : PathPlace) → Answers (place .0 < length (pathsOf s)) (FittedAfterOpen s (callsOf made) (place .0)) (askPath a (leftBy a buffer made .bytes) place)
+  pub paths : (place : PathPlace) → Answers (place .0 < length (pathsOf s)) (FittedAfterOpen s calls (place .0)) (askPath a (t .bytes) place)
   -- "and the marked folders exactly those with a marked path"
-  pub folders : (number : FolderNumber) → Answers (HasFolder s (number .0)) (HasMatchedPath s a (leftBy a buffer made .bytes) (number .0)) (askFolder a (leftBy a buffer made .bytes) number)
+  pub folders : (number : FolderNumber) → Answers (HasFolder s (number .0)) (HasMatchedPath s a (t .bytes) (number .0)) (askFolder a (t .bytes) number)
   -- "Open names, standing steps and held word are exactly those that document 01 defines for the names opened and not yet closed"
-  pub names : (d : ℕ) → 1 ≤ d → d ≤ length (stillOpen s (callsOf made)) → (askName a (leftBy a buffer made .bytes) d ≡ nameAt (stillOpen s (callsOf made)) d) × (nameRefusal a (leftBy a buffer made .bytes) d ≡ 0)
-  pub noNames : (d : ℕ) → ((1 ≤ d) × (d ≤ length (stillOpen s (callsOf made))) → ⊥) → (askName a (leftBy a buffer made .bytes) d ≡ []) × (nameRefusal a (leftBy a buffer made .bytes) d ≡ 13)
-  pub steps : (place : PathPlace) (k : ℕ) → Answers (StepThere s (place .0) k) (Active (pathAt s (place .0)) k (stillOpen s (callsOf made))) (askStep a (leftBy a buffer made .bytes) place k)
-  pub prefix : PrefixAnswered s (stillOpen s (callsOf made)) (askPrefix a (leftBy a buffer made .bytes))
+  pub names : (d : ℕ) → 1 ≤ d → d ≤ length still → (askName a (t .bytes) d ≡ nameAt still d) × (nameRefusal a (t .bytes) d ≡ 0)
+  pub noNames : (d : ℕ) → ((1 ≤ d) × (d ≤ length still) → ⊥) → (askName a (t .bytes) d ≡ []) × (nameRefusal a (t .bytes) d ≡ 13)
+  pub steps : (place : PathPlace) (k : ℕ) → Answers (StepThere s (place .0) k) (Active (pathAt s (place .0)) k still) (askStep a (t .bytes) place k)
+  pub prefix : PrefixAnswered s still (askPrefix a (t .bytes))
   -- "Asked for these, the run gives the same answers as a fresh run on the same set that was given only the opens of those names, in order"
-  pub replayed : (other : List ℕ) → SameAsked a (leftBy a buffer made .bytes) (leftBy a other (map openAsLeft (stillOpen s (callsOf made))) .bytes)
-  -- "Accepted opens = accepted closes + elements open": the counters', the machine's, and how many such calls the list has
-  pub balance : leftBy a buffer made .counters .opens ≡ leftBy a buffer made .counters .closes + length (stillOpen s (callsOf made))
-  pub opens : leftBy a buffer made .counters .opens ≡ run s (callsOf made) .opens
-  pub closes : leftBy a buffer made .counters .closes ≡ run s (callsOf made) .closes
-  pub opensTold : leftBy a buffer made .counters .opens ≡ opensIn (acceptedCalls s (callsOf made))
-  pub closesTold : leftBy a buffer made .counters .closes ≡ closesIn (acceptedCalls s (callsOf made))
+  pub replayed : (other : List ℕ) → SameAsked a (t .bytes) (leftBy a other (map openAsLeft still) .bytes)
+  -- "Accepted opens = accepted closes + elements open": the counters', which are the machine's and how many such calls the list has
+  pub balance : t .counters .opens ≡ t .counters .closes + length still
+  pub opens : t .counters .opens ≡ run s calls .opens
+  pub closes : t .counters .closes ≡ run s calls .closes
+  pub opensTold : t .counters .opens ≡ opensIn (acceptedCalls s calls)
+  pub closesTold : t .counters .closes ≡ closesIn (acceptedCalls s calls)
   -- "Last, the fall-backs counted equal the shared machine's and are at most the depths of all childless elements added up"
-  pub moves : leftBy a buffer made .counters .moves ≡ run s (callsOf made) .moves
-  pub movesMost : leftBy a buffer made .counters .moves ≤ childlessDepths (elementsOf (acceptedCalls s (callsOf made)))
+  pub moves : t .counters .moves ≡ run s calls .moves
+  pub movesMost : t .counters .moves ≤ childlessDepths (elementsOf (acceptedCalls s calls))
+
+abbrev pub Demand3 : FolderSet → List ℕ → List ℕ → List Made → Type 0
+Demand3 s a buffer made = Holds s a buffer made (callsOf made) (stillOpen s (callsOf made)) (leftBy a buffer made)
