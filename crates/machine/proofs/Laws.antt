@@ -50,7 +50,7 @@ pub mod OpenBits
 pub mod RowStores
 pub mod Opening
 pub mod Starting
-pub mod RunShape
+pub mod Passing
 pub mod FolderPlaces
 pub mod Asking
 pub mod Following

@@ -41,7 +41,7 @@ use Rattle.machine.proofs.Laws.Moves.{Few}
 use Rattle.machine.proofs.Laws.PathSteps.{bit-at, match-at}
 use Rattle.machine.proofs.Laws.RunBytes.{matched-read, active-at, state-at, name-at}
 use Rattle.machine.proofs.Laws.Means.{Means}
-use Rattle.machine.proofs.Laws.RunShape.{names-length, names-deep, names-short, stored-depth, run-shaped, long-enough}
+use Rattle.machine.proofs.Laws.Passing.{names-length, names-deep, names-short, stored-depth, run-shaped, long-enough}
 use Rattle.machine.proofs.Laws.FolderPlaces.{hasNumber, Placed, missing, at, placed}
 
 -- the answer where it is there, else 13

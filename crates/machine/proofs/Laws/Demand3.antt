@@ -31,7 +31,7 @@ use Rattle.machine.proofs.Laws.Moves.{Few}
 use Rattle.machine.proofs.Laws.Whole.{whole}
 use Rattle.machine.proofs.Laws.Folders.{folder-matched}
 use Rattle.machine.proofs.Laws.Means.{Means, means}
-use Rattle.machine.proofs.Laws.RunShape.{open-refused, close-refused}
+use Rattle.machine.proofs.Laws.Passing.{open-refused, close-refused}
 use Rattle.machine.proofs.Laws.FolderPlaces.{hasNumber, Placed, missing, at, placed}
 use Rattle.machine.proofs.Laws.Asking.{asked, within-out, ask-path, ask-folder, ask-step, ask-prefix, ask-name-refused, ask-name}
 use Rattle.machine.proofs.Laws.Following.{leftOf, left-by, few-run}

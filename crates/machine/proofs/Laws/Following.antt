@@ -35,7 +35,7 @@ use Rattle.machine.proofs.Laws.RunBytes.{Short}
 use Rattle.machine.proofs.Laws.Means.{Means}
 use Rattle.machine.proofs.Laws.Opening.{short-close, open-walk, open-run, close-run}
 use Rattle.machine.proofs.Laws.Starting.{start-run}
-use Rattle.machine.proofs.Laws.RunShape.{countersOf, names-length, names-deep, names-short, open-refused, close-refused}
+use Rattle.machine.proofs.Laws.Passing.{countersOf, names-length, names-deep, names-short, open-refused, close-refused}
 
 -- the run's bytes and the counters of a state; `rest` are the bytes behind the run
 abbrev pub leftOf : FolderSet → List ℕ → State → Left

@@ -20,7 +20,7 @@ use Rattle.machine.specs.RunCalls.{runShaped, countersShaped, shaped, op
 use Rattle.machine.specs.Demand3.{Made, callsOf, leftBy}
 use Rattle.machine.proofs.Laws.Moves.{Few}
 use Rattle.machine.proofs.Laws.Means.{Means, means}
-use Rattle.machine.proofs.Laws.RunShape.{countersOf, run-shaped, counters-shaped, all-shaped, open-refused, close-refused}
+use Rattle.machine.proofs.Laws.Passing.{countersOf, run-shaped, counters-shaped, all-shaped, open-refused, close-refused}
 use Rattle.machine.proofs.Laws.Following.{number-none, accepted-asked, accepted-closed, left-by, few-run}
 
 module _ (text : List ℕ) (s : FolderSet) (acc : Accepted text s) (rest buffer : List ℕ) (made : List Made) where
