@@ -16,3 +16,4 @@ pub mod Chain
 pub mod Run
 pub mod RunCalls
 pub mod Asking
+pub mod Build
