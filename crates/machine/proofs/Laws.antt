@@ -17,3 +17,6 @@ pub mod Alike
 pub mod Adding
 pub mod Whole
 pub mod Examples
+pub mod Stores
+pub mod Assembled
+pub mod Find

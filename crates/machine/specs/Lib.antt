@@ -17,3 +17,4 @@ pub mod Run
 pub mod RunCalls
 pub mod Asking
 pub mod Build
+pub mod Chains
