@@ -3,6 +3,12 @@ pub mod Words
 pub mod Prefix
 pub mod Walk
 pub mod Labels
+pub mod Bits
+pub mod Finding
+pub mod States
+pub mod Goto
+pub mod Linked
+pub mod Walked
 pub mod Order
 pub mod Calls
 pub mod Steps
