@@ -23,6 +23,7 @@ pub mod Alike
 pub mod Adding
 pub mod Whole
 pub mod Examples
+pub mod Fuel
 pub mod Stores
 pub mod Assembled
 pub mod Find
