@@ -1,0 +1,1 @@
+// Reports: the document tree and XPath 1.0 (specs).
