@@ -1,0 +1,3 @@
+pub mod Places
+pub mod Chain
+pub mod Select
