@@ -6,3 +6,4 @@ pub mod Print
 pub mod Form
 pub mod Fit
 pub mod Activity
+pub mod FitTable
