@@ -9,11 +9,8 @@ use borrow.Author.Tests.{le-leb, lt-leb, leb-true, leb-false}
 use lib.ListN.{length}
 use Rattle.notation.specs.Names.{Name}
 use Rattle.notation.specs.Sets.{Path, child, axisOf, testOf}
+use Rattle.notation.proofs.Laws.Innermost.{cases}
 use Rattle.notation.specs.Fit.{Takes, stepAt, nameAt, Active, Fits}
-
-pub cases {ℓ} : {X : Type ℓ} (b : Bool) → (b ≡ true → X) → (b ≡ false → X) → X
-cases true yes' no' = yes' refl
-cases false yes' no' = no' refl
 
 -- from the position of step i to that of the next
 pub record Link (p : Path) (names : List Name) (i a b : ℕ) : Type 0 where

@@ -36,6 +36,11 @@ module _ (d : Document) where
   unfolding kindAt childrenAt
   parent x i j h = parent-in (childrenAt d x) i j h
 
+  -- the document node is no element
+  pub no-element : IsElement (kindAt d []) → ⊥
+  unfolding kindAt
+  no-element (n, e) = let clash : _≡_ {A = ℕ} 0 1 = cc in omega arith
+
   pub parent-node : (x : Place) (i : ℕ) → isNode (kindAt d (i ∷ x)) ≡ true → isNode (kindAt d x) ≡ true
   unfolding kindAt
   parent-node [] i h = refl

@@ -13,7 +13,7 @@ use Rattle.notation.specs.Fit.{Takes, stepAt, nameAt, Fits}
 use Rattle.filing.specs.Tree.{Document, Place, Kind, elementNode, documentNode, kindAt, isNode}
 use Rattle.filing.specs.XPath.{LocationPath, start, IsElement, Passes, nodeTest, selects, withStep, spelled, selected}
 use Rattle.filing.specs.NameList.{nameOf, namesTo}
-use Rattle.filing.proofs.Laws.Places.{parent-node, above-or-self, self-or-above-to, self-or-above-from, names-length, names-at}
+use Rattle.filing.proofs.Laws.Places.{no-element, parent-node, above-or-self, self-or-above-to, self-or-above-from, names-length, names-at}
 use Rattle.filing.proofs.Laws.Chain.{Link, Chain, nothing-yet, one-more, one-less, fits-chain, chain-fits}
 
 -- a node passes a step's test exactly when it is an element whose name the test takes
@@ -130,10 +130,6 @@ module _ (d : Document) where
         takes = rw (names-at d x j (pred m) (omega (arith, link .rises)), kind) at (link .takes);
       })
 
-  no-element : IsElement (kindAt d []) → ⊥
-  unfolding kindAt
-  no-element (n, e) = let clash : _≡_ {A = ℕ} 0 1 = cc in omega arith
-
   fits-if : (p : Path) (x : Place) → 1 ≤ length p → selected d p x → Fits p (namesTo d x)
   fits-if p x h sel =
       let chain : Chain p (namesTo d x) (length p) (length x) = to-chain p x (length p) 0 (length x) (omega arith) (rw all-steps at sel) in
@@ -141,7 +137,7 @@ module _ (d : Document) where
 
   selected-to : (p : Path) (x : Place) → IsElement (kindAt d x) → selected d p x → Fits p (namesTo d x)
   unfolding selects spelled
-  selected-to [] x is sel = absurd (no-element (rw sel at is))
+  selected-to [] x is sel = absurd (no-element d (rw sel at is))
   selected-to (s ∷ p) x is sel = fits-if (s ∷ p) x (omega arith) sel
 
   selected-from : (p : Path) (x : Place) → IsElement (kindAt d x) → Fits p (namesTo d x) → selected d p x
