@@ -2,3 +2,4 @@ pub mod Places
 pub mod Chain
 pub mod Select
 pub mod Listed
+pub mod SelectTable

@@ -1,3 +1,4 @@
 pub mod Tree
 pub mod XPath
 pub mod NameList
+pub mod SelectTable
