@@ -2,3 +2,5 @@ pub mod Tree
 pub mod XPath
 pub mod NameList
 pub mod SelectTable
+pub mod Tokens
+pub mod Reading
