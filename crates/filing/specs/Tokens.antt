@@ -99,7 +99,7 @@ occurs w (b ∷ l) = begins w (b ∷ l) || occurs w l
 -- the last of the bytes is this one
 unfoldable pub endsIn : ℕ → List ℕ → Bool
 endsIn e [] = false
-endsIn e (b ∷ []) = eqb b e
+endsIn e (b ∷ []) = eqb e b
 endsIn e (b ∷ c ∷ l) = endsIn e (c ∷ l)
 
 -- amp, lt, gt, quot, apos
