@@ -6,3 +6,5 @@ pub mod SelectTable
 pub mod Bytes
 pub mod ReadBack
 pub mod OneRun
+pub mod Balance
+pub mod Passed

@@ -4,3 +4,4 @@ pub mod NameList
 pub mod SelectTable
 pub mod Tokens
 pub mod Reading
+pub mod Document

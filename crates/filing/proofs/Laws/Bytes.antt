@@ -20,6 +20,9 @@ left a b h = and-eq-true-iff a b .0 h .0
 pub right : (a b : Bool) → (a && b) ≡ true → b ≡ true
 right a b h = and-eq-true-iff a b .0 h .1
 
+pub join : {a b : Bool} → a ≡ true → b ≡ true → (a && b) ≡ true
+join {a} {b} h k = and-eq-true-iff a b .1 (h, k)
+
 pub every-head : (ok : ℕ → Bool) (b : ℕ) (l : List ℕ) → every ok (b ∷ l) ≡ true → ok b ≡ true
 unfolding every
 every-head ok b l h = left _ _ h
