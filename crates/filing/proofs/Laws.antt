@@ -8,3 +8,4 @@ pub mod ReadBack
 pub mod OneRun
 pub mod Balance
 pub mod Passed
+pub mod ReadSound

@@ -123,7 +123,7 @@ formed-parts s n before after q v h =
 abbrev fromName : List ℕ → List ℕ → List ℕ → Quote → List Part → List ℕ → List ℕ
 fromName n before after q v r = n ++ (before ++ (61 ∷ (after ++ (quoteByte q ∷ (printParts v ++ (quoteByte q ∷ r))))))
 
-spread : (s n before after : List ℕ) (q : Quote) (v : List Part) (r : List ℕ)
+pub spread : (s n before after : List ℕ) (q : Quote) (v : List Part) (r : List ℕ)
     → printAttribute (attribute s n before after q v) ++ r ≡ s ++ fromName n before after q v r
 unfolding printAttribute
 spread s n before after q v r = simp append-assoc
