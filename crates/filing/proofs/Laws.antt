@@ -9,3 +9,5 @@ pub mod OneRun
 pub mod Balance
 pub mod Passed
 pub mod ReadSound
+pub mod ByteTests
+pub mod Steps

@@ -1,1 +1,3 @@
-// Reports: the document tree and XPath 1.0 (specs).
+// Reports: their bytes, tokens and tags. The document tree and XPath 1.0 stand in specs.
+
+pub mod scan;
