@@ -2,12 +2,12 @@
 -- and that what was read prints to what stood there.
 use Prim.Native.Nat.{ℕ, zero, suc}
 use mathlib.Core.Bool.{Bool, true, false, not, _&&_, _||_, cond}
-use mathlib.Core.List.{List, [], _∷_}
+use mathlib.Core.List.{List, [], _∷_, _++_}
 use lib.Dec.{eqb}
 use lib.ListN.{length, drop}
 use Rattle.notation.specs.Names.{Name, beginsName, inName}
 use Rattle.notation.specs.Form.{nonEmpty}
-use Rattle.filing.specs.Tokens.{blank, listed, Part, plain, reference, Quote, double, single, quoteByte, Attribute, attribute, Token, declaration, comment, startTag, emptyTag, endTag, text, declarationBytes, printParts, begins, occurs, isEntity, inText, inValue, isDeclaration}
+use Rattle.filing.specs.Tokens.{blank, listed, Part, plain, reference, Quote, double, single, quoteByte, Attribute, attribute, Token, declaration, comment, startTag, emptyTag, endTag, text, declarationBytes, printParts, begins, occurs, amp, lt, gt, quot, apos, inText, inValue, isDeclaration}
 
 -- nothing that can be read stands here; or what was read, and the bytes after it
 pub data Read (A : Type 0) : Type 0 where
@@ -46,18 +46,21 @@ abbrev pub readQuote : List ℕ → Read Quote
 readQuote [] = fail
 readQuote (b ∷ l) = cond (eqb b 34) (got double l) (when (eqb b 39) (got single l))
 
--- a reference after its `&`, and then more parts
-abbrev pub readReference : (List ℕ → Read (List Part)) → List ℕ → Read (List Part)
-readReference more l =
-    thenRead (readName l)
-    (λ n r. thenRead (readWord (59 ∷ []) r) (λ w r. when (isEntity n) (thenRead (more r) (λ ps r. got (reference n ∷ ps) r))))
+-- one of the five references, after its `&`
+unfoldable pub readReference : List ℕ → Read Name
+readReference l =
+    cond (begins (amp ++ (59 ∷ [])) l) (got amp (drop 4 l))
+    (cond (begins (lt ++ (59 ∷ [])) l) (got lt (drop 3 l))
+    (cond (begins (gt ++ (59 ∷ [])) l) (got gt (drop 3 l))
+    (cond (begins (quot ++ (59 ∷ [])) l) (got quot (drop 5 l))
+    (cond (begins (apos ++ (59 ∷ [])) l) (got apos (drop 5 l)) fail))))
 
 -- as many parts as there are, of the bytes that pass the test; `steps` bounds their count
 unfoldable pub readParts : ℕ → (ℕ → Bool) → List ℕ → Read (List Part)
 readParts zero ok l = got [] l
 readParts (suc steps) ok [] = got [] []
 readParts (suc steps) ok (b ∷ l) =
-    cond (eqb b 38) (readReference (λ r. readParts steps ok r) l)
+    cond (eqb b 38) (thenRead (readReference l) (λ n r. thenRead (readParts steps ok r) (λ ps r₂. got (reference n ∷ ps) r₂)))
     (cond (ok b) (thenRead (readParts steps ok l) (λ ps r. got (plain b ∷ ps) r)) (got [] (b ∷ l)))
 
 unfoldable pub readAttribute : List ℕ → Read Attribute
@@ -65,7 +68,7 @@ readAttribute l =
     thenRead (readName (back blank l)) (λ n r.
     thenRead (readWord (61 ∷ []) (back blank r)) (λ w r₂.
     thenRead (readQuote (back blank r₂)) (λ q r₃.
-    thenRead (readParts (length r₃) (inValue q) r₃) (λ v r₄.
+    thenRead (readParts (length r₃) (inValue (quoteByte q)) r₃) (λ v r₄.
     thenRead (readWord (quoteByte q ∷ []) r₄) (λ w r₅.
     got (attribute (front blank l) n (front blank r) (front blank r₂) q v) r₅)))))
 

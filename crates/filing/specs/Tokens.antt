@@ -102,18 +102,31 @@ endsIn e [] = false
 endsIn e (b ∷ []) = eqb e b
 endsIn e (b ∷ c ∷ l) = endsIn e (c ∷ l)
 
--- amp, lt, gt, quot, apos
+-- the names of references
+abbrev pub amp : Name
+amp = 97 ∷ 109 ∷ 112 ∷ []
+
+abbrev pub lt : Name
+lt = 108 ∷ 116 ∷ []
+
+abbrev pub gt : Name
+gt = 103 ∷ 116 ∷ []
+
+abbrev pub quot : Name
+quot = 113 ∷ 117 ∷ 111 ∷ 116 ∷ []
+
+abbrev pub apos : Name
+apos = 97 ∷ 112 ∷ 111 ∷ 115 ∷ []
+
 unfoldable pub isEntity : Name → Bool
-isEntity n =
-    sameName n (97 ∷ 109 ∷ 112 ∷ []) || sameName n (108 ∷ 116 ∷ []) || sameName n (103 ∷ 116 ∷ [])
-    || sameName n (113 ∷ 117 ∷ 111 ∷ 116 ∷ []) || sameName n (97 ∷ 112 ∷ 111 ∷ 115 ∷ [])
+isEntity n = sameName n amp || sameName n lt || sameName n gt || sameName n quot || sameName n apos
 
 -- a byte that may stand for itself in text: listed, no `<` and no `&`; in a value, not its quote either
 unfoldable pub inText : ℕ → Bool
 inText b = listed b && (not (eqb b 60) && not (eqb b 38))
 
-unfoldable pub inValue : Quote → ℕ → Bool
-inValue q b = inText b && not (eqb b (quoteByte q))
+unfoldable pub inValue : ℕ → ℕ → Bool
+inValue quote b = inText b && not (eqb b quote)
 
 abbrev pub formedPart : (ℕ → Bool) → Part → Bool
 formedPart ok (plain b) = ok b
@@ -121,7 +134,7 @@ formedPart ok (reference n) = isEntity n
 
 unfoldable pub formedAttribute : Attribute → Bool
 formedAttribute (attribute s n before after q v) =
-    (nonEmpty s && every blank s) && (nameForm n && (every blank before && (every blank after && every (formedPart (inValue q)) v)))
+    (nonEmpty s && every blank s) && (nameForm n && (every blank before && (every blank after && every (formedPart (inValue (quoteByte q))) v)))
 
 unfoldable pub formedTag : Name → List Attribute → List ℕ → Bool
 formedTag n l s = nameForm n && (every formedAttribute l && every blank s)

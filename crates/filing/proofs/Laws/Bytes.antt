@@ -11,7 +11,7 @@ use Rattle.notation.specs.Form.{every, nonEmpty}
 use Rattle.notation.specs.Activity.{sameName}
 use Rattle.notation.proofs.Laws.Innermost.{cases}
 use Rattle.notation.proofs.Laws.Fit.{sameName-is}
-use Rattle.filing.specs.Tokens.{blank, listed, isEntity, inText, inValue, Quote, double, single, quoteByte}
+use Rattle.filing.specs.Tokens.{blank, listed, amp, lt, gt, quot, apos, isEntity, inText, inValue}
 use Rattle.filing.specs.Reading.{front, back}
 
 pub left : (a b : Bool) → (a && b) ≡ true → a ≡ true
@@ -64,23 +64,20 @@ pub name-no-blank : (b : ℕ) → beginsName b ≡ true → blank b ≡ false
 unfolding beginsName letter
 name-no-blank b h = cases (blank b) (λ t. absurd (true≢false (sym h ∙ blank-fails beginsName refl refl refl refl b t))) (λ f. f)
 
--- the names of references have name form
-pub entity-name : (n : Name) → isEntity n ≡ true → nameForm n ≡ true
-unfolding isEntity nameForm allInName inName beginsName letter digit
-entity-name n h =
+-- the names of references are five
+pub entity-cases : {X : Type 0} (n : Name) → isEntity n ≡ true → (n ≡ amp → X) → (n ≡ lt → X) → (n ≡ gt → X) → (n ≡ quot → X) → (n ≡ apos → X) → X
+unfolding isEntity
+entity-cases n h f₁ f₂ f₃ f₄ f₅ =
     ⊎-elim
     (λ h₄. ⊎-elim
     (λ h₃. ⊎-elim
-    (λ h₂. ⊎-elim (λ h₁. is (97 ∷ 109 ∷ 112 ∷ []) h₁ refl) (λ h₁. is (108 ∷ 116 ∷ []) h₁ refl) (either _ _ h₂))
-    (λ h₂. is (103 ∷ 116 ∷ []) h₂ refl)
+    (λ h₂. ⊎-elim (λ h₁. f₁ (sameName-is n amp .0 h₁)) (λ h₁. f₂ (sameName-is n lt .0 h₁)) (either _ _ h₂))
+    (λ h₂. f₃ (sameName-is n gt .0 h₂))
     (either _ _ h₃))
-    (λ h₃. is (113 ∷ 117 ∷ 111 ∷ 116 ∷ []) h₃ refl)
+    (λ h₃. f₄ (sameName-is n quot .0 h₃))
     (either _ _ h₄))
-    (λ h₄. is (97 ∷ 112 ∷ 111 ∷ 115 ∷ []) h₄ refl)
+    (λ h₄. f₅ (sameName-is n apos .0 h₄))
     (either _ _ h)
-  where
-    is : (w : Name) → sameName n w ≡ true → nameForm w ≡ true → nameForm n ≡ true
-    is w e f = ap nameForm (sameName-is n w .0 e) ∙ f
 
 pub text-no-amp : (b : ℕ) → inText b ≡ true → eqb b 38 ≡ false
 unfolding inText listed
@@ -90,7 +87,7 @@ pub text-no-less : (b : ℕ) → inText b ≡ true → eqb b 60 ≡ false
 unfolding inText listed
 text-no-less b h = differs inText b 60 h refl
 
-pub value-text : (q : Quote) (b : ℕ) → inValue q b ≡ true → inText b ≡ true
+pub value-text : (q b : ℕ) → inValue q b ≡ true → inText b ≡ true
 unfolding inValue
 value-text q b h = left _ _ h
 

@@ -13,7 +13,7 @@ use Rattle.notation.specs.Form.{every, nonEmpty}
 use Rattle.notation.proofs.Laws.Innermost.{cases}
 use Rattle.filing.specs.Tokens.{blank, listed, isEntity, inText, inValue, Part, plain, reference, Quote, double, single, quoteByte, Attribute, attribute, Token, declaration, comment, startTag, emptyTag, endTag, text, declarationBytes, printPart, printParts, printAttribute, printAttributes, printToken, printTokens, begins, occurs, endsIn, formedPart, formedAttribute, formedTag, formedComment, formedText, formedToken, isText, isDeclaration, textFirst, textsApart, declarationFirst, formedRun}
 use Rattle.filing.specs.Reading.{Read, fail, got, thenRead, when, front, back, readWord, readName, readQuote, readReference, readParts, readAttribute, nameAhead, attributeAhead, readAttributes, readTagEnd, readTag, readEndTag, readContents, readComment, readMarkup, textEnds, readText, readToken, readTokens, readReport}
-use Rattle.filing.proofs.Laws.Bytes.{left, right, neither, every-head, every-rest, either, differs, blank-no-name, name-no-blank, entity-name, text-no-amp, text-no-less, value-text, all-in-name, stops, front-stop, back-stop, front-of, back-of}
+use Rattle.filing.proofs.Laws.Bytes.{left, right, neither, every-head, every-rest, either, differs, blank-no-name, name-no-blank, entity-cases, text-no-amp, text-no-less, value-text, all-in-name, stops, front-stop, back-stop, front-of, back-of}
 
 name-back : (n r : List ℕ) → nameForm n ≡ true → stops inName r ≡ true → readName (n ++ r) ≡ got n r
 unfolding nameForm readName
@@ -28,10 +28,14 @@ unfolding readWord
 word-back [] r = refl
 word-back (b ∷ w) r = rw (eq-eqb b b refl, word-back w r)
 
--- no name goes on at `;`, `=`, `>`, `/`
-semicolon : not (inName 59) ≡ true
-unfolding inName beginsName letter digit
-semicolon = refl
+reference-back : (n r : List ℕ) → isEntity n ≡ true → readReference (n ++ (59 ∷ r)) ≡ got n r
+unfolding readReference begins
+reference-back n r h = entity-cases n h (λ e. is e refl) (λ e. is e refl) (λ e. is e refl) (λ e. is e refl) (λ e. is e refl)
+  where
+    is : {w : Name} → n ≡ w → readReference (w ++ (59 ∷ r)) ≡ got w r → readReference (n ++ (59 ∷ r)) ≡ got n r
+    is e h = rw e h
+
+-- no name goes on at `=`, and it is no blank
 
 equals : (not (inName 61) ≡ true) × (not (blank 61) ≡ true)
 unfolding inName beginsName letter digit blank
@@ -66,7 +70,7 @@ parts-length (p ∷ ps) = omega (arith, length-append (printPart p) (printParts 
 module _ (ok : ℕ → Bool) (no-amp : (b : ℕ) → ok b ≡ true → eqb b 38 ≡ false) where
   parts-back : (steps : ℕ) (ps : List Part) (r : List ℕ) → every (formedPart ok) ps ≡ true → partsStop ok r ≡ true → length ps ≤ steps
       → readParts steps ok (printParts ps ++ r) ≡ got ps r
-  unfolding readParts printParts every printPart readWord
+  unfolding readParts printParts every printPart
   parts-back zero [] r h s l = refl
   parts-back zero (p ∷ ps) r h s l = absurd (omega arith)
   parts-back (suc steps) [] [] h s l = refl
@@ -81,10 +85,14 @@ module _ (ok : ℕ → Bool) (no-amp : (b : ℕ) → ok b ≡ true → eqb b 38 
   parts-back (suc steps) (reference n ∷ ps) r h s l =
       let entity : isEntity n ≡ true = left _ _ h in
       let rest : every (formedPart ok) ps ≡ true = right (isEntity n) _ h in
-      let name = name-back n (59 ∷ (printParts ps ++ r)) (entity-name n entity) semicolon in
-      rw (append-assoc (n ++ (59 ∷ [])) (printParts ps) r, append-assoc n (59 ∷ []) (printParts ps ++ r), name, entity, parts-back steps ps r rest s (omega arith))
+      rw (
+        append-assoc (n ++ (59 ∷ [])) (printParts ps) r,
+        append-assoc n (59 ∷ []) (printParts ps ++ r),
+        reference-back n (printParts ps ++ r) entity,
+        parts-back steps ps r rest s (omega arith),
+      )
 
-quote-stops : (q : Quote) (r : List ℕ) → (partsStop (inValue q) (quoteByte q ∷ r) ≡ true) × (stops blank (quoteByte q ∷ r) ≡ true)
+quote-stops : (q : Quote) (r : List ℕ) → (partsStop (inValue (quoteByte q)) (quoteByte q ∷ r) ≡ true) × (stops blank (quoteByte q ∷ r) ≡ true)
 unfolding inValue inText listed blank
 quote-stops double r = (refl, refl)
 quote-stops single r = (refl, refl)
@@ -100,7 +108,7 @@ record Formed (s n before after : List ℕ) (q : Quote) (v : List Part) : Type 0
   name : nameForm n ≡ true
   blanks₂ : every blank before ≡ true
   blanks₃ : every blank after ≡ true
-  value : every (formedPart (inValue q)) v ≡ true
+  value : every (formedPart (inValue (quoteByte q))) v ≡ true
 
 formed-parts : (s n before after : List ℕ) (q : Quote) (v : List Part) → formedAttribute (attribute s n before after q v) ≡ true
     → Formed s n before after q v
@@ -150,7 +158,7 @@ attribute-back (attribute s n before after q v) r h =
       front-of blank after t₃ (f .blanks₃) stop₃,
       back-of blank after t₃ (f .blanks₃) stop₃,
       quote-back q t₄,
-      parts-back (inValue q) (λ b k. text-no-amp b (value-text q b k)) (length t₄) v t₅ (f .value) (quote-stops q r .0)
+      parts-back (inValue (quoteByte q)) (λ b k. text-no-amp b (value-text (quoteByte q) b k)) (length t₄) v t₅ (f .value) (quote-stops q r .0)
           (omega (arith, parts-length v, length-append (printParts v) t₅)),
       eq-eqb (quoteByte q) (quoteByte q) refl,
     )

@@ -6,11 +6,12 @@ use mathlib.Core.Bool.{Bool, true, false, not, _&&_, _||_, true≢false, false�
 use mathlib.Core.List.{List, [], _∷_, _++_, append-assoc, tail-eq-of-cons-eq}
 use lib.Dec.{eqb}
 use borrow.Author.Tests.{eqb-true, eq-eqb, not-true}
-use lib.ListN.{length}
+use lib.ListN.{length, drop}
 use Rattle.notation.specs.Names.{Name, letter, digit, beginsName, inName, allInName, nameForm}
 use Rattle.notation.specs.Form.{every, nonEmpty}
+use Rattle.notation.specs.Activity.{sameName}
 use Rattle.notation.proofs.Laws.Innermost.{cases}
-use Rattle.filing.specs.Tokens.{blank, listed, isEntity, inText, inValue, Part, plain, reference, Quote, double, single, quoteByte, Attribute, attribute, Token, declaration, comment, startTag, emptyTag, endTag, text, declarationBytes, printPart, printParts, printAttribute, printAttributes, printToken, printTokens, begins, occurs, endsIn, formedPart, formedAttribute, formedTag, formedComment, formedText, formedToken, isText, isDeclaration, textFirst, textsApart, declarationFirst, formedRun, RunOfTokens}
+use Rattle.filing.specs.Tokens.{blank, listed, amp, lt, gt, quot, apos, isEntity, inText, inValue, Part, plain, reference, Quote, double, single, quoteByte, Attribute, attribute, Token, declaration, comment, startTag, emptyTag, endTag, text, declarationBytes, printPart, printParts, printAttribute, printAttributes, printToken, printTokens, begins, occurs, endsIn, formedPart, formedAttribute, formedTag, formedComment, formedText, formedToken, isText, isDeclaration, textFirst, textsApart, declarationFirst, formedRun, RunOfTokens}
 use Rattle.filing.specs.Reading.{Read, fail, got, thenRead, when, front, back, readWord, readName, readQuote, readReference, readParts, readAttribute, nameAhead, attributeAhead, readAttributes, readTagEnd, readTag, readEndTag, readContents, readComment, readMarkup, textEnds, readText, readToken, readTokens, readReport}
 use Rattle.filing.proofs.Laws.Bytes.{left, right, join, neither, all-in-name, text-no-less}
 use Rattle.filing.proofs.Laws.ReadBack.{spread}
@@ -72,11 +73,27 @@ quote-sound (b ∷ l) =
     cond-holds (eqb b 34) (λ t. gotten (ap (λ (c : ℕ). c ∷ l) (sym (eqb-true b 34 t))))
     (λ f. when-holds (eqb b 39) (λ t. gotten (ap (λ (c : ℕ). c ∷ l) (sym (eqb-true b 39 t)))))
 
-reference-prints : (b : ℕ) (l n s s₂ r : List ℕ) (ps : List Part) → b ≡ 38 → n ++ s ≡ l → (59 ∷ []) ++ s₂ ≡ s → printParts ps ++ r ≡ s₂
+begins-drop : (w l : List ℕ) → begins w l ≡ true → w ++ drop (length w) l ≡ l
+unfolding begins
+begins-drop [] l h = refl
+begins-drop (b ∷ w) [] h = absurd (false≢true h)
+begins-drop (b ∷ w) (c ∷ l) h =
+    rw (eqb-true b c (left _ _ h)) (ap (_∷_ c) (begins-drop w l (right (eqb b c) _ h)))
+
+reference-sound : (l : List ℕ) → Holds (λ n r. (isEntity n ≡ true) × (n ++ (59 ∷ r) ≡ l)) (readReference l)
+unfolding readReference isEntity sameName
+reference-sound l =
+    cond-holds (begins (amp ++ (59 ∷ [])) l) (λ t. gotten (refl, begins-drop (amp ++ (59 ∷ [])) l t)) (λ f.
+    cond-holds (begins (lt ++ (59 ∷ [])) l) (λ t. gotten (refl, begins-drop (lt ++ (59 ∷ [])) l t)) (λ f.
+    cond-holds (begins (gt ++ (59 ∷ [])) l) (λ t. gotten (refl, begins-drop (gt ++ (59 ∷ [])) l t)) (λ f.
+    cond-holds (begins (quot ++ (59 ∷ [])) l) (λ t. gotten (refl, begins-drop (quot ++ (59 ∷ [])) l t)) (λ f.
+    cond-holds (begins (apos ++ (59 ∷ [])) l) (λ t. gotten (refl, begins-drop (apos ++ (59 ∷ [])) l t)) (λ f. failed)))))
+
+reference-prints : (b : ℕ) (l n s r : List ℕ) (ps : List Part) → b ≡ 38 → n ++ (59 ∷ s) ≡ l → printParts ps ++ r ≡ s
     → printParts (reference n ∷ ps) ++ r ≡ b ∷ l
 unfolding printParts printPart
-reference-prints b l n s s₂ r ps amp name semicolon more =
-    rw (append-assoc (n ++ (59 ∷ [])) (printParts ps) r, append-assoc n (59 ∷ []) (printParts ps ++ r), more, semicolon, name, amp)
+reference-prints b l n s r ps ampersand name more =
+    rw (append-assoc (n ++ (59 ∷ [])) (printParts ps) r, append-assoc n (59 ∷ []) (printParts ps ++ r), more, name, ampersand)
 
 parts-sound : (steps : ℕ) (ok : ℕ → Bool) (l : List ℕ)
     → Holds (λ ps r. (every (formedPart ok) ps ≡ true) × (printParts ps ++ r ≡ l)) (readParts steps ok l)
@@ -86,11 +103,9 @@ parts-sound (suc steps) ok [] = gotten (refl, refl)
 parts-sound (suc steps) ok (b ∷ l) =
     cond-holds (eqb b 38)
     (λ t.
-    then-holds (name-sound l) (λ n s name.
-    then-holds (word-sound (59 ∷ []) s) (λ u s₂ semicolon.
-    when-holds (isEntity n) (λ entity.
-    then-holds (parts-sound steps ok s₂) (λ ps r more.
-    gotten (join entity (more .0), reference-prints b l n s s₂ r ps (eqb-true b 38 t) (name .1) semicolon (more .1)))))))
+    then-holds (reference-sound l) (λ n s name.
+    then-holds (parts-sound steps ok s) (λ ps r more.
+    gotten (join (name .0) (more .0), reference-prints b l n s r ps (eqb-true b 38 t) (name .1) (more .1)))))
     (λ f.
     cond-holds (ok b)
     (λ t. then-holds (parts-sound steps ok l) (λ ps r more. gotten (join t (more .0), ap (_∷_ b) (more .1))))
@@ -110,7 +125,7 @@ attribute-sound l some =
     then-holds (name-sound (back blank l)) (λ n r name.
     then-holds (word-sound (61 ∷ []) (back blank r)) (λ w r₂ eq.
     then-holds (quote-sound (back blank r₂)) (λ q r₃ quote.
-    then-holds (parts-sound (length r₃) (inValue q) r₃) (λ v r₄ more.
+    then-holds (parts-sound (length r₃) (inValue (quoteByte q)) r₃) (λ v r₄ more.
     then-holds (word-sound (quoteByte q ∷ []) r₄) (λ u r₅ close.
     gotten (
       join (join some (front-every blank l)) (join (name .0) (join (front-every blank r) (join (front-every blank r₂) (more .0)))),
