@@ -11,3 +11,5 @@ pub mod Passed
 pub mod ReadSound
 pub mod ByteTests
 pub mod Steps
+pub mod Reaches
+pub mod Values

@@ -5,3 +5,4 @@ pub mod SelectTable
 pub mod Tokens
 pub mod Reading
 pub mod Document
+pub mod Reaches

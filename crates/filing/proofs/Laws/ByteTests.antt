@@ -2,11 +2,11 @@
 use Prim.Native.Nat.{ℕ, _≤_, _<_}
 use native.Mathlib.Omega.{arith}
 use mathlib.Core.Path.{_≡_, refl, sym, ap, _∙_}
-use mathlib.Core.Bool.{Bool, true, false, not, _&&_, _||_, or-false, and-true}
+use mathlib.Core.Bool.{Bool, true, false, not, _&&_, _||_, or-false, and-true, and-false}
 use lib.Dec.{leb, eqb}
-use borrow.Author.Tests.{le-leb, lt-leb, ne-eqb}
+use borrow.Author.Tests.{le-leb, lt-leb, eq-eqb, ne-eqb}
 use Rattle.notation.specs.Names.{within, letter, digit, beginsName, inName}
-use Rattle.filing.specs.Tokens.{blank, listed, inText}
+use Rattle.filing.specs.Tokens.{blank, listed, inText, inValue}
 
 module _ (b : ℕ) where
   pub begins-low : b < 65 → beginsName b ≡ false
@@ -50,3 +50,11 @@ module _ (b : ℕ) where
   pub text-last : (b ≡ 60 → ⊥) → (b ≡ 38 → ⊥) → inText b ≡ listed b
   unfolding inText
   text-last h k = rw (ne-eqb b 60 h, ne-eqb b 38 k) (and-true (listed b))
+
+  pub value-quote : (quote : ℕ) → b ≡ quote → inValue quote b ≡ false
+  unfolding inValue
+  value-quote quote e = rw (eq-eqb b quote e) (and-false (inText b))
+
+  pub value-last : (quote : ℕ) → (b ≡ quote → ⊥) → inValue quote b ≡ inText b
+  unfolding inValue
+  value-last quote n = rw (ne-eqb b quote n) (and-true (inText b))

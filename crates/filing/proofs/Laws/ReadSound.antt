@@ -25,12 +25,12 @@ pub data Holds {A : Type 0} (P : A → List ℕ → Type 0) : Read A → Type 0 
 pub holds-got : {A : Type 0} {P : A → List ℕ → Type 0} {a : A} {r : List ℕ} → Holds P (got a r) → P a r
 holds-got (gotten h) = h
 
-then-holds : {A B : Type 0} {P : A → List ℕ → Type 0} {Q : B → List ℕ → Type 0} {m : Read A} {k : A → List ℕ → Read B}
+pub then-holds : {A B : Type 0} {P : A → List ℕ → Type 0} {Q : B → List ℕ → Type 0} {m : Read A} {k : A → List ℕ → Read B}
     → Holds P m → ((a : A) (r : List ℕ) → P a r → Holds Q (k a r)) → Holds Q (thenRead m k)
 then-holds failed f = failed
 then-holds (gotten {a} {r} h) f = f a r h
 
-holds-map : {A : Type 0} {P Q : A → List ℕ → Type 0} {m : Read A} → Holds P m → ((a : A) (r : List ℕ) → P a r → Q a r) → Holds Q m
+pub holds-map : {A : Type 0} {P Q : A → List ℕ → Type 0} {m : Read A} → Holds P m → ((a : A) (r : List ℕ) → P a r → Q a r) → Holds Q m
 holds-map failed f = failed
 holds-map (gotten {a} {r} h) f = gotten (f a r h)
 
@@ -43,7 +43,7 @@ cond-holds : {A : Type 0} {P : A → List ℕ → Type 0} {x y : Read A} (t : Bo
 cond-holds true f g = f refl
 cond-holds false f g = g refl
 
-front-back : (ok : ℕ → Bool) (l : List ℕ) → front ok l ++ back ok l ≡ l
+pub front-back : (ok : ℕ → Bool) (l : List ℕ) → front ok l ++ back ok l ≡ l
 unfolding front back
 front-back ok [] = refl
 front-back ok (b ∷ l) = cases (ok b) (λ t. rw t (ap (_∷_ b) (front-back ok l))) (λ f. rw f)
@@ -53,14 +53,14 @@ unfolding front every
 front-every ok [] = refl
 front-every ok (b ∷ l) = cases (ok b) (λ t. rw (t, t) (front-every ok l)) (λ f. rw f)
 
-word-sound : (w l : List ℕ) → Holds (λ u r. w ++ r ≡ l) (readWord w l)
+pub word-sound : (w l : List ℕ) → Holds (λ u r. w ++ r ≡ l) (readWord w l)
 unfolding readWord
 word-sound [] l = gotten refl
 word-sound (b ∷ w) [] = failed
 word-sound (b ∷ w) (c ∷ l) =
     when-holds (eqb b c) (λ t. holds-map (word-sound w l) (λ u r e. rw (eqb-true b c t) (ap (_∷_ c) e)))
 
-name-sound : (l : List ℕ) → Holds (λ n r. (nameForm n ≡ true) × (n ++ r ≡ l)) (readName l)
+pub name-sound : (l : List ℕ) → Holds (λ n r. (nameForm n ≡ true) × (n ++ r ≡ l)) (readName l)
 unfolding readName nameForm
 name-sound [] = failed
 name-sound (b ∷ l) =
@@ -80,7 +80,7 @@ begins-drop (b ∷ w) [] h = absurd (false≢true h)
 begins-drop (b ∷ w) (c ∷ l) h =
     rw (eqb-true b c (left _ _ h)) (ap (_∷_ c) (begins-drop w l (right (eqb b c) _ h)))
 
-reference-sound : (l : List ℕ) → Holds (λ n r. (isEntity n ≡ true) × (n ++ (59 ∷ r) ≡ l)) (readReference l)
+pub reference-sound : (l : List ℕ) → Holds (λ n r. (isEntity n ≡ true) × (n ++ (59 ∷ r) ≡ l)) (readReference l)
 unfolding readReference isEntity sameName
 reference-sound l =
     cond-holds (begins (amp ++ (59 ∷ [])) l) (λ t. gotten (refl, begins-drop (amp ++ (59 ∷ [])) l t)) (λ f.
@@ -95,7 +95,7 @@ unfolding printParts printPart
 reference-prints b l n s r ps ampersand name more =
     rw (append-assoc (n ++ (59 ∷ [])) (printParts ps) r, append-assoc n (59 ∷ []) (printParts ps ++ r), more, name, ampersand)
 
-parts-sound : (steps : ℕ) (ok : ℕ → Bool) (l : List ℕ)
+pub parts-sound : (steps : ℕ) (ok : ℕ → Bool) (l : List ℕ)
     → Holds (λ ps r. (every (formedPart ok) ps ≡ true) × (printParts ps ++ r ≡ l)) (readParts steps ok l)
 unfolding readParts every printParts printPart
 parts-sound zero ok l = gotten (refl, refl)
@@ -118,7 +118,7 @@ attribute-prints l n r r₂ r₃ r₄ r₅ q v name eq quote more close =
     rw (spread (front blank l) n (front blank r) (front blank r₂) q v r₅, close, more, quote, front-back blank r₂, eq, front-back blank r, name)
     (front-back blank l)
 
-attribute-sound : (l : List ℕ) → nonEmpty (front blank l) ≡ true
+pub attribute-sound : (l : List ℕ) → nonEmpty (front blank l) ≡ true
     → Holds (λ a r. (formedAttribute a ≡ true) × (printAttribute a ++ r ≡ l)) (readAttribute l)
 unfolding readAttribute formedAttribute
 attribute-sound l some =
@@ -132,7 +132,7 @@ attribute-sound l some =
       attribute-prints l n r r₂ r₃ r₄ r₅ q v (name .1) eq quote (more .1) close,
     ))))))
 
-attributes-sound : (steps : ℕ) (l : List ℕ)
+pub attributes-sound : (steps : ℕ) (l : List ℕ)
     → Holds (λ m r. (every formedAttribute m ≡ true) × (printAttributes m ++ r ≡ l)) (readAttributes steps l)
 unfolding readAttributes every printAttributes
 attributes-sound zero l = gotten (refl, refl)
