@@ -13,3 +13,4 @@ pub mod ByteTests
 pub mod Steps
 pub mod Reaches
 pub mod Values
+pub mod Offsets

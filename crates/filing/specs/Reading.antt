@@ -63,14 +63,18 @@ readParts (suc steps) ok (b ∷ l) =
     cond (eqb b 38) (thenRead (readReference l) (λ n r. thenRead (readParts steps ok r) (λ ps r₂. got (reference n ∷ ps) r₂)))
     (cond (ok b) (thenRead (readParts steps ok l) (λ ps r. got (plain b ∷ ps) r)) (got [] (b ∷ l)))
 
-unfoldable pub readAttribute : List ℕ → Read Attribute
-readAttribute l =
-    thenRead (readName (back blank l)) (λ n r.
+-- an attribute, after the blanks before it
+unfoldable pub readAttributeFrom : List ℕ → List ℕ → Read Attribute
+readAttributeFrom s l =
+    thenRead (readName l) (λ n r.
     thenRead (readWord (61 ∷ []) (back blank r)) (λ w r₂.
     thenRead (readQuote (back blank r₂)) (λ q r₃.
     thenRead (readParts (length r₃) (inValue (quoteByte q)) r₃) (λ v r₄.
     thenRead (readWord (quoteByte q ∷ []) r₄) (λ w r₅.
-    got (attribute (front blank l) n (front blank r) (front blank r₂) q v) r₅)))))
+    got (attribute s n (front blank r) (front blank r₂) q v) r₅)))))
+
+abbrev pub readAttribute : List ℕ → Read Attribute
+readAttribute l = readAttributeFrom (front blank l) (back blank l)
 
 -- blanks, and then a name
 abbrev pub nameAhead : List ℕ → Bool

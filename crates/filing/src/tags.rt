@@ -8,8 +8,10 @@ ghost use mathlib.Core.Path.{_≡_};
 ghost use Prim.Native.Nat.{_+_, _≤_};
 ghost use lib.ListN.{length, drop};
 ghost use Rattle.filing.specs.Tokens.{inValue};
-ghost use Rattle.filing.specs.Reading.{readReference, readParts};
-ghost use Rattle.filing.specs.Reaches.{reachOf};
+ghost use mathlib.Core.List.{[], _∷_};
+ghost use Rattle.filing.specs.Tokens.{blank as blankByte, quoteByte};
+ghost use Rattle.filing.specs.Reading.{thenRead, back, readWord, readName, readQuote, readReference, readParts, readAttributeFrom};
+ghost use Rattle.filing.specs.Reaches.{reachOf, quotedReach, valueReach};
 
 // Nothing that can be read begins there, or where it ends.
 pub enum Reach {
@@ -71,4 +73,85 @@ pub fn value_end(s: &[u8], at: usize, quote: u8) -> Reach
         }
     }
     Reach::To(i)
+}
+
+// A name.
+pub fn name_reach(s: &[u8], at: usize) -> Reach
+    requires { ⌜ at ≤ length (now s) ⌝ }
+    ensures { λ r. ⌜ r ≡ reachOf (length (now (s .entry))) (readName (drop at (now (s .entry)))) ⌝ }
+{
+    if s.len() <= at {
+        return Reach::No;
+    }
+    if !begins_name(s[at]) {
+        return Reach::No;
+    }
+    Reach::To(name_end(s, at + 1))
+}
+
+// A byte, after blanks.
+pub fn mark_end(s: &[u8], at: usize, mark: u8) -> Reach
+    requires { ⌜ at ≤ length (now s) ⌝ }
+    ensures { λ r. ⌜ r ≡ reachOf (length (now (s .entry))) (readWord (mark ∷ []) (back blankByte (drop at (now (s .entry))))) ⌝ }
+{
+    let q = blanks_end(s, at);
+    if s.len() <= q {
+        return Reach::No;
+    }
+    if s[q] != mark {
+        return Reach::No;
+    }
+    Reach::To(q + 1)
+}
+
+// A value and the quote after it.
+pub fn quoted_end(s: &[u8], at: usize, quote: u8) -> Reach
+    requires { ⌜ at ≤ length (now s) ⌝ }
+    ensures { λ r. ⌜ r ≡ quotedReach (now (s .entry)) quote at ⌝ }
+{
+    match value_end(s, at, quote) {
+        Reach::No => Reach::No,
+        Reach::To(e) => {
+            if s.len() <= e {
+                return Reach::No;
+            }
+            if s[e] != quote {
+                return Reach::No;
+            }
+            Reach::To(e + 1)
+        }
+    }
+}
+
+// A value in quotes, after blanks.
+pub fn value_after(s: &[u8], at: usize) -> Reach
+    requires { ⌜ at ≤ length (now s) ⌝ }
+    ensures { λ r. ⌜ r ≡ valueReach (now (s .entry)) at ⌝ }
+{
+    let v = blanks_end(s, at);
+    if s.len() <= v {
+        return Reach::No;
+    }
+    let quote = s[v];
+    if quote == 34 {
+        return quoted_end(s, v + 1, 34);
+    }
+    if quote == 39 {
+        return quoted_end(s, v + 1, 39);
+    }
+    Reach::No
+}
+
+// An attribute, after the blanks before it.
+pub fn attribute_end(s: &[u8], at: usize) -> Reach
+    requires { ⌜ at ≤ length (now s) ⌝ }
+    ensures { λ r. ⌜ r ≡ reachOf (length (now (s .entry))) (readAttributeFrom [] (drop at (now (s .entry)))) ⌝ }
+{
+    match name_reach(s, at) {
+        Reach::No => Reach::No,
+        Reach::To(e) => match mark_end(s, e, 61) {
+            Reach::No => Reach::No,
+            Reach::To(v) => value_after(s, v),
+        },
+    }
 }

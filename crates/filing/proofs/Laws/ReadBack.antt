@@ -12,7 +12,7 @@ use Rattle.notation.specs.Names.{Name, letter, digit, beginsName, inName, allIn
 use Rattle.notation.specs.Form.{every, nonEmpty}
 use Rattle.notation.proofs.Laws.Innermost.{cases}
 use Rattle.filing.specs.Tokens.{blank, listed, isEntity, inText, inValue, Part, plain, reference, Quote, double, single, quoteByte, Attribute, attribute, Token, declaration, comment, startTag, emptyTag, endTag, text, declarationBytes, printPart, printParts, printAttribute, printAttributes, printToken, printTokens, begins, occurs, endsIn, formedPart, formedAttribute, formedTag, formedComment, formedText, formedToken, isText, isDeclaration, textFirst, textsApart, declarationFirst, formedRun}
-use Rattle.filing.specs.Reading.{Read, fail, got, thenRead, when, front, back, readWord, readName, readQuote, readReference, readParts, readAttribute, nameAhead, attributeAhead, readAttributes, readTagEnd, readTag, readEndTag, readContents, readComment, readMarkup, textEnds, readText, readToken, readTokens, readReport}
+use Rattle.filing.specs.Reading.{Read, fail, got, thenRead, when, front, back, readWord, readName, readQuote, readReference, readParts, readAttributeFrom, readAttribute, nameAhead, attributeAhead, readAttributes, readTagEnd, readTag, readEndTag, readContents, readComment, readMarkup, textEnds, readText, readToken, readTokens, readReport}
 use Rattle.filing.proofs.Laws.Bytes.{left, right, neither, every-head, every-rest, either, differs, blank-no-name, name-no-blank, entity-cases, text-no-amp, text-no-less, value-text, all-in-name, stops, front-stop, back-stop, front-of, back-of}
 
 name-back : (n r : List ℕ) → nameForm n ≡ true → stops inName r ≡ true → readName (n ++ r) ≡ got n r
@@ -137,7 +137,7 @@ unfolding printAttribute
 spread s n before after q v r = simp append-assoc
 
 attribute-back : (a : Attribute) (r : List ℕ) → formedAttribute a ≡ true → readAttribute (printAttribute a ++ r) ≡ got a r
-unfolding readAttribute readWord
+unfolding readAttributeFrom readWord
 attribute-back (attribute s n before after q v) r h =
     let f = formed-parts s n before after q v h in
     let t₅ : List ℕ = quoteByte q ∷ r in

@@ -12,7 +12,7 @@ use Rattle.notation.specs.Form.{every, nonEmpty}
 use Rattle.notation.specs.Activity.{sameName}
 use Rattle.notation.proofs.Laws.Innermost.{cases}
 use Rattle.filing.specs.Tokens.{blank, listed, amp, lt, gt, quot, apos, isEntity, inText, inValue, Part, plain, reference, Quote, double, single, quoteByte, Attribute, attribute, Token, declaration, comment, startTag, emptyTag, endTag, text, declarationBytes, printPart, printParts, printAttribute, printAttributes, printToken, printTokens, begins, occurs, endsIn, formedPart, formedAttribute, formedTag, formedComment, formedText, formedToken, isText, isDeclaration, textFirst, textsApart, declarationFirst, formedRun, RunOfTokens}
-use Rattle.filing.specs.Reading.{Read, fail, got, thenRead, when, front, back, readWord, readName, readQuote, readReference, readParts, readAttribute, nameAhead, attributeAhead, readAttributes, readTagEnd, readTag, readEndTag, readContents, readComment, readMarkup, textEnds, readText, readToken, readTokens, readReport}
+use Rattle.filing.specs.Reading.{Read, fail, got, thenRead, when, front, back, readWord, readName, readQuote, readReference, readParts, readAttributeFrom, readAttribute, nameAhead, attributeAhead, readAttributes, readTagEnd, readTag, readEndTag, readContents, readComment, readMarkup, textEnds, readText, readToken, readTokens, readReport}
 use Rattle.filing.proofs.Laws.Bytes.{left, right, join, neither, all-in-name, text-no-less}
 use Rattle.filing.proofs.Laws.ReadBack.{spread}
 use Rattle.filing.proofs.Laws.OneRun.{declared, run-back}
@@ -120,7 +120,7 @@ attribute-prints l n r r₂ r₃ r₄ r₅ q v name eq quote more close =
 
 pub attribute-sound : (l : List ℕ) → nonEmpty (front blank l) ≡ true
     → Holds (λ a r. (formedAttribute a ≡ true) × (printAttribute a ++ r ≡ l)) (readAttribute l)
-unfolding readAttribute formedAttribute
+unfolding readAttributeFrom formedAttribute
 attribute-sound l some =
     then-holds (name-sound (back blank l)) (λ n r name.
     then-holds (word-sound (61 ∷ []) (back blank r)) (λ w r₂ eq.
