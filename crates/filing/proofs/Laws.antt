@@ -14,3 +14,4 @@ pub mod Steps
 pub mod Reaches
 pub mod Values
 pub mod Offsets
+pub mod Inside

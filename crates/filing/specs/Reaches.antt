@@ -5,7 +5,7 @@ use Rattle.filing.specs.declared.tags.Reach.{Reach}
 use Rattle.filing.specs.declared.tags.Reach.the-variants.{No, To}
 use mathlib.Core.List.{List, [], _∷_}
 use Rattle.filing.specs.Tokens.{Quote, quoteByte, blank, inValue}
-use Rattle.filing.specs.Reading.{Read, fail, got, thenRead, back, readWord, readQuote, readParts}
+use Rattle.filing.specs.Reading.{Read, fail, got, thenRead, back, readWord, readQuote, readParts, readAttributes}
 
 abbrev pub reachOf : {A : Type 0} → ℕ → Read A → Reach
 reachOf total fail = No
@@ -21,3 +21,7 @@ valueReach s at =
     reachOf (length s)
     (thenRead (readQuote (back blank (drop at s)))
     (λ q r. thenRead (readParts (length r) (inValue (quoteByte q)) r) (λ v r₂. readWord (quoteByte q ∷ []) r₂)))
+
+-- the attributes and the blanks after them, from an offset
+abbrev pub insideReach : List ℕ → ℕ → Reach
+insideReach s at = reachOf (length s) (thenRead (readAttributes (length (drop at s)) (drop at s)) (λ l r. got l (back blank r)))

@@ -11,7 +11,7 @@ ghost use Rattle.filing.specs.Tokens.{inValue};
 ghost use mathlib.Core.List.{[], _∷_};
 ghost use Rattle.filing.specs.Tokens.{blank as blankByte, quoteByte};
 ghost use Rattle.filing.specs.Reading.{thenRead, back, readWord, readName, readQuote, readReference, readParts, readAttributeFrom};
-ghost use Rattle.filing.specs.Reaches.{reachOf, quotedReach, valueReach};
+ghost use Rattle.filing.specs.Reaches.{reachOf, quotedReach, valueReach, insideReach};
 
 // Nothing that can be read begins there, or where it ends.
 pub enum Reach {
@@ -153,5 +153,29 @@ pub fn attribute_end(s: &[u8], at: usize) -> Reach
             Reach::No => Reach::No,
             Reach::To(v) => value_after(s, v),
         },
+    }
+}
+
+// The attributes of a tag and the blanks after them.
+pub fn inside_end(s: &[u8], at: usize) -> Reach
+    requires { ⌜ at ≤ length (now s) ⌝ }
+    ensures { λ r. ⌜ r ≡ insideReach (now (s .entry)) at ⌝ }
+{
+    let mut i = at;
+    loop {
+        let n = blanks_end(s, i);
+        if n == i {
+            return Reach::To(n);
+        }
+        if s.len() <= n {
+            return Reach::To(n);
+        }
+        if !begins_name(s[n]) {
+            return Reach::To(n);
+        }
+        match attribute_end(s, n) {
+            Reach::No => return Reach::No,
+            Reach::To(e) => i = e,
+        }
     }
 }

@@ -26,7 +26,7 @@ reach-then total (got a r) k j f = f a r
 
 module _ (s : List ℕ) where
   -- what is left at an offset has the offset as its end
-  left-at : (e : ℕ) → e ≤ length s → e ≡ length s - length (drop e s)
+  pub left-at : (e : ℕ) → e ≤ length s → e ≡ length s - length (drop e s)
   left-at e h = omega (arith, length-drop e s)
 
   pub back-at : (ok : ℕ → Bool) (at e : ℕ) → at ≤ length s → e ≡ at + length (front ok (drop at s))

@@ -176,7 +176,7 @@ ahead-of (attribute s n before after q v) r h =
     rw (spread s n before after q v r, front-of blank s (n ++ t₀) (f .blanks) stop, back-of blank s (n ++ t₀) (f .blanks) stop, f .some)
     (name-ahead n t₀ (f .name))
 
-attribute-length : (a : Attribute) → formedAttribute a ≡ true → 1 ≤ length (printAttribute a)
+pub attribute-length : (a : Attribute) → formedAttribute a ≡ true → 1 ≤ length (printAttribute a)
 unfolding printAttribute
 attribute-length (attribute [] n before after q v) h = absurd (false≢true (formed-parts [] n before after q v h .some))
 attribute-length (attribute (b ∷ s) n before after q v) h = omega arith
