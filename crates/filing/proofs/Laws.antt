@@ -15,3 +15,4 @@ pub mod Reaches
 pub mod Values
 pub mod Offsets
 pub mod Inside
+pub mod Tags

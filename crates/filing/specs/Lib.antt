@@ -6,3 +6,4 @@ pub mod Tokens
 pub mod Reading
 pub mod Document
 pub mod Reaches
+pub mod Seen

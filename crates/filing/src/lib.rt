@@ -2,3 +2,4 @@
 
 pub mod scan;
 pub mod tags;
+pub mod tokens;
