@@ -16,3 +16,7 @@ pub mod Values
 pub mod Offsets
 pub mod Inside
 pub mod Tags
+pub mod Comments
+pub mod Texts
+pub mod TokenAt
+pub mod TagName

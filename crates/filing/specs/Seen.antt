@@ -1,14 +1,15 @@
 -- What the code says of the token at an offset: its kind, its end, where its name stands, whether it is blank.
 use Prim.Native.Nat.{ℕ, _+_, _-_}
 use mathlib.Core.Bool.{Bool, cond}
-use mathlib.Core.List.{List}
+use mathlib.Core.List.{List, []}
 use lib.Dec.{eqb, ltb}
-use lib.ListN.{length, getD}
+use lib.ListN.{length, getD, drop}
+use Rattle.notation.specs.Names.{Name}
 use Rattle.notation.specs.Form.{every}
 use Rattle.filing.specs.declared.tokens.Found.{Found}
 use Rattle.filing.specs.declared.tokens.Found.the-variants.{Nothing, Declaration, Comment, Start, Empty, End, Text}
-use Rattle.filing.specs.Tokens.{Token, declaration, comment, startTag, emptyTag, endTag, text, printParts, blank}
-use Rattle.filing.specs.Reading.{Read, fail, got}
+use Rattle.filing.specs.Tokens.{Token, declaration, comment, startTag, emptyTag, endTag, text, declarationBytes, printParts, blank}
+use Rattle.filing.specs.Reading.{Read, fail, got, thenRead, readWord}
 
 -- of a token with its `<` at an offset, in bytes of this length in all
 abbrev pub shown : Token → ℕ → ℕ → Found
@@ -32,3 +33,43 @@ tagEndOf s from to e =
     (cond (ltb (e + 1) (length s)) (cond (eqb (getD s (e + 1) 0) 62) (Empty from to (e + 1 + 1)) Nothing) Nothing)
     Nothing))
     Nothing
+
+-- a text from an offset to another, if there is any
+abbrev pub textFound : ℕ → ℕ → Bool → Found
+textFound at end all = cond (ltb at end) (Text end all) Nothing
+
+-- the declaration, at an offset
+abbrev pub declarationAt : List ℕ → ℕ → Found
+declarationAt s at = foundOf (length s) at (thenRead (readWord declarationBytes (drop at s)) (λ w r. got declaration r))
+
+-- a tag's name; no other token has one
+abbrev pub nameOfToken : Token → Name
+nameOfToken declaration = []
+nameOfToken (comment c) = []
+nameOfToken (startTag n l b) = n
+nameOfToken (emptyTag n l b) = n
+nameOfToken (endTag n b) = n
+nameOfToken (text ps) = []
+
+abbrev pub tagName : Read Token → Name
+tagName fail = []
+tagName (got t r) = nameOfToken t
+
+-- where a tag's name begins and ends; 0 for what has none
+abbrev pub nameFrom : Found → ℕ
+nameFrom Nothing = 0
+nameFrom (Declaration e) = 0
+nameFrom (Comment e) = 0
+nameFrom (Start from to e) = from
+nameFrom (Empty from to e) = from
+nameFrom (End from to e) = from
+nameFrom (Text e all) = 0
+
+abbrev pub nameTo : Found → ℕ
+nameTo Nothing = 0
+nameTo (Declaration e) = 0
+nameTo (Comment e) = 0
+nameTo (Start from to e) = to
+nameTo (Empty from to e) = to
+nameTo (End from to e) = to
+nameTo (Text e all) = 0
