@@ -1,34 +1,28 @@
+-- `filing::tokens::tag_name` meets its contract: the part between the offsets is the name.
+use mathlib.Core.Path.{_≡_, refl, sym, ap, _∙_}
+use native.Mathlib.Omega.{arith}
+use Rattle.filing.proofs.Laws.TagName.{Cut, name-cut}
 use borrow.Author.Needs.{needs}
 use Rattle.filing.proofs.tokens.tag_name.Statement.{statement}
 use Rattle.filing.proofs.tokens.tag_name.Tie as tie
-use Rattle.filing.proofs.tokens.tag_name.Reads as reads
-use Rattle.filing.proofs.tokens.tag_name.Lts as lts
-use Rattle.filing.proofs.tokens.name_span.Reads as name-span-reads
-use Rattle.filing.proofs.tokens.token_at.Reads as token-at-reads
 
--- src/tokens.rt:263:23
 token-at-requires : tie.Need-token-at-requires
 token-at-requires c κs = search needs
 
--- src/tokens.rt:263:9
 name-span-requires : tie.Need-name-span-requires
 name-span-requires c κs = search needs
 
--- src/tokens.rt:266:5
 sub-result : tie.Need-sub-result
-sub-result c = ?
+sub-result c = name-cut (c .before .before .before .args .s .now) (c .before .before .before .args .at) _ _ (c .before .token-at .result) (c .before .token-at .ensures) (c .name-span .ensures .0) (c .name-span .ensures .1) .low
 
--- src/tokens.rt:266:5
 part-result-start : tie.Need-part-result-start
-part-result-start c = ?
+part-result-start c = name-cut (c .before .before .before .args .s .now) (c .before .before .before .args .at) _ _ (c .before .token-at .result) (c .before .token-at .ensures) (c .name-span .ensures .0) (c .name-span .ensures .1) .low
 
--- src/tokens.rt:266:5
 part-result-end : tie.Need-part-result-end
-part-result-end c = ?
+part-result-end c = name-cut (c .before .before .before .args .s .now) (c .before .before .before .args .at) _ _ (c .before .token-at .result) (c .before .token-at .ensures) (c .name-span .ensures .0) (c .name-span .ensures .1) .high
 
--- src/tokens.rt:260:1
 returns : tie.Need-returns
-returns c = ?
+returns c = name-cut (c .before .before .before .before .args .s .now) (c .before .before .before .before .args .at) _ _ (c .before .before .token-at .result) (c .before .before .token-at .ensures) (c .before .name-span .ensures .0) (c .before .name-span .ensures .1) .part
 
 pub tag-name-spec : {M : Type 1} → statement M
 tag-name-spec =
