@@ -20,3 +20,4 @@ pub mod Comments
 pub mod Texts
 pub mod TokenAt
 pub mod TagName
+pub mod Next

@@ -28,7 +28,7 @@ to-is e = cc
 pub never : {X : Type 0} {a : ℕ} → No ≡ To a → X
 never e = absurd (let z : _≡_ {A = ℕ} 0 1 = cc in omega arith)
 
-suffix-drop : (s p r : List ℕ) (at : ℕ) → at ≤ length s → p ++ r ≡ drop at s → (drop (length s - length r) s ≡ r) × (length s - length r ≡ at + length p)
+pub suffix-drop : (s p r : List ℕ) (at : ℕ) → at ≤ length s → p ++ r ≡ drop at s → (drop (length s - length r) s ≡ r) × (length s - length r ≡ at + length p)
 suffix-drop s p r at h e =
     let long : length p + length r ≡ length s - at = sym (length-append p r) ∙ ap length e ∙ length-drop at s in
     let end : length s - length r ≡ at + length p = omega arith in
