@@ -2,8 +2,8 @@
 use mathlib.Core.Bool.{Bool, true, false}
 use mathlib.Core.List.{List, [], _∷_}
 use Rattle.notation.specs.Names.{Name}
-use Rattle.notation.specs.Sets.{Path, Test, label, star, step, child, descendant}
-use Rattle.filing.specs.Tree.{Document, Node, element, text, comment, Nodes, none, _then_}
+use Rattle.notation.specs.Sets.{Path, label, star, step, child, descendant}
+use Rattle.filing.specs.Tree.{Document, Node, element, text, comment, none, _then_}
 
 pub record Row : Type 0 where
   pub path : Path

@@ -1,18 +1,18 @@
 -- Tokens are those of a tree with one root exactly when their opens and closes are balanced, and then of one tree.
-use Prim.Native.Nat.{ℕ, zero, suc, _+_, _≤_}
+use Prim.Native.Nat.{ℕ, _+_}
 use native.Mathlib.Omega.{arith}
 use mathlib.Core.Path.{_≡_, refl, sym, ap, ap₂, _∙_}
 use mathlib.Core.Logic.{_↔_}
-use mathlib.Core.Bool.{Bool, true, false, not, _&&_, true≢false, false≢true}
+use mathlib.Core.Bool.{Bool, true, false, not, true≢false, false≢true}
 use mathlib.Core.List.{List, [], _∷_, _++_, append-assoc, append-nil, tail-eq-of-cons-eq}
 use borrow.Author.Tests.{not-true}
 use Rattle.notation.specs.Names.{Name}
 use Rattle.notation.specs.Form.{every}
 use Rattle.notation.specs.Activity.{sameName}
 use Rattle.notation.proofs.Laws.Fit.{sameName-is}
-use Rattle.filing.specs.Tree.{Node, element, text, comment, Nodes, none, _then_, Document}
+use Rattle.filing.specs.Tree.{Node, element, text, comment, Nodes, none, _then_}
 use Rattle.filing.specs.Tokens.{Token, blank}
-use Rattle.filing.specs.Document.{Event, opening, closing, textHere, commentHere, eventsOf, eventsAt, eventsIn, elementHere, blankHere, elementsAmong, blankAmong, TreeOf, balanced}
+use Rattle.filing.specs.Document.{Event, opening, closing, textHere, commentHere, eventsOf, eventsAt, eventsIn, elementsAmong, blankAmong, TreeOf, balanced}
 use Rattle.filing.proofs.Laws.Bytes.{left, right, join}
 
 -- the events of siblings inside an element leave the balance as it is

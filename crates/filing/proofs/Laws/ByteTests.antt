@@ -1,11 +1,11 @@
 -- The byte tests, by the comparisons that the code makes.
 use Prim.Native.Nat.{ℕ, _≤_, _<_}
 use native.Mathlib.Omega.{arith}
-use mathlib.Core.Path.{_≡_, refl, sym, ap, _∙_}
-use mathlib.Core.Bool.{Bool, true, false, not, _&&_, _||_, or-false, and-true, and-false}
+use mathlib.Core.Path.{_≡_}
+use mathlib.Core.Bool.{true, false, _&&_, _||_, or-false, and-true, and-false}
 use lib.Dec.{leb, eqb}
 use borrow.Author.Tests.{le-leb, lt-leb, eq-eqb, ne-eqb}
-use Rattle.notation.specs.Names.{within, letter, digit, beginsName, inName}
+use Rattle.notation.specs.Names.{letter, digit, beginsName, inName}
 use Rattle.filing.specs.Tokens.{blank, listed, inText, inValue}
 
 module _ (b : ℕ) where

@@ -1,14 +1,13 @@
 -- Facts of single bytes, and of the longest front of bytes that pass a test.
-use Prim.Native.Nat.{ℕ, zero, suc}
+use Prim.Native.Nat.{ℕ}
 use mathlib.Core.Path.{_≡_, refl, sym, ap, _∙_}
 use mathlib.Core.Logic.{_⊎_, inl, inr, ⊎-elim}
-use mathlib.Core.Bool.{Bool, true, false, not, _&&_, _||_, true≢false, false≢true, and-eq-true-iff}
+use mathlib.Core.Bool.{Bool, true, false, not, _&&_, _||_, true≢false, and-eq-true-iff}
 use mathlib.Core.List.{List, [], _∷_, _++_}
 use lib.Dec.{eqb}
-use borrow.Author.Tests.{eqb-true, ne-eqb, eq-eqb, not-true}
-use Rattle.notation.specs.Names.{Name, within, letter, digit, beginsName, inName, allInName, nameForm}
-use Rattle.notation.specs.Form.{every, nonEmpty}
-use Rattle.notation.specs.Activity.{sameName}
+use borrow.Author.Tests.{eqb-true, ne-eqb, not-true}
+use Rattle.notation.specs.Names.{Name, letter, digit, beginsName, inName, allInName}
+use Rattle.notation.specs.Form.{every}
 use Rattle.notation.proofs.Laws.Innermost.{cases}
 use Rattle.notation.proofs.Laws.Fit.{sameName-is}
 use Rattle.filing.specs.Tokens.{blank, listed, amp, lt, gt, quot, apos, isEntity, inText, inValue}

@@ -1,8 +1,8 @@
 -- Positions that rise from 0, one for each step: what `Fits` says, with the document node as position 0.
-use Prim.Native.Nat.{ℕ, zero, suc, _≤_, _<_, pred}
+use Prim.Native.Nat.{ℕ, zero, suc, _≤_, _<_}
 use native.Mathlib.Omega.{arith}
-use mathlib.Core.Path.{_≡_, refl, sym, ap, _∙_}
-use mathlib.Core.Bool.{Bool, true, false, cond}
+use mathlib.Core.Path.{_≡_, refl, sym, _∙_}
+use mathlib.Core.Bool.{cond}
 use mathlib.Core.List.{List}
 use lib.Dec.{leb}
 use borrow.Author.Tests.{le-leb, lt-leb, leb-true, leb-false}
@@ -10,7 +10,7 @@ use lib.ListN.{length}
 use Rattle.notation.specs.Names.{Name}
 use Rattle.notation.specs.Sets.{Path, child, axisOf, testOf}
 use Rattle.notation.proofs.Laws.Innermost.{cases}
-use Rattle.notation.specs.Fit.{Takes, stepAt, nameAt, Active, Fits}
+use Rattle.notation.specs.Fit.{Takes, stepAt, nameAt, Fits}
 
 -- from the position of step i to that of the next
 pub record Link (p : Path) (names : List Name) (i a b : ℕ) : Type 0 where

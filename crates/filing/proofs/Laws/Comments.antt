@@ -1,10 +1,9 @@
 -- Comments from an offset, byte by byte.
-use Prim.Native.Nat.{ℕ, zero, suc, _+_, _-_, _≤_, _<_}
+use Prim.Native.Nat.{ℕ, _+_, _≤_, _<_}
 use native.Mathlib.Omega.{arith}
-use native.Mathlib.Numerals.{add-one}
 use mathlib.Core.Path.{_≡_, refl, sym, ap, _∙_}
-use mathlib.Core.Bool.{Bool, true, false, _&&_, cond, false≢true}
-use mathlib.Core.List.{List, [], _∷_, _++_}
+use mathlib.Core.Bool.{true, false, cond}
+use mathlib.Core.List.{List, [], _∷_}
 use lib.Dec.{eqb}
 use lib.ListN.{length, getD, drop, length-drop, drop-of-length-le}
 use lib.Seq.{getD-drop, drop-drop}
@@ -17,7 +16,6 @@ use Rattle.filing.specs.Tokens.{listed, begins, comment}
 use Rattle.filing.specs.Reading.{Read, fail, got, thenRead, when, readWord, readContents, readComment}
 use Rattle.filing.specs.Reaches.{reachOf}
 use Rattle.filing.specs.Seen.{foundOf}
-use Rattle.filing.proofs.Laws.Bytes.{right}
 use Rattle.filing.proofs.Laws.Reaches.{word-fits, never}
 use Rattle.filing.proofs.Laws.Values.{reach-map}
 

@@ -1,24 +1,23 @@
 -- The attributes of a tag from an offset, one after the other.
-use Prim.Native.Nat.{ℕ, zero, suc, _+_, _-_, _≤_, _<_, pred}
+use Prim.Native.Nat.{ℕ, zero, suc, _+_, _≤_, _<_, pred}
 use native.Mathlib.Omega.{arith}
-use mathlib.Core.Path.{_≡_, refl, sym, ap, ap₂, _∙_}
-use mathlib.Core.Bool.{Bool, true, false, _&&_, cond, false≢true, true≢false, and-false}
+use mathlib.Core.Path.{_≡_, refl, sym, ap, _∙_}
+use mathlib.Core.Bool.{true, false, false≢true, and-false}
 use mathlib.Core.List.{List, [], _∷_, _++_}
 use lib.ListN.{length, getD, drop, length-append, length-drop, drop-of-length-le}
 use lib.Seq.{drop-cons}
 use Rattle.notation.specs.Names.{beginsName}
 use Rattle.notation.specs.Form.{nonEmpty}
 use Rattle.notation.proofs.Laws.Innermost.{cases}
-use Rattle.filing.specs.declared.tags.Reach.{Reach}
 use Rattle.filing.specs.declared.tags.Reach.the-variants.{No, To}
-use Rattle.filing.specs.Tokens.{blank, inValue, quoteByte, Attribute, attribute, printAttribute, formedAttribute}
-use Rattle.filing.specs.Reading.{Read, fail, got, thenRead, front, back, readWord, readName, readQuote, readParts, readAttributeFrom, readAttribute, nameAhead, attributeAhead, readAttributes}
+use Rattle.filing.specs.Tokens.{blank, inValue, quoteByte, Attribute, printAttribute, formedAttribute}
+use Rattle.filing.specs.Reading.{Read, fail, got, thenRead, front, back, readWord, readName, readQuote, readParts, readAttributeFrom, readAttribute, attributeAhead, readAttributes}
 use Rattle.filing.specs.Reaches.{reachOf, insideReach}
-use Rattle.filing.proofs.Laws.Bytes.{left, right, join}
+use Rattle.filing.proofs.Laws.Bytes.{left, join}
 use Rattle.filing.proofs.Laws.ReadBack.{attribute-length}
-use Rattle.filing.proofs.Laws.ReadSound.{Holds, holds-map, holds-got, attribute-sound}
-use Rattle.filing.proofs.Laws.Reaches.{Suffix, reached}
-use Rattle.filing.proofs.Laws.Values.{then-same, reach-no, reach-map}
+use Rattle.filing.proofs.Laws.ReadSound.{holds-map, holds-got, attribute-sound}
+use Rattle.filing.proofs.Laws.Reaches.{reached}
+use Rattle.filing.proofs.Laws.Values.{then-same, reach-no}
 use Rattle.filing.proofs.Laws.Offsets.{reach-then, back-at, left-at}
 
 -- the blanks before an attribute have no part in how far it goes

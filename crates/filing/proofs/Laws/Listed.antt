@@ -1,12 +1,12 @@
 -- The name lists in document order are those of the elements of the tree.
-use Prim.Native.Nat.{ℕ, zero, suc, _<_}
+use Prim.Native.Nat.{ℕ, zero, suc}
 use native.Mathlib.Omega.{arith}
-use mathlib.Core.Path.{_≡_, refl, sym, ap, _∙_, subst}
-use mathlib.Core.Logic.{_↔_, _⊎_, inl, inr, ⊎-elim}
-use mathlib.Core.Bool.{true, false≢true}
+use mathlib.Core.Path.{_≡_, refl, sym, ap, _∙_}
+use mathlib.Core.Logic.{_↔_, ⊎-elim}
+use mathlib.Core.Bool.{false≢true}
 use mathlib.Core.List.{List, [], _∷_, _++_, append-nil, append-assoc, List·Memᴰ, List·Memᴰ·head, List·Memᴰ·tail, List·Memᴰ·not-nil, List·Memᴰ·cases-cons, List·Memᴰ·append-cases, Memᴰ·append-left, Memᴰ·append-right, Memᴰ·cast}
 use Rattle.notation.specs.Names.{Name}
-use Rattle.filing.specs.Tree.{Document, Place, Kind, noNode, elementNode, Node, element, text, comment, Nodes, none, _then_, kindOf, childrenOf, kindIn, childrenIn, childrenAt, kindAt, isNode}
+use Rattle.filing.specs.Tree.{Document, Place, noNode, elementNode, Node, element, text, comment, Nodes, none, _then_, kindOf, childrenOf, kindIn, childrenIn, childrenAt, kindAt, isNode}
 use Rattle.filing.specs.XPath.{IsElement}
 use Rattle.filing.specs.NameList.{nameOf, namesTo, listsOf, listsIn, nameLists}
 use Rattle.filing.proofs.Laws.Places.{no-element}

@@ -1,15 +1,14 @@
 -- A report read token after token, by offsets: each token ends where the next begins.
-use Prim.Native.Nat.{ℕ, zero, suc, _+_, _-_, _≤_, _<_, pred}
+use Prim.Native.Nat.{ℕ, zero, suc, _-_, _≤_, _<_, pred}
 use native.Mathlib.Omega.{arith}
-use mathlib.Core.Path.{_≡_, refl, sym, ap, _∙_}
+use mathlib.Core.Path.{_≡_, refl, ap, _∙_}
 use mathlib.Core.Bool.{Bool, true, false, not, _||_}
-use mathlib.Core.List.{List, [], _∷_, _++_}
+use mathlib.Core.List.{List, [], _∷_}
 use lib.ListN.{length, drop, length-append, length-drop, drop-of-length-le}
-use Rattle.notation.proofs.Laws.Innermost.{cases}
-use Rattle.filing.specs.Tokens.{Token, printToken, formedToken, isDeclaration, RunOfTokens}
-use Rattle.filing.specs.Reading.{Read, fail, got, thenRead, when, readToken, readTokens, readReport}
+use Rattle.filing.specs.Tokens.{Token, printToken, isDeclaration}
+use Rattle.filing.specs.Reading.{Read, fail, got, thenRead, when, readToken, readTokens}
 use Rattle.filing.proofs.Laws.OneRun.{token-length, read-more}
-use Rattle.filing.proofs.Laws.ReadSound.{Holds, holds-map, holds-got, Good, token-sound}
+use Rattle.filing.proofs.Laws.ReadSound.{holds-got, Good, token-sound}
 use Rattle.filing.proofs.Laws.Reaches.{suffix-drop}
 use Rattle.filing.proofs.Laws.Values.{then-same}
 
@@ -57,13 +56,13 @@ module _ (s : List ℕ) (at : ℕ) where
   open-from : (first : Bool) → at < length s
       → tokensFrom s first at
       ≡ thenRead (readToken (drop at s))
-        (λ t r. when (first || not (isDeclaration t)) (thenRead (readTokens (pred (length (drop at s))) false r) (λ ts r₂. got (t ∷ ts) r₂)))
+      (λ t r. when (first || not (isDeclaration t)) (thenRead (readTokens (pred (length (drop at s))) false r) (λ ts r₂. got (t ∷ ts) r₂)))
   open-from first h = more (length (drop at s)) (some-left h) refl
     where
       more : (n : ℕ) → 1 ≤ n → n ≡ length (drop at s)
           → readTokens n first (drop at s)
           ≡ thenRead (readToken (drop at s))
-            (λ t r. when (first || not (isDeclaration t)) (thenRead (readTokens (pred n) false r) (λ ts r₂. got (t ∷ ts) r₂)))
+          (λ t r. when (first || not (isDeclaration t)) (thenRead (readTokens (pred n) false r) (λ ts r₂. got (t ∷ ts) r₂)))
       more zero k e = absurd (omega arith)
       more (suc n) k e = read-more n first (drop at s) (some-left h)
 

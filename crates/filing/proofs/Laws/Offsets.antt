@@ -1,21 +1,19 @@
 -- Names, marks, values and attributes from an offset: how far each goes, by the bytes that the code looks at.
-use Prim.Native.Nat.{ℕ, zero, suc, _+_, _-_, _≤_, _<_}
+use Prim.Native.Nat.{ℕ, _+_, _-_, _≤_, _<_}
 use native.Mathlib.Omega.{arith}
 use native.Mathlib.Numerals.{add-one}
-use mathlib.Core.Path.{_≡_, refl, sym, ap, ap₂, _∙_}
-use mathlib.Core.Bool.{Bool, true, false, cond}
+use mathlib.Core.Path.{_≡_, refl, sym, ap, _∙_}
+use mathlib.Core.Bool.{Bool, true, false}
 use mathlib.Core.List.{List, [], _∷_, _++_, append-assoc}
-use lib.Dec.{eqb}
 use borrow.Author.Tests.{eq-eqb, ne-eqb}
 use lib.ListN.{length, getD, drop, length-append, length-drop, drop-of-length-le}
 use lib.Seq.{drop-cons, drop-append-seam, drop-drop}
-use Rattle.notation.specs.Names.{Name, beginsName, inName}
-use Rattle.filing.specs.declared.tags.Reach.{Reach}
+use Rattle.notation.specs.Names.{beginsName, inName}
 use Rattle.filing.specs.declared.tags.Reach.the-variants.{No, To}
-use Rattle.filing.specs.Tokens.{Part, printParts, Quote, double, single, quoteByte, blank, inValue, Attribute, attribute}
+use Rattle.filing.specs.Tokens.{Part, printParts, quoteByte, blank, inValue, attribute}
 use Rattle.filing.specs.Reading.{Read, fail, got, thenRead, front, back, readWord, readName, readQuote, readParts, readAttributeFrom}
 use Rattle.filing.specs.Reaches.{reachOf, quotedReach, valueReach}
-use Rattle.filing.proofs.Laws.ReadSound.{Holds, holds-map, front-back, name-sound, word-sound, parts-sound}
+use Rattle.filing.proofs.Laws.ReadSound.{holds-map, front-back, name-sound, word-sound, parts-sound}
 use Rattle.filing.proofs.Laws.Reaches.{Suffix, reached}
 use Rattle.filing.proofs.Laws.Values.{reach-no, reach-map}
 

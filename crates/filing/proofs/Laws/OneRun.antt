@@ -1,15 +1,14 @@
 -- At most one list of tokens prints to given bytes: reading finds it.
 use Prim.Native.Nat.{ℕ, zero, suc, _≤_}
 use native.Mathlib.Omega.{arith}
-use mathlib.Core.Path.{_≡_, refl, sym, ap, _∙_}
+use mathlib.Core.Path.{_≡_, refl}
 use mathlib.Core.Bool.{Bool, true, false, not, _&&_, _||_, true≢false, false≢true}
 use mathlib.Core.List.{List, [], _∷_, _++_}
 use borrow.Author.Tests.{not-true}
 use lib.ListN.{length, length-append}
 use Rattle.notation.specs.Form.{every, nonEmpty}
-use Rattle.notation.proofs.Laws.Innermost.{cases}
-use Rattle.filing.specs.Tokens.{Part, Token, declaration, comment, startTag, emptyTag, endTag, text, declarationBytes, printParts, printToken, printTokens, formedToken, formedText, isText, isDeclaration, textFirst, textsApart, declarationFirst, formedRun, RunOfTokens}
-use Rattle.filing.specs.Reading.{Read, got, thenRead, when, textEnds, readToken, readTokens, readReport}
+use Rattle.filing.specs.Tokens.{Part, Token, declaration, comment, startTag, emptyTag, endTag, text, declarationBytes, printToken, printTokens, formedToken, formedText, isText, isDeclaration, textFirst, textsApart, declarationFirst, formedRun, RunOfTokens}
+use Rattle.filing.specs.Reading.{got, thenRead, when, textEnds, readToken, readTokens, readReport}
 use Rattle.filing.proofs.Laws.Bytes.{left, right}
 use Rattle.filing.proofs.Laws.ReadBack.{parts-length, token-back}
 

@@ -5,11 +5,11 @@ use mathlib.Core.List.{List, [], _∷_, _++_, dropLast, append-assoc, append-nil
 use Rattle.notation.specs.Names.{Name}
 use Rattle.notation.specs.Sets.{Path}
 use Rattle.notation.specs.Fit.{Fits}
-use Rattle.filing.specs.Tree.{Node, element, text, comment, Nodes, none, _then_, Document, Place, kindAt}
+use Rattle.filing.specs.Tree.{Node, element, text, comment, Nodes, none, _then_, Place, kindAt}
 use Rattle.filing.specs.XPath.{IsElement, selected}
 use Rattle.filing.specs.Tokens.{Token}
 use Rattle.filing.specs.NameList.{namesTo, listsOf, listsIn, nameLists}
-use Rattle.filing.specs.Document.{Event, opening, closing, textHere, commentHere, eventsOf, eventsAt, eventsIn, TreeOf, keep, documentOf, passed}
+use Rattle.filing.specs.Document.{Event, closing, eventsOf, eventsAt, eventsIn, TreeOf, keep, documentOf, passed}
 use Rattle.filing.proofs.Laws.Select.{selects-some}
 use Rattle.filing.proofs.Laws.Listed.{listed-is}
 

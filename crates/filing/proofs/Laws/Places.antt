@@ -2,14 +2,13 @@
 use Prim.Native.Nat.{ℕ, zero, suc, _+_, _≤_, _<_}
 use native.Mathlib.Omega.{arith}
 use mathlib.Core.Path.{_≡_, refl, sym, ap, _∙_}
-use mathlib.Core.Logic.{_⊎_, inl, inr}
-use mathlib.Core.Bool.{Bool, true, false, false≢true}
-use mathlib.Core.List.{List, [], _∷_, _++_}
+use mathlib.Core.Logic.{inl, inr}
+use mathlib.Core.Bool.{true, false≢true}
+use mathlib.Core.List.{[], _∷_}
 use lib.ListN.{length, getD, drop, length-append, List·getD-append}
 use lib.Seq.{getD-at}
-use Rattle.notation.specs.Names.{Name}
-use Rattle.filing.specs.Tree.{Document, Place, Kind, Node, element, text, comment, Nodes, none, _then_, elementNode, kindOf, childrenOf, kindIn, childrenIn, childrenAt, kindAt, isNode}
-use Rattle.filing.specs.XPath.{Child, Descendant, aChild, aChildOf, OnAxis, descendant-or-self, IsElement}
+use Rattle.filing.specs.Tree.{Document, Place, Kind, Node, element, text, comment, Nodes, none, _then_, kindOf, childrenOf, kindIn, childrenIn, childrenAt, kindAt, isNode}
+use Rattle.filing.specs.XPath.{Descendant, aChild, aChildOf, OnAxis, descendant-or-self, IsElement}
 use Rattle.filing.specs.NameList.{nameOf, namesTo}
 
 -- only elements have children

@@ -1,22 +1,20 @@
 -- Readings from an offset: how far they go, and what is left, by offsets.
-use Prim.Native.Nat.{ℕ, zero, suc, _+_, _-_, _≤_, _<_}
+use Prim.Native.Nat.{ℕ, _+_, _-_, _≤_}
 use native.Mathlib.Omega.{arith}
-use native.Mathlib.Numerals.{add-one}
-use mathlib.Core.Path.{_≡_, refl, sym, ap, _∙_}
-use mathlib.Core.Bool.{Bool, true, false, _&&_, false≢true}
+use mathlib.Core.Path.{_≡_, sym, ap, _∙_}
+use mathlib.Core.Bool.{Bool, true, false, false≢true}
 use mathlib.Core.List.{List, [], _∷_, _++_}
 use lib.Dec.{eqb}
-use borrow.Author.Tests.{eq-eqb, ne-eqb}
-use lib.ListN.{length, getD, drop, length-append, length-drop, drop-of-length-le}
-use lib.Seq.{drop-cons, drop-append-seam, drop-drop}
+use lib.ListN.{length, drop, length-append, length-drop}
+use lib.Seq.{drop-append-seam, drop-drop}
 use Rattle.notation.specs.Names.{Name}
 use Rattle.filing.specs.declared.tags.Reach.{Reach}
 use Rattle.filing.specs.declared.tags.Reach.the-variants.{No, To}
-use Rattle.filing.specs.Tokens.{Part, amp, lt, gt, quot, apos, begins}
-use Rattle.filing.specs.Reading.{Read, fail, got, thenRead, front, back, readReference, readParts}
+use Rattle.filing.specs.Tokens.{amp, lt, gt, quot, apos, begins}
+use Rattle.filing.specs.Reading.{Read, fail, got, readReference}
 use Rattle.filing.specs.Reaches.{reachOf}
-use Rattle.filing.proofs.Laws.Bytes.{left, right}
-use Rattle.filing.proofs.Laws.ReadSound.{Holds, failed, gotten, holds-map, holds-got, reference-sound, parts-sound}
+use Rattle.filing.proofs.Laws.Bytes.{right}
+use Rattle.filing.proofs.Laws.ReadSound.{Holds, holds-got}
 
 -- what was read stands in front of what is left
 abbrev pub Suffix : {A : Type 0} → List ℕ → Read A → Type 0

@@ -1,19 +1,17 @@
 -- Reading gives back what was printed, part by part, and leaves what stands after it.
-use Prim.Native.Nat.{ℕ, zero, suc, _≤_, _<_}
+use Prim.Native.Nat.{ℕ, zero, suc, _≤_}
 use native.Mathlib.Omega.{arith}
 use mathlib.Core.Path.{_≡_, refl, sym, ap, _∙_}
-use mathlib.Core.Logic.{_⊎_, inl, inr, ⊎-elim}
-use mathlib.Core.Bool.{Bool, true, false, not, _&&_, _||_, true≢false, false≢true, and-false, cond}
+use mathlib.Core.Bool.{Bool, true, false, not, _&&_, false≢true, and-false}
 use mathlib.Core.List.{List, [], _∷_, _++_, append-assoc}
 use lib.Dec.{eqb}
-use borrow.Author.Tests.{eqb-true, ne-eqb, eq-eqb, not-true}
+use borrow.Author.Tests.{eqb-true, eq-eqb, not-true}
 use lib.ListN.{length, length-append}
-use Rattle.notation.specs.Names.{Name, letter, digit, beginsName, inName, allInName, nameForm}
+use Rattle.notation.specs.Names.{Name, letter, digit, beginsName, inName, nameForm}
 use Rattle.notation.specs.Form.{every, nonEmpty}
-use Rattle.notation.proofs.Laws.Innermost.{cases}
-use Rattle.filing.specs.Tokens.{blank, listed, isEntity, inText, inValue, Part, plain, reference, Quote, double, single, quoteByte, Attribute, attribute, Token, declaration, comment, startTag, emptyTag, endTag, text, declarationBytes, printPart, printParts, printAttribute, printAttributes, printToken, printTokens, begins, occurs, endsIn, formedPart, formedAttribute, formedTag, formedComment, formedText, formedToken, isText, isDeclaration, textFirst, textsApart, declarationFirst, formedRun}
-use Rattle.filing.specs.Reading.{Read, fail, got, thenRead, when, front, back, readWord, readName, readQuote, readReference, readParts, readAttributeFrom, readAttribute, nameAhead, attributeAhead, readAttributes, readTagEnd, readTag, readEndTag, readContents, readComment, readMarkup, textEnds, readText, readToken, readTokens, readReport}
-use Rattle.filing.proofs.Laws.Bytes.{left, right, neither, every-head, every-rest, either, differs, blank-no-name, name-no-blank, entity-cases, text-no-amp, text-no-less, value-text, all-in-name, stops, front-stop, back-stop, front-of, back-of}
+use Rattle.filing.specs.Tokens.{blank, listed, isEntity, inText, inValue, Part, plain, reference, Quote, double, single, quoteByte, Attribute, attribute, Token, declaration, comment, startTag, emptyTag, endTag, text, declarationBytes, printPart, printParts, printAttribute, printAttributes, printToken, begins, occurs, endsIn, formedPart, formedAttribute, formedTag, formedComment, formedText, formedToken, isText}
+use Rattle.filing.specs.Reading.{got, front, readWord, readName, readQuote, readReference, readParts, readAttributeFrom, readAttribute, nameAhead, attributeAhead, readAttributes, readTagEnd, readTag, readEndTag, readContents, readComment, readMarkup, textEnds, readText, readToken}
+use Rattle.filing.proofs.Laws.Bytes.{left, right, neither, every-head, every-rest, differs, blank-no-name, name-no-blank, entity-cases, text-no-amp, text-no-less, value-text, all-in-name, stops, front-of, back-of}
 
 name-back : (n r : List ℕ) → nameForm n ≡ true → stops inName r ≡ true → readName (n ++ r) ≡ got n r
 unfolding nameForm readName

@@ -1,19 +1,19 @@
 -- What was read is within its rule and prints to what stood there.
-use Prim.Native.Nat.{ℕ, zero, suc, _≤_}
+use Prim.Native.Nat.{ℕ, zero, suc}
 use native.Mathlib.Omega.{arith}
 use mathlib.Core.Path.{_≡_, refl, sym, ap, _∙_}
 use mathlib.Core.Bool.{Bool, true, false, not, _&&_, _||_, true≢false, false≢true, and-true, and-false, cond}
-use mathlib.Core.List.{List, [], _∷_, _++_, append-assoc, tail-eq-of-cons-eq}
+use mathlib.Core.List.{List, [], _∷_, _++_, append-assoc}
 use lib.Dec.{eqb}
-use borrow.Author.Tests.{eqb-true, eq-eqb, not-true}
+use borrow.Author.Tests.{eqb-true}
 use lib.ListN.{length, drop}
-use Rattle.notation.specs.Names.{Name, letter, digit, beginsName, inName, allInName, nameForm}
+use Rattle.notation.specs.Names.{Name, beginsName, inName, nameForm}
 use Rattle.notation.specs.Form.{every, nonEmpty}
 use Rattle.notation.specs.Activity.{sameName}
 use Rattle.notation.proofs.Laws.Innermost.{cases}
-use Rattle.filing.specs.Tokens.{blank, listed, amp, lt, gt, quot, apos, isEntity, inText, inValue, Part, plain, reference, Quote, double, single, quoteByte, Attribute, attribute, Token, declaration, comment, startTag, emptyTag, endTag, text, declarationBytes, printPart, printParts, printAttribute, printAttributes, printToken, printTokens, begins, occurs, endsIn, formedPart, formedAttribute, formedTag, formedComment, formedText, formedToken, isText, isDeclaration, textFirst, textsApart, declarationFirst, formedRun, RunOfTokens}
-use Rattle.filing.specs.Reading.{Read, fail, got, thenRead, when, front, back, readWord, readName, readQuote, readReference, readParts, readAttributeFrom, readAttribute, nameAhead, attributeAhead, readAttributes, readTagEnd, readTag, readEndTag, readContents, readComment, readMarkup, textEnds, readText, readToken, readTokens, readReport}
-use Rattle.filing.proofs.Laws.Bytes.{left, right, join, neither, all-in-name, text-no-less}
+use Rattle.filing.specs.Tokens.{blank, listed, amp, lt, gt, quot, apos, isEntity, inText, inValue, Part, plain, reference, Quote, quoteByte, Attribute, attribute, Token, declaration, comment, startTag, emptyTag, endTag, text, declarationBytes, printPart, printParts, printAttribute, printAttributes, printToken, printTokens, begins, occurs, endsIn, formedPart, formedAttribute, formedTag, formedComment, formedText, formedToken, isText, isDeclaration, textFirst, textsApart, formedRun, RunOfTokens}
+use Rattle.filing.specs.Reading.{Read, fail, got, thenRead, when, front, back, readWord, readName, readQuote, readReference, readParts, readAttributeFrom, readAttribute, attributeAhead, readAttributes, readTagEnd, readTag, readEndTag, readContents, readComment, readMarkup, textEnds, readText, readToken, readTokens, readReport}
+use Rattle.filing.proofs.Laws.Bytes.{left, right, join, all-in-name, text-no-less}
 use Rattle.filing.proofs.Laws.ReadBack.{spread}
 use Rattle.filing.proofs.Laws.OneRun.{declared, run-back}
 

@@ -2,17 +2,17 @@
 use Prim.Native.Nat.{ℕ, zero, suc, _+_, _-_, _≤_, _<_, pred}
 use native.Mathlib.Omega.{arith}
 use mathlib.Core.Path.{_≡_, refl, sym, ap, _∙_}
-use mathlib.Core.Logic.{_↔_, _⊎_, inl, inr}
+use mathlib.Core.Logic.{_↔_}
 use mathlib.Core.Bool.{true}
-use mathlib.Core.List.{List, [], _∷_}
-use lib.ListN.{length, getD, drop, length-drop}
+use mathlib.Core.List.{[], _∷_}
+use lib.ListN.{length, drop, length-drop}
 use lib.Seq.{drop-cons, drop-length, drop-drop}
 use Rattle.notation.specs.Names.{Name}
 use Rattle.notation.specs.Sets.{Test, label, star, Step, step, Path, axisOf, testOf, child as slash, descendant as doubleSlash}
-use Rattle.notation.specs.Fit.{Takes, stepAt, nameAt, Fits}
-use Rattle.filing.specs.Tree.{Document, Place, Kind, elementNode, documentNode, kindAt, isNode}
+use Rattle.notation.specs.Fit.{Takes, stepAt, Fits}
+use Rattle.filing.specs.Tree.{Document, Place, Kind, elementNode, kindAt, isNode}
 use Rattle.filing.specs.XPath.{LocationPath, start, IsElement, Passes, nodeTest, selects, withStep, spelled, selected}
-use Rattle.filing.specs.NameList.{nameOf, namesTo}
+use Rattle.filing.specs.NameList.{namesTo}
 use Rattle.filing.proofs.Laws.Places.{no-element, parent-node, above-or-self, self-or-above-to, self-or-above-from, names-length, names-at}
 use Rattle.filing.proofs.Laws.Chain.{Link, Chain, nothing-yet, one-more, one-less, fits-chain, chain-fits}
 

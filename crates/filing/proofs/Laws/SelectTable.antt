@@ -5,7 +5,6 @@ use mathlib.Core.Bool.{Bool, true, false, _&&_, _||_, or-true, false≢true, and
 use mathlib.Core.List.{List, [], _∷_, List·Memᴰ, List·Memᴰ·head, List·Memᴰ·tail, List·Memᴰ·not-nil, List·Memᴰ·cases-cons}
 use Rattle.notation.specs.Names.{Name}
 use Rattle.notation.specs.Sets.{Path}
-use Rattle.notation.specs.Fit.{Fits}
 use Rattle.notation.specs.Activity.{sameName, here, activeIn, seenIn, fits}
 use Rattle.notation.proofs.Laws.Innermost.{cases}
 use Rattle.notation.proofs.Laws.Fit.{fits-is}

@@ -1,17 +1,17 @@
 -- One step of a scan: what a test of the bytes from an offset is, by the byte there.
-use Prim.Native.Nat.{ℕ, zero, suc, _+_, _≤_, _<_}
+use Prim.Native.Nat.{ℕ, suc, _+_, _≤_, _<_}
 use native.Mathlib.Omega.{arith}
 use native.Mathlib.Numerals.{add-one}
 use mathlib.Core.Path.{_≡_, refl, sym, ap, _∙_}
 use mathlib.Core.Bool.{Bool, true, false, _&&_, and-false}
-use mathlib.Core.List.{List, [], _∷_, _++_}
+use mathlib.Core.List.{List, [], _∷_}
 use lib.Dec.{eqb}
 use borrow.Author.Tests.{eq-eqb, ne-eqb}
-use lib.ListN.{length, getD, drop, drop-of-length-le, length-drop}
+use lib.ListN.{length, getD, drop, drop-of-length-le}
 use lib.Seq.{drop-cons}
 use Rattle.notation.specs.Form.{every}
 use Rattle.filing.specs.Tokens.{begins}
-use Rattle.filing.specs.Reading.{front, back}
+use Rattle.filing.specs.Reading.{front}
 
 module _ (ok : ℕ → Bool) (s : List ℕ) (i : ℕ) where
   pub every-no : i < length s → ok (getD s i 0) ≡ false → every ok (drop i s) ≡ false

@@ -1,19 +1,19 @@
 -- A tag's name is a part of the bytes, between the offsets that the token at its own offset gives; and it is the name of the one whole tag
 -- that begins there.
-use Prim.Native.Nat.{ℕ, zero, suc, _+_, _-_, _≤_, _<_}
+use Prim.Native.Nat.{ℕ, _+_, _-_, _≤_}
 use native.Mathlib.Omega.{arith}
-use mathlib.Core.Path.{_≡_, refl, sym, ap, ap₂, _∙_}
-use mathlib.Core.Bool.{Bool, true, false, true≢false}
+use mathlib.Core.Path.{_≡_, refl, sym, ap, _∙_}
+use mathlib.Core.Bool.{true, false, true≢false}
 use mathlib.Core.List.{List, [], _∷_, _++_, append-assoc}
 use lib.ListN.{length, take, drop, length-append, length-drop}
 use lib.Seq.{take-append-seam, drop-append-seam, drop-drop}
 use Rattle.notation.specs.Names.{Name}
 use Rattle.filing.specs.declared.tokens.Found.{Found}
 use Rattle.filing.specs.Tokens.{Token, declaration, comment, startTag, emptyTag, endTag, text, printAttributes, printToken, formedToken, isText}
-use Rattle.filing.specs.Reading.{Read, fail, got, textEnds, readToken}
+use Rattle.filing.specs.Reading.{Read, fail, got, readToken}
 use Rattle.filing.specs.Seen.{shown, foundOf, nameOfToken, tagName, nameFrom, nameTo}
 use Rattle.filing.proofs.Laws.ReadBack.{token-back}
-use Rattle.filing.proofs.Laws.ReadSound.{Holds, failed, gotten, holds-got, Good, token-sound}
+use Rattle.filing.proofs.Laws.ReadSound.{Holds, holds-got, Good, token-sound}
 
 -- a name that stands between two offsets
 pub record Cut (s : List ℕ) (from to : ℕ) (n : Name) : Type 0 where

@@ -1,24 +1,23 @@
 -- Tags from an offset, by what their parts reach.
-use Prim.Native.Nat.{ℕ, zero, suc, _+_, _-_, _≤_, _<_}
+use Prim.Native.Nat.{ℕ, suc, _+_, _-_, _≤_, _<_}
 use native.Mathlib.Omega.{arith}
 use native.Mathlib.Numerals.{add-one}
 use mathlib.Core.Path.{_≡_, refl, sym, ap, ap₂, _∙_}
-use mathlib.Core.Bool.{Bool, true, false, cond}
+use mathlib.Core.Bool.{cond}
 use mathlib.Core.List.{List, [], _∷_, _++_, append-assoc}
 use lib.Dec.{eqb, ltb}
-use borrow.Author.Tests.{eq-eqb, ne-eqb, lt-ltb, le-ltb, eqb-true, eqb-false, ltb-true, ltb-false}
+use borrow.Author.Tests.{eq-eqb, ne-eqb, eqb-true, eqb-false, ltb-true, ltb-false}
 use lib.ListN.{length, getD, drop, length-append, length-drop, drop-of-length-le}
 use lib.Seq.{drop-cons}
 use Rattle.notation.specs.Names.{Name}
 use Rattle.notation.proofs.Laws.Innermost.{cases}
 use Rattle.filing.specs.declared.tags.Reach.the-variants.{No, To}
-use Rattle.filing.specs.declared.tokens.Found.{Found}
-use Rattle.filing.specs.declared.tokens.Found.the-variants.{Nothing, Declaration, Comment, Start, Empty, End, Text}
-use Rattle.filing.specs.Tokens.{blank, Attribute, printAttributes, Token, startTag, emptyTag, endTag}
+use Rattle.filing.specs.declared.tokens.Found.the-variants.{Nothing, Start, Empty, End}
+use Rattle.filing.specs.Tokens.{blank, Attribute, printAttributes, emptyTag}
 use Rattle.filing.specs.Reading.{Read, fail, got, thenRead, front, back, readWord, readName, readAttributes, readTagEnd, readTag, readEndTag}
 use Rattle.filing.specs.Reaches.{reachOf, insideReach}
 use Rattle.filing.specs.Seen.{foundOf, tagEndOf}
-use Rattle.filing.proofs.Laws.ReadSound.{Holds, holds-map, holds-got, then-holds, gotten, front-back, name-sound, attributes-sound}
+use Rattle.filing.proofs.Laws.ReadSound.{holds-got, then-holds, gotten, front-back, name-sound, attributes-sound}
 use Rattle.filing.proofs.Laws.Reaches.{Suffix, reached}
 use Rattle.filing.proofs.Laws.Values.{reach-no}
 use Rattle.filing.proofs.Laws.Offsets.{name-suffix, mark-suffix, left-at}

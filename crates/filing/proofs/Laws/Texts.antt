@@ -1,13 +1,13 @@
 -- Texts from an offset, part by part.
-use Prim.Native.Nat.{ℕ, zero, suc, _+_, _-_, _≤_, _<_}
+use Prim.Native.Nat.{ℕ, suc, _+_, _-_, _≤_, _<_}
 use native.Mathlib.Omega.{arith}
 use native.Mathlib.Numerals.{add-one}
-use mathlib.Core.Path.{_≡_, refl, sym, ap, ap₂, _∙_}
-use mathlib.Core.Bool.{Bool, true, false, not, _&&_, _||_, cond, false≢true, true≢false, and-false, and-true, or-false, or-true}
+use mathlib.Core.Path.{_≡_, refl, sym, ap, _∙_}
+use mathlib.Core.Bool.{Bool, true, false, not, _&&_, _||_, cond, and-false, and-true, or-false, or-true}
 use mathlib.Core.List.{List, [], _∷_, _++_}
-use lib.Dec.{eqb, ltb}
-use borrow.Author.Tests.{eq-eqb, ne-eqb, eqb-true, lt-ltb, le-ltb, not-true}
-use lib.ListN.{length, getD, drop, length-append, length-drop, drop-of-length-le}
+use lib.Dec.{eqb}
+use borrow.Author.Tests.{eq-eqb, ne-eqb, eqb-true, not-true}
+use lib.ListN.{length, getD, drop, length-drop, drop-of-length-le}
 use lib.Seq.{drop-cons}
 use Rattle.notation.specs.Names.{Name}
 use Rattle.notation.specs.Form.{every, nonEmpty}
@@ -18,9 +18,9 @@ use Rattle.filing.specs.declared.tokens.Found.the-variants.{Nothing, Tex
 use Rattle.filing.specs.Tokens.{Part, plain, reference, printPart, printParts, text, blank, listed, inText, isEntity, begins, occurs}
 use Rattle.filing.specs.Reading.{Read, fail, got, thenRead, when, readReference, readParts, textEnds, readText}
 use Rattle.filing.specs.Reaches.{reachOf}
-use Rattle.filing.specs.Seen.{foundOf, textFound}
-use Rattle.filing.proofs.Laws.Bytes.{left, right, neither, entity-cases, text-no-less}
-use Rattle.filing.proofs.Laws.ReadSound.{Holds, failed, gotten, holds-map, holds-got, parts-sound, reference-sound}
+use Rattle.filing.specs.Seen.{foundOf}
+use Rattle.filing.proofs.Laws.Bytes.{left, right, entity-cases}
+use Rattle.filing.proofs.Laws.ReadSound.{Holds, holds-map, holds-got, parts-sound, reference-sound}
 use Rattle.filing.proofs.Laws.Reaches.{reached}
 use Rattle.filing.proofs.Laws.Values.{reach-no, reference-suffix, parts-enough}
 

@@ -1,18 +1,17 @@
 -- The token at an offset, by its first bytes; and a tag's name there.
-use Prim.Native.Nat.{ℕ, zero, suc, _+_, _-_, _≤_, _<_}
+use Prim.Native.Nat.{ℕ, suc, _+_, _≤_, _<_}
 use native.Mathlib.Omega.{arith}
-use native.Mathlib.Numerals.{add-one, add-two}
+use native.Mathlib.Numerals.{add-one}
 use mathlib.Core.Path.{_≡_, refl, sym, ap, _∙_}
-use mathlib.Core.Bool.{Bool, true, false, cond}
-use mathlib.Core.List.{List, [], _∷_, _++_}
-use lib.Dec.{eqb}
+use mathlib.Core.Bool.{true, false}
+use mathlib.Core.List.{List, _∷_}
 use borrow.Author.Tests.{eq-eqb, ne-eqb}
 use lib.ListN.{length, getD, drop, length-drop, drop-of-length-le}
 use lib.Seq.{drop-cons}
 use Rattle.filing.specs.declared.tokens.Found.{Found}
 use Rattle.filing.specs.declared.tokens.Found.the-variants.{Nothing, Declaration}
-use Rattle.filing.specs.Tokens.{declarationBytes, declaration, begins}
-use Rattle.filing.specs.Reading.{Read, fail, got, thenRead, readWord, readTag, readEndTag, readComment, readMarkup, readText, readToken}
+use Rattle.filing.specs.Tokens.{declarationBytes, begins}
+use Rattle.filing.specs.Reading.{readTag, readEndTag, readComment, readMarkup, readText, readToken}
 use Rattle.filing.specs.Seen.{foundOf, declarationAt}
 use Rattle.filing.proofs.Laws.Reaches.{word-fits}
 use Rattle.filing.proofs.Laws.Comments.{word-is}

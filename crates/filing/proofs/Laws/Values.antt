@@ -1,5 +1,5 @@
 -- The parts of a value from an offset, by the byte there.
-use Prim.Native.Nat.{ℕ, zero, suc, _+_, _-_, _≤_, _<_}
+use Prim.Native.Nat.{ℕ, zero, suc, _+_, _≤_, _<_}
 use native.Mathlib.Omega.{arith}
 use native.Mathlib.Numerals.{add-one}
 use mathlib.Core.Path.{_≡_, refl, sym, ap, ap₂, _∙_}
@@ -9,13 +9,12 @@ use lib.Dec.{eqb}
 use borrow.Author.Tests.{eq-eqb, ne-eqb}
 use lib.ListN.{length, getD, drop, length-append, length-drop, drop-of-length-le}
 use lib.Seq.{drop-cons}
-use Rattle.notation.specs.Names.{Name}
 use Rattle.filing.specs.declared.tags.Reach.{Reach}
 use Rattle.filing.specs.declared.tags.Reach.the-variants.{No, To}
 use Rattle.filing.specs.Tokens.{Part, plain, reference}
 use Rattle.filing.specs.Reading.{Read, fail, got, thenRead, readReference, readParts}
 use Rattle.filing.specs.Reaches.{reachOf}
-use Rattle.filing.proofs.Laws.ReadSound.{Holds, failed, gotten, holds-map, reference-sound, parts-sound}
+use Rattle.filing.proofs.Laws.ReadSound.{Holds, failed, gotten, holds-map, reference-sound}
 use Rattle.filing.proofs.Laws.Reaches.{Suffix, never, reached}
 
 pub then-same : {A B : Type 0} {P : A → List ℕ → Type 0} {m : Read A} {k j : A → List ℕ → Read B}

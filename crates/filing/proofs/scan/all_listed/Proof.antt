@@ -1,11 +1,11 @@
 -- `filing::scan::all_listed` meets its contract. The loop's invariant: the answer is whether the bytes that are left are listed.
-use Prim.Native.Nat.{ℕ, suc, _+_, _≤_, _<_, _-_}
-use mathlib.Core.Path.{_≡_, refl, sym, ap, _∙_}
+use Prim.Native.Nat.{_≤_, _-_}
+use mathlib.Core.Path.{_≡_, refl, sym, _∙_}
 use native.Mathlib.Omega.{arith}
 use native.Mathlib.Numerals.{add-one}
 use borrow.Author.Needs.{needs}
 use borrow.Author.Tests.{not-true, not-false}
-use lib.ListN.{length, drop, getD}
+use lib.ListN.{length, drop}
 use Rattle.notation.specs.Form.{every}
 use Rattle.filing.specs.Tokens.{listed}
 use Rattle.filing.proofs.Laws.Steps.{every-no, every-yes, every-end}

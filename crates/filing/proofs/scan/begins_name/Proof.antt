@@ -1,6 +1,5 @@
 -- `filing::scan::begins_name` meets its contract: each way gives what the ranges give.
 use mathlib.Core.Path.{sym}
-use native.Mathlib.Omega.{arith}
 use Rattle.filing.proofs.Laws.ByteTests.{begins-low, begins-upper, begins-mid, begins-lower}
 use Rattle.filing.proofs.scan.begins_name.Statement.{statement}
 use Rattle.filing.proofs.scan.begins_name.Tie as tie

@@ -1,5 +1,5 @@
 -- `filing::scan::blank` meets its contract.
-use mathlib.Core.Path.{_≡_, sym, ap}
+use mathlib.Core.Path.{sym, ap}
 use Rattle.filing.specs.Tokens.{blank}
 use Rattle.filing.proofs.Laws.ByteTests.{blank-last}
 use Rattle.filing.proofs.scan.blank.Statement.{statement}

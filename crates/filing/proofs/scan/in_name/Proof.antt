@@ -1,5 +1,5 @@
 -- `filing::scan::in_name` meets its contract.
-use mathlib.Core.Path.{_≡_, refl, sym, ap, _∙_}
+use mathlib.Core.Path.{sym, ap, _∙_}
 use Rattle.notation.specs.Names.{inName, beginsName, letter, digit}
 use Rattle.filing.proofs.Laws.ByteTests.{in-begins, in-low, in-digit}
 use borrow.Author.Needs.{needs}

@@ -1,5 +1,5 @@
 -- `filing::scan::in_text` meets its contract.
-use mathlib.Core.Path.{_≡_, sym, ap, _∙_}
+use mathlib.Core.Path.{sym, ap, _∙_}
 use Rattle.filing.specs.Tokens.{inText, listed}
 use Rattle.filing.proofs.Laws.ByteTests.{text-last}
 use borrow.Author.Needs.{needs}

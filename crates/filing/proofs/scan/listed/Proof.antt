@@ -1,5 +1,5 @@
 -- `filing::scan::listed` meets its contract.
-use mathlib.Core.Path.{_≡_, sym, ap, _∙_}
+use mathlib.Core.Path.{sym, ap}
 use borrow.Author.Tests.{le-leb, lt-leb}
 use Rattle.filing.specs.Tokens.{listed}
 use Rattle.filing.proofs.Laws.ByteTests.{listed-last}

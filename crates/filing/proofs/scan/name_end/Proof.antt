@@ -1,11 +1,10 @@
 -- `filing::scan::name_end` meets its contract. The loop's invariant: the end is as far from here as the bytes that pass go.
-use Prim.Native.Nat.{ℕ, suc, _+_, _≤_, _<_, _-_}
-use mathlib.Core.Path.{_≡_, refl, sym, ap, _∙_}
+use Prim.Native.Nat.{_+_, _≤_, _-_}
+use mathlib.Core.Path.{_≡_, refl, sym, _∙_}
 use native.Mathlib.Omega.{arith}
-use native.Mathlib.Numerals.{add-one}
 use borrow.Author.Needs.{needs}
 use borrow.Author.Tests.{not-true, not-false}
-use lib.ListN.{length, drop, getD}
+use lib.ListN.{length, drop}
 use Rattle.notation.specs.Names.{inName}
 use Rattle.filing.specs.Reading.{front}
 use Rattle.filing.proofs.Laws.Steps.{span-no, span-yes, span-end}

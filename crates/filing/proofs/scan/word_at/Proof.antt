@@ -1,11 +1,9 @@
 -- `filing::scan::word_at` meets its contract. The loop's invariant: the answer is whether the rest of the word stands at the rest of the bytes.
-use Prim.Native.Nat.{ℕ, suc, _+_, _≤_, _<_, _-_}
-use mathlib.Core.Path.{_≡_, refl, sym, ap, _∙_}
+use Prim.Native.Nat.{_+_, _≤_, _-_}
+use mathlib.Core.Path.{_≡_, sym, _∙_}
 use native.Mathlib.Omega.{arith}
 use native.Mathlib.Numerals.{add-one}
-use borrow.Author.Needs.{needs}
-use borrow.Author.Tests.{not-true, not-false}
-use lib.ListN.{length, drop, getD, length-drop}
+use lib.ListN.{length, drop, length-drop}
 use native.Mathlib.Nat.{add-zero, add-suc}
 use Rattle.filing.specs.Tokens.{begins}
 use Rattle.filing.proofs.Laws.Steps.{begins-no, begins-yes, begins-end, begins-short}

@@ -1,7 +1,5 @@
 -- `filing::tags::attribute_end` meets its contract.
-use mathlib.Core.Path.{_≡_, refl, sym, ap, _∙_}
-use native.Mathlib.Omega.{arith}
-use borrow.Author.Tests.{not-true, not-false}
+use mathlib.Core.Path.{sym, _∙_}
 use Rattle.filing.proofs.Laws.Offsets.{attribute-no, attribute-no₂, attribute-to, name-bound, mark-bound}
 use borrow.Author.Needs.{needs}
 use Rattle.filing.proofs.tags.attribute_end.Statement.{statement}

@@ -1,5 +1,5 @@
 -- `filing::tags::in_value` meets its contract.
-use mathlib.Core.Path.{_≡_, sym, _∙_}
+use mathlib.Core.Path.{sym, _∙_}
 use Rattle.filing.proofs.Laws.ByteTests.{value-quote, value-last}
 use borrow.Author.Needs.{needs}
 use Rattle.filing.proofs.tags.in_value.Statement.{statement}

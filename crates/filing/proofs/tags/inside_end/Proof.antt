@@ -1,9 +1,9 @@
 -- `filing::tags::inside_end` meets its contract. The loop's invariant: what is inside the tag from here ends where it ends from the start.
-use Prim.Native.Nat.{ℕ, _+_, _-_, _≤_, _<_}
-use mathlib.Core.Path.{_≡_, refl, sym, ap, _∙_}
+use Prim.Native.Nat.{_-_, _≤_}
+use mathlib.Core.Path.{_≡_, refl, sym, _∙_}
 use native.Mathlib.Omega.{arith}
 use borrow.Author.Tests.{not-true, not-false}
-use lib.ListN.{length, drop}
+use lib.ListN.{length}
 use Rattle.filing.specs.Reaches.{insideReach}
 use Rattle.filing.proofs.Laws.Inside.{no-blanks, no-more, no-name, one-no, one-to}
 use borrow.Author.Needs.{needs}

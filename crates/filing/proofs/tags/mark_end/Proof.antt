@@ -1,7 +1,4 @@
 -- `filing::tags::mark_end` meets its contract.
-use mathlib.Core.Path.{_≡_, refl, sym, ap, _∙_}
-use native.Mathlib.Omega.{arith}
-use borrow.Author.Tests.{not-true, not-false}
 use Rattle.filing.proofs.Laws.Offsets.{mark-none, mark-no, mark-to}
 use borrow.Author.Needs.{needs}
 use Rattle.filing.proofs.tags.mark_end.Statement.{statement}

@@ -1,6 +1,5 @@
 -- `filing::tags::name_reach` meets its contract.
-use mathlib.Core.Path.{_≡_, refl, sym, ap, _∙_}
-use native.Mathlib.Omega.{arith}
+use mathlib.Core.Path.{sym, _∙_}
 use borrow.Author.Tests.{not-true, not-false}
 use Rattle.filing.proofs.Laws.Offsets.{name-none, name-no, name-to}
 use borrow.Author.Needs.{needs}

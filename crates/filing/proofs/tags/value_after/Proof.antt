@@ -1,7 +1,5 @@
 -- `filing::tags::value_after` meets its contract.
-use mathlib.Core.Path.{_≡_, refl, sym, ap, _∙_}
-use native.Mathlib.Omega.{arith}
-use borrow.Author.Tests.{not-true, not-false}
+use mathlib.Core.Path.{_∙_}
 use Rattle.filing.proofs.Laws.Offsets.{value-none, value-double, value-single, value-no}
 use borrow.Author.Needs.{needs}
 use Rattle.filing.proofs.tags.value_after.Statement.{statement}

@@ -1,11 +1,10 @@
 -- `filing::tags::value_end` meets its contract. The loop's invariant: the parts from here go as far as those from the start.
-use Prim.Native.Nat.{ℕ, suc, _+_, _≤_, _<_, _-_}
-use mathlib.Core.Path.{_≡_, refl, sym, ap, _∙_}
+use Prim.Native.Nat.{_≤_, _-_}
+use mathlib.Core.Path.{_≡_, refl, sym, _∙_}
 use native.Mathlib.Omega.{arith}
-use native.Mathlib.Numerals.{add-one}
 use borrow.Author.Needs.{needs}
 use borrow.Author.Tests.{not-true, not-false}
-use lib.ListN.{length, drop, getD}
+use lib.ListN.{length}
 use Rattle.filing.specs.Tokens.{inValue}
 use Rattle.filing.proofs.Laws.Values.{PartsReach, amp-no, amp-to, plain-on, plain-off, parts-end}
 use Rattle.filing.proofs.tags.value_end.Statement.{statement}

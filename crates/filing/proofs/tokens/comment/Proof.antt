@@ -1,9 +1,7 @@
 -- `filing::tokens::comment` meets its contract.
-use Prim.Native.Nat.{ℕ, _+_, _-_, _≤_, _<_}
-use mathlib.Core.Path.{_≡_, refl, sym, ap, _∙_}
+use mathlib.Core.Path.{sym, _∙_}
 use native.Mathlib.Omega.{arith}
 use borrow.Author.Tests.{not-true, not-false}
-use lib.ListN.{length, drop, getD}
 use Rattle.filing.proofs.Laws.Comments.{comment-off, comment-bound, comment-no, comment-to}
 use borrow.Author.Needs.{needs}
 use Rattle.filing.proofs.tokens.comment.Statement.{statement}

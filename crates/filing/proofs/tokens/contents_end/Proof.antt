@@ -1,10 +1,9 @@
 -- `filing::tokens::contents_end` meets its contract. The loop's invariant: the contents from here end where those from the start end.
-use Prim.Native.Nat.{ℕ, _+_, _-_, _≤_, _<_}
-use mathlib.Core.Path.{_≡_, refl, sym, ap, _∙_}
+use Prim.Native.Nat.{_-_, _≤_}
+use mathlib.Core.Path.{_≡_, refl, sym, _∙_}
 use native.Mathlib.Omega.{arith}
-use borrow.Author.Tests.{not-true, not-false, lt-ltb, le-ltb}
-use lib.Dec.{ltb}
-use lib.ListN.{length, drop, getD}
+use borrow.Author.Tests.{not-true, not-false}
+use lib.ListN.{length}
 use Rattle.filing.proofs.Laws.Comments.{Contents, close-to, close-no, close-fits, foreign, onwards, unclosed}
 use borrow.Author.Needs.{needs}
 use Rattle.filing.proofs.tokens.contents_end.Statement.{statement}

@@ -1,10 +1,7 @@
 -- `filing::tokens::declaration` meets its contract.
-use Prim.Native.Nat.{ℕ, _+_, _-_, _≤_, _<_}
-use mathlib.Core.Path.{_≡_, refl, sym, ap, _∙_}
-use native.Mathlib.Omega.{arith}
-use lib.ListN.{length, drop, getD}
+use mathlib.Core.Path.{sym, _∙_}
 use Rattle.filing.specs.Tokens.{declarationBytes}
-use Rattle.filing.proofs.Laws.TokenAt.{declared-to, declared-no, declared-fits}
+use Rattle.filing.proofs.Laws.TokenAt.{declared-to, declared-no}
 use borrow.Author.Needs.{needs}
 use Rattle.filing.proofs.tokens.declaration.Statement.{statement}
 use Rattle.filing.proofs.tokens.declaration.Tie as tie

@@ -1,8 +1,5 @@
 -- `filing::tokens::end_tag` meets its contract.
-use Prim.Native.Nat.{ℕ, _+_, _-_, _≤_, _<_}
-use mathlib.Core.Path.{_≡_, refl, sym, ap, _∙_}
-use native.Mathlib.Omega.{arith}
-use lib.ListN.{length, drop}
+use mathlib.Core.Path.{sym, _∙_}
 use Rattle.filing.proofs.Laws.Offsets.{name-bound}
 use Rattle.filing.proofs.Laws.Tags.{end-no, end-no₂, end-to}
 use borrow.Author.Needs.{needs}

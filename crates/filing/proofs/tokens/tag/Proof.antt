@@ -1,8 +1,7 @@
 -- `filing::tokens::tag` meets its contract.
-use Prim.Native.Nat.{ℕ, _+_, _-_, _≤_, _<_}
-use mathlib.Core.Path.{_≡_, refl, sym, ap, _∙_}
+use Prim.Native.Nat.{_+_}
+use mathlib.Core.Path.{sym, _∙_}
 use native.Mathlib.Omega.{arith}
-use lib.ListN.{length, drop}
 use Rattle.filing.proofs.Laws.Offsets.{name-bound}
 use Rattle.filing.proofs.Laws.Tags.{tag-no, tag-no₂, inside-bound, tag-to}
 use borrow.Author.Needs.{needs}

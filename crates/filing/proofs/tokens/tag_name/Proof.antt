@@ -1,7 +1,5 @@
 -- `filing::tokens::tag_name` meets its contract: the part between the offsets is the name.
-use mathlib.Core.Path.{_≡_, refl, sym, ap, _∙_}
-use native.Mathlib.Omega.{arith}
-use Rattle.filing.proofs.Laws.TagName.{Cut, name-cut}
+use Rattle.filing.proofs.Laws.TagName.{name-cut}
 use borrow.Author.Needs.{needs}
 use Rattle.filing.proofs.tokens.tag_name.Statement.{statement}
 use Rattle.filing.proofs.tokens.tag_name.Tie as tie

@@ -1,11 +1,11 @@
 -- `filing::tokens::text` meets its contract. The loop's invariant: the text is what the parts from here make of it.
-use Prim.Native.Nat.{ℕ, _+_, _-_, _≤_, _<_}
-use mathlib.Core.Path.{_≡_, refl, sym, ap, _∙_}
+use Prim.Native.Nat.{_+_, _-_, _≤_, _<_}
+use mathlib.Core.Path.{_≡_, sym, ap, _∙_}
 use native.Mathlib.Omega.{arith}
 use borrow.Author.Tests.{not-true, not-false, lt-ltb, le-ltb}
 use lib.Dec.{ltb}
-use lib.ListN.{length, drop, getD}
-use mathlib.Core.Bool.{Bool, true, false, _&&_}
+use lib.ListN.{length, drop}
+use mathlib.Core.Bool.{Bool, true, false}
 use Rattle.filing.specs.Reading.{readText}
 use Rattle.filing.specs.Seen.{foundOf}
 use Rattle.filing.proofs.Laws.Texts.{TextFrom, text-start, text-less, text-end, text-foreign, text-amp-no, text-amp, text-section, text-plain}

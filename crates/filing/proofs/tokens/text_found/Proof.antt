@@ -1,10 +1,5 @@
 -- `filing::tokens::text_found` meets its contract.
-use Prim.Native.Nat.{ℕ, _+_, _-_, _≤_, _<_}
-use mathlib.Core.Path.{_≡_, refl, sym, ap, _∙_}
-use native.Mathlib.Omega.{arith}
-use borrow.Author.Tests.{not-true, not-false, lt-ltb, le-ltb}
-use lib.Dec.{ltb}
-use lib.ListN.{length, drop, getD}
+use borrow.Author.Tests.{lt-ltb, le-ltb}
 use Rattle.filing.proofs.tokens.text_found.Statement.{statement}
 use Rattle.filing.proofs.tokens.text_found.Tie as tie
 

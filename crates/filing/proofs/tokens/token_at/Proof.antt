@@ -1,8 +1,5 @@
 -- `filing::tokens::token_at` meets its contract: the first two bytes tell which token is read.
-use Prim.Native.Nat.{ℕ, _+_, _-_, _≤_, _<_}
-use mathlib.Core.Path.{_≡_, refl, sym, ap, _∙_}
-use native.Mathlib.Omega.{arith}
-use lib.ListN.{length, drop, getD}
+use mathlib.Core.Path.{_∙_}
 use Rattle.filing.proofs.Laws.TokenAt.{token-none, token-text, token-short, token-comment, token-end, token-declaration, token-tag}
 use borrow.Author.Needs.{needs}
 use Rattle.filing.proofs.tokens.token_at.Statement.{statement}
