@@ -21,3 +21,4 @@ pub mod Texts
 pub mod TokenAt
 pub mod TagName
 pub mod Next
+pub mod RunAt

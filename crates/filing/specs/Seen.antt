@@ -1,6 +1,6 @@
 -- What the code says of the token at an offset: its kind, its end, where its name stands, whether it is blank.
 use Prim.Native.Nat.{ℕ, _+_, _-_}
-use mathlib.Core.Bool.{Bool, cond}
+use mathlib.Core.Bool.{Bool, true, false, cond}
 use mathlib.Core.List.{List, []}
 use lib.Dec.{eqb, ltb}
 use lib.ListN.{length, getD, drop}
@@ -73,3 +73,27 @@ nameTo (Start from to e) = to
 nameTo (Empty from to e) = to
 nameTo (End from to e) = to
 nameTo (Text e all) = 0
+
+-- where a token ends; whether it is a declaration
+abbrev pub foundEnd : Found → ℕ
+foundEnd Nothing = 0
+foundEnd (Declaration e) = e
+foundEnd (Comment e) = e
+foundEnd (Start from to e) = e
+foundEnd (Empty from to e) = e
+foundEnd (End from to e) = e
+foundEnd (Text e all) = e
+
+abbrev pub declares : Found → Bool
+declares Nothing = false
+declares (Declaration e) = true
+declares (Comment e) = false
+declares (Start from to e) = false
+declares (Empty from to e) = false
+declares (End from to e) = false
+declares (Text e all) = false
+
+-- something was read
+abbrev pub isGot : {A : Type 0} → Read A → Bool
+isGot fail = false
+isGot (got a r) = true

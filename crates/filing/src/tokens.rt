@@ -14,9 +14,9 @@ ghost use lib.ListN.{length, drop};
 ghost use mathlib.Core.Bool.{_&&_};
 ghost use mathlib.Core.List.{[], _∷_};
 ghost use Rattle.filing.specs.Tokens.{begins};
-ghost use Rattle.filing.specs.Reading.{readTag, readEndTag, readContents, readComment, readText, readToken};
+ghost use Rattle.filing.specs.Reading.{readTag, readEndTag, readContents, readComment, readText, readToken, readReport};
 ghost use Rattle.filing.specs.Reaches.{reachOf};
-ghost use Rattle.filing.specs.Seen.{foundOf, tagEndOf, textFound, declarationAt, tagName, nameFrom, nameTo};
+ghost use Rattle.filing.specs.Seen.{foundOf, tagEndOf, textFound, declarationAt, tagName, nameFrom, nameTo, foundEnd, declares, isGot};
 
 // What begins at an offset: nothing that can be read, or a token with its end. Of a tag also where its name begins and ends, of a text
 // whether it is blank.
@@ -264,4 +264,55 @@ pub fn tag_name(s: &[u8], at: usize) -> &[u8]
     let from = p.from;
     let to = p.to;
     &s[from..to]
+}
+
+// Where a token ends; 0 where there is none.
+pub fn end_of(f: Found) -> usize
+    ensures { λ r. ⌜ r ≡ foundEnd f ⌝ }
+{
+    match f {
+        Found::Nothing => 0,
+        Found::Declaration(e) => e,
+        Found::Comment(e) => e,
+        Found::Start(_, _, e) => e,
+        Found::Empty(_, _, e) => e,
+        Found::End(_, _, e) => e,
+        Found::Text(e, _) => e,
+    }
+}
+
+// A declaration.
+pub fn is_declaration(f: Found) -> bool
+    ensures { λ r. ⌜ r ≡ declares f ⌝ }
+{
+    match f {
+        Found::Nothing => false,
+        Found::Declaration(_) => true,
+        Found::Comment(_) => false,
+        Found::Start(_, _, _) => false,
+        Found::Empty(_, _, _) => false,
+        Found::End(_, _, _) => false,
+        Found::Text(_, _) => false,
+    }
+}
+
+// Whether a report is a run of tokens; without that, refusal 9.
+pub fn is_run(s: &[u8]) -> bool
+    ensures { λ r. ⌜ r ≡ isGot (readReport (now (s .entry))) ⌝ }
+{
+    let mut i = 0;
+    while i < s.len() {
+        let f = token_at(s, i);
+        let e = end_of(f);
+        if e <= i {
+            return false;
+        }
+        if i != 0 {
+            if is_declaration(f) {
+                return false;
+            }
+        }
+        i = e;
+    }
+    true
 }
