@@ -22,3 +22,4 @@ pub mod TokenAt
 pub mod TagName
 pub mod Next
 pub mod RunAt
+pub mod OneDocument

@@ -7,7 +7,7 @@ use Rattle.notation.specs.Names.{Name}
 use Rattle.notation.specs.Form.{every}
 use Rattle.notation.specs.Activity.{sameName}
 use Rattle.filing.specs.Tree.{Node, element, text, comment, Nodes, none, _then_, Document}
-use Rattle.filing.specs.Tokens.{Token, declaration, startTag, emptyTag, endTag, text as textToken, comment as commentToken, printParts, blank}
+use Rattle.filing.specs.Tokens.{Token, declaration, startTag, emptyTag, endTag, text as textToken, comment as commentToken, printParts, blank, RunOfTokens}
 
 pub data Event : Type 0 where
   opening : Name → Event
@@ -96,3 +96,16 @@ passed names (opening n ∷ es) = (names ++ (n ∷ [])) ∷ passed (names ++ (n 
 passed names (closing n ∷ es) = passed (dropLast names) es
 passed names (textHere b ∷ es) = passed names es
 passed names (commentHere b ∷ es) = passed names es
+
+-- a report with a document: its bytes are a run of tokens, and these are those of a tree with one root
+pub record Report (bytes : List ℕ) : Type 0 where
+  pub run : RunOfTokens bytes
+  pub tree : TreeOf (run .tokens)
+
+-- the document in which a path selects
+abbrev pub documentIn : {bytes : List ℕ} → Report bytes → Document
+documentIn r = documentOf (r .tree .nodes)
+
+-- the lists of open names that the report's opens pass through
+abbrev pub passedIn : {bytes : List ℕ} → Report bytes → List (List Name)
+passedIn r = passed [] (eventsOf (r .run .tokens))

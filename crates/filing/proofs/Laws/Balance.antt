@@ -144,7 +144,8 @@ mutual
       let (later, after) = same-in xs ys r s f g there in
       (ap₂ _then_ here later, after)
 
--- and of one tree only
-pub one-tree : (ts : List Token) (t u : TreeOf ts) → t .nodes ≡ u .nodes
-one-tree ts t u =
-    same-in (t .nodes) (u .nodes) [] [] refl refl (append-nil (eventsIn (t .nodes)) ∙ t .same ∙ sym (u .same) ∙ sym (append-nil (eventsIn (u .nodes)))) .0
+-- equal tokens are of one tree only
+pub one-tree : (ts us : List Token) → ts ≡ us → (t : TreeOf ts) (u : TreeOf us) → t .nodes ≡ u .nodes
+one-tree ts us e t u =
+    same-in (t .nodes) (u .nodes) [] [] refl refl
+    (append-nil (eventsIn (t .nodes)) ∙ t .same ∙ ap eventsOf e ∙ sym (u .same) ∙ sym (append-nil (eventsIn (u .nodes)))) .0
