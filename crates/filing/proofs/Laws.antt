@@ -23,3 +23,4 @@ pub mod TagName
 pub mod Next
 pub mod RunAt
 pub mod OneDocument
+pub mod AllListed

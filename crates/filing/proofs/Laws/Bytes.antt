@@ -42,11 +42,10 @@ neither false b h = (refl, h)
 pub differs : (ok : ℕ → Bool) (b c : ℕ) → ok b ≡ true → ok c ≡ false → eqb b c ≡ false
 differs ok b c h n = ne-eqb b c (λ e. true≢false (sym h ∙ ap ok e ∙ n))
 
--- a test that fails at the four blanks fails at every blank
-pub blank-fails : (ok : ℕ → Bool) → ok 9 ≡ false → ok 10 ≡ false → ok 13 ≡ false → ok 32 ≡ false
-    → (b : ℕ) → blank b ≡ true → ok b ≡ false
+-- what a test says of the four blanks it says of every blank
+pub at-blank : (ok : ℕ → Bool) (v : Bool) → ok 9 ≡ v → ok 10 ≡ v → ok 13 ≡ v → ok 32 ≡ v → (b : ℕ) → blank b ≡ true → ok b ≡ v
 unfolding blank
-blank-fails ok f₁ f₂ f₃ f₄ b h =
+at-blank ok v f₁ f₂ f₃ f₄ b h =
     ⊎-elim
     (λ h₃. ⊎-elim
     (λ h₂. ⊎-elim (λ h₁. ap ok (eqb-true b 9 h₁) ∙ f₁) (λ h₁. ap ok (eqb-true b 10 h₁) ∙ f₂) (either (eqb b 9) (eqb b 10) h₂))
@@ -57,11 +56,11 @@ blank-fails ok f₁ f₂ f₃ f₄ b h =
 
 pub blank-no-name : (b : ℕ) → blank b ≡ true → inName b ≡ false
 unfolding inName beginsName letter digit
-blank-no-name = blank-fails inName refl refl refl refl
+blank-no-name = at-blank inName false refl refl refl refl
 
 pub name-no-blank : (b : ℕ) → beginsName b ≡ true → blank b ≡ false
 unfolding beginsName letter
-name-no-blank b h = cases (blank b) (λ t. absurd (true≢false (sym h ∙ blank-fails beginsName refl refl refl refl b t))) (λ f. f)
+name-no-blank b h = cases (blank b) (λ t. absurd (true≢false (sym h ∙ at-blank beginsName false refl refl refl refl b t))) (λ f. f)
 
 -- the names of references are five
 pub entity-cases : {X : Type 0} (n : Name) → isEntity n ≡ true → (n ≡ amp → X) → (n ≡ lt → X) → (n ≡ gt → X) → (n ≡ quot → X) → (n ≡ apos → X) → X

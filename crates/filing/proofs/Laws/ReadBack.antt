@@ -100,15 +100,15 @@ quote-back double r = refl
 quote-back single r = refl
 
 -- an attribute within its rule, taken apart
-record Formed (s n before after : List ℕ) (q : Quote) (v : List Part) : Type 0 where
-  some : nonEmpty s ≡ true
-  blanks : every blank s ≡ true
-  name : nameForm n ≡ true
-  blanks₂ : every blank before ≡ true
-  blanks₃ : every blank after ≡ true
-  value : every (formedPart (inValue (quoteByte q))) v ≡ true
+pub record Formed (s n before after : List ℕ) (q : Quote) (v : List Part) : Type 0 where
+  pub some : nonEmpty s ≡ true
+  pub blanks : every blank s ≡ true
+  pub name : nameForm n ≡ true
+  pub blanks₂ : every blank before ≡ true
+  pub blanks₃ : every blank after ≡ true
+  pub value : every (formedPart (inValue (quoteByte q))) v ≡ true
 
-formed-parts : (s n before after : List ℕ) (q : Quote) (v : List Part) → formedAttribute (attribute s n before after q v) ≡ true
+pub formed-parts : (s n before after : List ℕ) (q : Quote) (v : List Part) → formedAttribute (attribute s n before after q v) ≡ true
     → Formed s n before after q v
 unfolding formedAttribute
 formed-parts s n before after q v h =

@@ -1,16 +1,16 @@
 -- Whether a report is a run of tokens, one token at a time; and what that means.
-use Prim.Native.Nat.{ℕ, zero, suc, _-_, _≤_, _<_}
+use Prim.Native.Nat.{ℕ, _-_, _≤_, _<_}
 use native.Mathlib.Omega.{arith}
 use mathlib.Core.Path.{_≡_, refl, sym, ap, _∙_}
 use mathlib.Core.Logic.{_↔_}
 use mathlib.Core.Bool.{Bool, true, false, not, _||_, false≢true, or-true}
-use mathlib.Core.List.{List, [], _∷_}
+use mathlib.Core.List.{List, _∷_}
 use lib.Dec.{eqb}
 use borrow.Author.Tests.{ne-eqb, eq-eqb}
 use lib.ListN.{length, drop}
 use Rattle.filing.specs.declared.tokens.Found.{Found}
 use Rattle.filing.specs.Tokens.{Token, declaration, comment, startTag, emptyTag, endTag, text, isDeclaration, RunOfTokens}
-use Rattle.filing.specs.Reading.{Read, fail, got, thenRead, readToken, readTokens, readReport}
+use Rattle.filing.specs.Reading.{Read, fail, got, thenRead, readToken, readReport}
 use Rattle.filing.specs.Seen.{shown, foundOf, foundEnd, declares, isGot}
 use Rattle.filing.proofs.Laws.ReadSound.{found-run, run-found}
 use Rattle.filing.proofs.Laws.Next.{tokensFrom, token-next, from-end, from-torn, from-late, from-next}
