@@ -4,10 +4,14 @@ pub mod Select
 pub mod Listed
 pub mod SelectTable
 pub mod Bytes
+pub mod PartsBack
+pub mod AttributesBack
 pub mod ReadBack
 pub mod OneRun
 pub mod Balance
 pub mod Passed
+pub mod Holds
+pub mod PartsSound
 pub mod ReadSound
 pub mod ByteTests
 pub mod Steps

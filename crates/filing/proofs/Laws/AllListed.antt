@@ -11,7 +11,7 @@ use Rattle.notation.specs.Names.{within, letter, digit, beginsName, inName, nam
 use Rattle.notation.specs.Form.{every, nonEmpty}
 use Rattle.filing.specs.Tokens.{blank, listed, isEntity, inText, inValue, Part, plain, reference, Quote, double, single, quoteByte, Attribute, attribute, Token, declaration, comment, startTag, emptyTag, endTag, text, declarationBytes, printPart, printParts, printAttribute, printAttributes, printToken, printTokens, formedPart, formedAttribute, formedTag, formedComment, formedText, formedToken, formedRun, RunOfTokens}
 use Rattle.filing.proofs.Laws.Bytes.{left, right, join, every-head, every-rest, either, entity-cases, all-in-name, value-text, at-blank}
-use Rattle.filing.proofs.Laws.ReadBack.{formed-parts}
+use Rattle.filing.proofs.Laws.AttributesBack.{formed-parts}
 
 in-range : (b : ℕ) → 32 ≤ b → b ≤ 126 → listed b ≡ true
 unfolding listed

@@ -14,8 +14,9 @@ use Rattle.filing.specs.Tokens.{blank, inValue, quoteByte, Attribute, pr
 use Rattle.filing.specs.Reading.{Read, fail, got, thenRead, front, back, readWord, readName, readQuote, readParts, readAttributeFrom, readAttribute, attributeAhead, readAttributes}
 use Rattle.filing.specs.Reaches.{reachOf, insideReach}
 use Rattle.filing.proofs.Laws.Bytes.{left, join}
-use Rattle.filing.proofs.Laws.ReadBack.{attribute-length}
-use Rattle.filing.proofs.Laws.ReadSound.{holds-map, holds-got, attribute-sound}
+use Rattle.filing.proofs.Laws.AttributesBack.{attribute-length}
+use Rattle.filing.proofs.Laws.Holds.{holds-map, holds-got}
+use Rattle.filing.proofs.Laws.PartsSound.{attribute-sound}
 use Rattle.filing.proofs.Laws.Reaches.{reached}
 use Rattle.filing.proofs.Laws.Values.{then-same, reach-no}
 use Rattle.filing.proofs.Laws.Offsets.{reach-then, back-at, left-at}

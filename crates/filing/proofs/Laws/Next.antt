@@ -8,7 +8,8 @@ use lib.ListN.{length, drop, length-append, length-drop, drop-of-length-le}
 use Rattle.filing.specs.Tokens.{Token, printToken, isDeclaration}
 use Rattle.filing.specs.Reading.{Read, fail, got, thenRead, when, readToken, readTokens}
 use Rattle.filing.proofs.Laws.OneRun.{token-length, read-more}
-use Rattle.filing.proofs.Laws.ReadSound.{holds-got, Good, token-sound}
+use Rattle.filing.proofs.Laws.Holds.{holds-got}
+use Rattle.filing.proofs.Laws.ReadSound.{Good, token-sound}
 use Rattle.filing.proofs.Laws.Reaches.{suffix-drop}
 use Rattle.filing.proofs.Laws.Values.{then-same}
 

@@ -13,7 +13,8 @@ use Rattle.filing.specs.declared.tags.Reach.the-variants.{No, To}
 use Rattle.filing.specs.Tokens.{Part, printParts, quoteByte, blank, inValue, attribute}
 use Rattle.filing.specs.Reading.{Read, fail, got, thenRead, front, back, readWord, readName, readQuote, readParts, readAttributeFrom}
 use Rattle.filing.specs.Reaches.{reachOf, quotedReach, valueReach}
-use Rattle.filing.proofs.Laws.ReadSound.{holds-map, front-back, name-sound, word-sound, parts-sound}
+use Rattle.filing.proofs.Laws.Holds.{holds-map, front-back, name-sound, word-sound}
+use Rattle.filing.proofs.Laws.PartsSound.{parts-sound}
 use Rattle.filing.proofs.Laws.Reaches.{Suffix, reached}
 use Rattle.filing.proofs.Laws.Values.{reach-no, reach-map}
 

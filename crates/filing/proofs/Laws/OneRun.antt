@@ -10,7 +10,8 @@ use Rattle.notation.specs.Form.{every, nonEmpty}
 use Rattle.filing.specs.Tokens.{Part, Token, declaration, comment, startTag, emptyTag, endTag, text, declarationBytes, printToken, printTokens, formedToken, formedText, isText, isDeclaration, textFirst, textsApart, declarationFirst, formedRun, RunOfTokens}
 use Rattle.filing.specs.Reading.{got, thenRead, when, textEnds, readToken, readTokens, readReport}
 use Rattle.filing.proofs.Laws.Bytes.{left, right}
-use Rattle.filing.proofs.Laws.ReadBack.{parts-length, token-back}
+use Rattle.filing.proofs.Laws.PartsBack.{parts-length}
+use Rattle.filing.proofs.Laws.ReadBack.{token-back}
 
 -- every token has a byte, and every one but a text begins with `<`
 some-part : (ps : List Part) → nonEmpty ps ≡ true → 1 ≤ length ps

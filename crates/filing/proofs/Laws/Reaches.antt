@@ -14,7 +14,7 @@ use Rattle.filing.specs.Tokens.{amp, lt, gt, quot, apos, begins}
 use Rattle.filing.specs.Reading.{Read, fail, got, readReference}
 use Rattle.filing.specs.Reaches.{reachOf}
 use Rattle.filing.proofs.Laws.Bytes.{right}
-use Rattle.filing.proofs.Laws.ReadSound.{Holds, holds-got}
+use Rattle.filing.proofs.Laws.Holds.{Holds, holds-got}
 
 -- what was read stands in front of what is left
 abbrev pub Suffix : {A : Type 0} → List ℕ → Read A → Type 0

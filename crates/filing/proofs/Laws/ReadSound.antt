@@ -1,148 +1,20 @@
--- What was read is within its rule and prints to what stood there.
+-- Tokens that were read are within their rules and print to what stood there; and reading finds the one run of tokens, or there is none.
 use Prim.Native.Nat.{ℕ, zero, suc}
 use native.Mathlib.Omega.{arith}
 use mathlib.Core.Path.{_≡_, refl, sym, ap, _∙_}
-use mathlib.Core.Bool.{Bool, true, false, not, _&&_, _||_, true≢false, false≢true, and-true, and-false, cond}
+use mathlib.Core.Bool.{Bool, true, false, not, _&&_, _||_, true≢false, false≢true, and-true, and-false}
 use mathlib.Core.List.{List, [], _∷_, _++_, append-assoc}
 use lib.Dec.{eqb}
 use borrow.Author.Tests.{eqb-true}
-use lib.ListN.{length, drop}
-use Rattle.notation.specs.Names.{Name, beginsName, inName, nameForm}
+use lib.ListN.{length}
+use Rattle.notation.specs.Names.{Name}
 use Rattle.notation.specs.Form.{every, nonEmpty}
-use Rattle.notation.specs.Activity.{sameName}
-use Rattle.notation.proofs.Laws.Innermost.{cases}
-use Rattle.filing.specs.Tokens.{blank, listed, amp, lt, gt, quot, apos, isEntity, inText, inValue, Part, plain, reference, Quote, quoteByte, Attribute, attribute, Token, declaration, comment, startTag, emptyTag, endTag, text, declarationBytes, printPart, printParts, printAttribute, printAttributes, printToken, printTokens, begins, occurs, endsIn, formedPart, formedAttribute, formedTag, formedComment, formedText, formedToken, isText, isDeclaration, textFirst, textsApart, formedRun, RunOfTokens}
-use Rattle.filing.specs.Reading.{Read, fail, got, thenRead, when, front, back, readWord, readName, readQuote, readReference, readParts, readAttributeFrom, readAttribute, attributeAhead, readAttributes, readTagEnd, readTag, readEndTag, readContents, readComment, readMarkup, textEnds, readText, readToken, readTokens, readReport}
-use Rattle.filing.proofs.Laws.Bytes.{left, right, join, all-in-name, text-no-less}
-use Rattle.filing.proofs.Laws.ReadBack.{spread}
+use Rattle.filing.specs.Tokens.{blank, listed, inText, Part, plain, reference, Attribute, Token, declaration, comment, startTag, emptyTag, endTag, text, declarationBytes, printPart, printParts, printAttributes, printToken, printTokens, begins, occurs, endsIn, formedPart, formedTag, formedComment, formedText, formedToken, isText, isDeclaration, textFirst, textsApart, formedRun, RunOfTokens}
+use Rattle.filing.specs.Reading.{Read, fail, got, front, back, readTagEnd, readTag, readEndTag, readContents, readComment, readMarkup, textEnds, readText, readToken, readTokens, readReport}
+use Rattle.filing.proofs.Laws.Bytes.{left, right, join, text-no-less}
 use Rattle.filing.proofs.Laws.OneRun.{declared, run-back}
-
--- whatever was read, this holds of it and of the bytes after it
-pub data Holds {A : Type 0} (P : A → List ℕ → Type 0) : Read A → Type 0 where
-  failed : Holds P fail
-  gotten : {a : A} {r : List ℕ} → P a r → Holds P (got a r)
-
-pub holds-got : {A : Type 0} {P : A → List ℕ → Type 0} {a : A} {r : List ℕ} → Holds P (got a r) → P a r
-holds-got (gotten h) = h
-
-pub then-holds : {A B : Type 0} {P : A → List ℕ → Type 0} {Q : B → List ℕ → Type 0} {m : Read A} {k : A → List ℕ → Read B}
-    → Holds P m → ((a : A) (r : List ℕ) → P a r → Holds Q (k a r)) → Holds Q (thenRead m k)
-then-holds failed f = failed
-then-holds (gotten {a} {r} h) f = f a r h
-
-pub holds-map : {A : Type 0} {P Q : A → List ℕ → Type 0} {m : Read A} → Holds P m → ((a : A) (r : List ℕ) → P a r → Q a r) → Holds Q m
-holds-map failed f = failed
-holds-map (gotten {a} {r} h) f = gotten (f a r h)
-
-when-holds : {A : Type 0} {P : A → List ℕ → Type 0} {x : Read A} (t : Bool) → (t ≡ true → Holds P x) → Holds P (when t x)
-when-holds true f = f refl
-when-holds false f = failed
-
-cond-holds : {A : Type 0} {P : A → List ℕ → Type 0} {x y : Read A} (t : Bool) → (t ≡ true → Holds P x) → (t ≡ false → Holds P y)
-    → Holds P (cond t x y)
-cond-holds true f g = f refl
-cond-holds false f g = g refl
-
-pub front-back : (ok : ℕ → Bool) (l : List ℕ) → front ok l ++ back ok l ≡ l
-unfolding front back
-front-back ok [] = refl
-front-back ok (b ∷ l) = cases (ok b) (λ t. rw t (ap (_∷_ b) (front-back ok l))) (λ f. rw f)
-
-front-every : (ok : ℕ → Bool) (l : List ℕ) → every ok (front ok l) ≡ true
-unfolding front every
-front-every ok [] = refl
-front-every ok (b ∷ l) = cases (ok b) (λ t. rw (t, t) (front-every ok l)) (λ f. rw f)
-
-pub word-sound : (w l : List ℕ) → Holds (λ u r. w ++ r ≡ l) (readWord w l)
-unfolding readWord
-word-sound [] l = gotten refl
-word-sound (b ∷ w) [] = failed
-word-sound (b ∷ w) (c ∷ l) =
-    when-holds (eqb b c) (λ t. holds-map (word-sound w l) (λ u r e. rw (eqb-true b c t) (ap (_∷_ c) e)))
-
-pub name-sound : (l : List ℕ) → Holds (λ n r. (nameForm n ≡ true) × (n ++ r ≡ l)) (readName l)
-unfolding readName nameForm
-name-sound [] = failed
-name-sound (b ∷ l) =
-    when-holds (beginsName b)
-    (λ t. gotten (rw (all-in-name (front inName l)) (join t (front-every inName l)), ap (_∷_ b) (front-back inName l)))
-
-quote-sound : (l : List ℕ) → Holds (λ q r. quoteByte q ∷ r ≡ l) (readQuote l)
-quote-sound [] = failed
-quote-sound (b ∷ l) =
-    cond-holds (eqb b 34) (λ t. gotten (ap (λ (c : ℕ). c ∷ l) (sym (eqb-true b 34 t))))
-    (λ f. when-holds (eqb b 39) (λ t. gotten (ap (λ (c : ℕ). c ∷ l) (sym (eqb-true b 39 t)))))
-
-begins-drop : (w l : List ℕ) → begins w l ≡ true → w ++ drop (length w) l ≡ l
-unfolding begins
-begins-drop [] l h = refl
-begins-drop (b ∷ w) [] h = absurd (false≢true h)
-begins-drop (b ∷ w) (c ∷ l) h =
-    rw (eqb-true b c (left _ _ h)) (ap (_∷_ c) (begins-drop w l (right (eqb b c) _ h)))
-
-pub reference-sound : (l : List ℕ) → Holds (λ n r. (isEntity n ≡ true) × (n ++ (59 ∷ r) ≡ l)) (readReference l)
-unfolding readReference isEntity sameName
-reference-sound l =
-    cond-holds (begins (amp ++ (59 ∷ [])) l) (λ t. gotten (refl, begins-drop (amp ++ (59 ∷ [])) l t)) (λ f.
-    cond-holds (begins (lt ++ (59 ∷ [])) l) (λ t. gotten (refl, begins-drop (lt ++ (59 ∷ [])) l t)) (λ f.
-    cond-holds (begins (gt ++ (59 ∷ [])) l) (λ t. gotten (refl, begins-drop (gt ++ (59 ∷ [])) l t)) (λ f.
-    cond-holds (begins (quot ++ (59 ∷ [])) l) (λ t. gotten (refl, begins-drop (quot ++ (59 ∷ [])) l t)) (λ f.
-    cond-holds (begins (apos ++ (59 ∷ [])) l) (λ t. gotten (refl, begins-drop (apos ++ (59 ∷ [])) l t)) (λ f. failed)))))
-
-reference-prints : (b : ℕ) (l n s r : List ℕ) (ps : List Part) → b ≡ 38 → n ++ (59 ∷ s) ≡ l → printParts ps ++ r ≡ s
-    → printParts (reference n ∷ ps) ++ r ≡ b ∷ l
-unfolding printParts printPart
-reference-prints b l n s r ps ampersand name more =
-    rw (append-assoc (n ++ (59 ∷ [])) (printParts ps) r, append-assoc n (59 ∷ []) (printParts ps ++ r), more, name, ampersand)
-
-pub parts-sound : (steps : ℕ) (ok : ℕ → Bool) (l : List ℕ)
-    → Holds (λ ps r. (every (formedPart ok) ps ≡ true) × (printParts ps ++ r ≡ l)) (readParts steps ok l)
-unfolding readParts every printParts printPart
-parts-sound zero ok l = gotten (refl, refl)
-parts-sound (suc steps) ok [] = gotten (refl, refl)
-parts-sound (suc steps) ok (b ∷ l) =
-    cond-holds (eqb b 38)
-    (λ t.
-    then-holds (reference-sound l) (λ n s name.
-    then-holds (parts-sound steps ok s) (λ ps r more.
-    gotten (join (name .0) (more .0), reference-prints b l n s r ps (eqb-true b 38 t) (name .1) (more .1)))))
-    (λ f.
-    cond-holds (ok b)
-    (λ t. then-holds (parts-sound steps ok l) (λ ps r more. gotten (join t (more .0), ap (_∷_ b) (more .1))))
-    (λ n. gotten (refl, refl)))
-
-attribute-prints : (l n r r₂ r₃ r₄ r₅ : List ℕ) (q : Quote) (v : List Part)
-    → n ++ r ≡ back blank l → 61 ∷ r₂ ≡ back blank r → quoteByte q ∷ r₃ ≡ back blank r₂ → printParts v ++ r₄ ≡ r₃ → quoteByte q ∷ r₅ ≡ r₄
-    → printAttribute (attribute (front blank l) n (front blank r) (front blank r₂) q v) ++ r₅ ≡ l
-attribute-prints l n r r₂ r₃ r₄ r₅ q v name eq quote more close =
-    rw (spread (front blank l) n (front blank r) (front blank r₂) q v r₅, close, more, quote, front-back blank r₂, eq, front-back blank r, name)
-    (front-back blank l)
-
-pub attribute-sound : (l : List ℕ) → nonEmpty (front blank l) ≡ true
-    → Holds (λ a r. (formedAttribute a ≡ true) × (printAttribute a ++ r ≡ l)) (readAttribute l)
-unfolding readAttributeFrom formedAttribute
-attribute-sound l some =
-    then-holds (name-sound (back blank l)) (λ n r name.
-    then-holds (word-sound (61 ∷ []) (back blank r)) (λ w r₂ eq.
-    then-holds (quote-sound (back blank r₂)) (λ q r₃ quote.
-    then-holds (parts-sound (length r₃) (inValue (quoteByte q)) r₃) (λ v r₄ more.
-    then-holds (word-sound (quoteByte q ∷ []) r₄) (λ u r₅ close.
-    gotten (
-      join (join some (front-every blank l)) (join (name .0) (join (front-every blank r) (join (front-every blank r₂) (more .0)))),
-      attribute-prints l n r r₂ r₃ r₄ r₅ q v (name .1) eq quote (more .1) close,
-    ))))))
-
-pub attributes-sound : (steps : ℕ) (l : List ℕ)
-    → Holds (λ m r. (every formedAttribute m ≡ true) × (printAttributes m ++ r ≡ l)) (readAttributes steps l)
-unfolding readAttributes every printAttributes
-attributes-sound zero l = gotten (refl, refl)
-attributes-sound (suc steps) l =
-    cond-holds (attributeAhead l)
-    (λ t.
-    then-holds (attribute-sound l (left _ _ t)) (λ a r one.
-    then-holds (attributes-sound steps r) (λ m r₂ more.
-    gotten (join (one .0) (more .0), rw (append-assoc (printAttribute a) (printAttributes m) r₂, more .1) (one .1)))))
-    (λ f. gotten (refl, refl))
+use Rattle.filing.proofs.Laws.Holds.{Holds, failed, gotten, holds-got, then-holds, holds-map, when-holds, cond-holds, front-back, front-every, word-sound, name-sound}
+use Rattle.filing.proofs.Laws.PartsSound.{parts-sound, attributes-sound}
 
 -- a token read at the front of l: within its rule, its bytes stand there, and a text goes up to `<` or the end
 abbrev pub Good : List ℕ → Token → List ℕ → Type 0

@@ -13,7 +13,8 @@ use Rattle.filing.specs.Tokens.{Token, declaration, comment, startTag, e
 use Rattle.filing.specs.Reading.{Read, fail, got, readToken}
 use Rattle.filing.specs.Seen.{shown, foundOf, nameOfToken, tagName, nameFrom, nameTo}
 use Rattle.filing.proofs.Laws.ReadBack.{token-back}
-use Rattle.filing.proofs.Laws.ReadSound.{Holds, holds-got, Good, token-sound}
+use Rattle.filing.proofs.Laws.Holds.{Holds, holds-got}
+use Rattle.filing.proofs.Laws.ReadSound.{Good, token-sound}
 
 -- a name that stands between two offsets
 pub record Cut (s : List ℕ) (from to : ℕ) (n : Name) : Type 0 where

@@ -17,7 +17,8 @@ use Rattle.filing.specs.Tokens.{blank, Attribute, printAttributes, empty
 use Rattle.filing.specs.Reading.{Read, fail, got, thenRead, front, back, readWord, readName, readAttributes, readTagEnd, readTag, readEndTag}
 use Rattle.filing.specs.Reaches.{reachOf, insideReach}
 use Rattle.filing.specs.Seen.{foundOf, tagEndOf}
-use Rattle.filing.proofs.Laws.ReadSound.{holds-got, then-holds, gotten, front-back, name-sound, attributes-sound}
+use Rattle.filing.proofs.Laws.Holds.{holds-got, then-holds, gotten, front-back, name-sound}
+use Rattle.filing.proofs.Laws.PartsSound.{attributes-sound}
 use Rattle.filing.proofs.Laws.Reaches.{Suffix, reached}
 use Rattle.filing.proofs.Laws.Values.{reach-no}
 use Rattle.filing.proofs.Laws.Offsets.{name-suffix, mark-suffix, left-at}

@@ -20,7 +20,8 @@ use Rattle.filing.specs.Reading.{Read, fail, got, thenRead, when, readRe
 use Rattle.filing.specs.Reaches.{reachOf}
 use Rattle.filing.specs.Seen.{foundOf}
 use Rattle.filing.proofs.Laws.Bytes.{left, right, entity-cases}
-use Rattle.filing.proofs.Laws.ReadSound.{Holds, holds-map, holds-got, parts-sound, reference-sound}
+use Rattle.filing.proofs.Laws.Holds.{Holds, holds-map, holds-got}
+use Rattle.filing.proofs.Laws.PartsSound.{parts-sound, reference-sound}
 use Rattle.filing.proofs.Laws.Reaches.{reached}
 use Rattle.filing.proofs.Laws.Values.{reach-no, reference-suffix, parts-enough}
 

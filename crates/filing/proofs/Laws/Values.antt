@@ -14,7 +14,8 @@ use Rattle.filing.specs.declared.tags.Reach.the-variants.{No, To}
 use Rattle.filing.specs.Tokens.{Part, plain, reference}
 use Rattle.filing.specs.Reading.{Read, fail, got, thenRead, readReference, readParts}
 use Rattle.filing.specs.Reaches.{reachOf}
-use Rattle.filing.proofs.Laws.ReadSound.{Holds, failed, gotten, holds-map, reference-sound}
+use Rattle.filing.proofs.Laws.Holds.{Holds, failed, gotten, holds-map}
+use Rattle.filing.proofs.Laws.PartsSound.{reference-sound}
 use Rattle.filing.proofs.Laws.Reaches.{Suffix, never, reached}
 
 pub then-same : {A B : Type 0} {P : A → List ℕ → Type 0} {m : Read A} {k j : A → List ℕ → Read B}
