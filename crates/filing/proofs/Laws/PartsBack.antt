@@ -5,12 +5,12 @@ use mathlib.Core.Path.{_≡_, refl, sym, _∙_}
 use mathlib.Core.Bool.{Bool, true, false, not, _&&_, false≢true}
 use mathlib.Core.List.{List, [], _∷_, _++_, append-assoc}
 use lib.Dec.{eqb}
-use borrow.Author.Tests.{eq-eqb, not-true}
+use borrow.Author.Tests.{not-true}
 use lib.ListN.{length, length-append}
 use Rattle.notation.specs.Names.{Name, letter, digit, beginsName, inName, nameForm}
 use Rattle.notation.specs.Form.{every}
 use Rattle.filing.specs.Tokens.{blank, isEntity, Part, plain, reference, printPart, printParts, begins, formedPart}
-use Rattle.filing.specs.Reading.{got, readWord, readName, readReference, readParts}
+use Rattle.filing.specs.Reading.{got, readName, readReference, readParts}
 use Rattle.filing.proofs.Laws.Bytes.{left, right, every-head, blank-no-name, name-no-blank, entity-cases, all-in-name, stops, front-of, back-of}
 
 pub name-back : (n r : List ℕ) → nameForm n ≡ true → stops inName r ≡ true → readName (n ++ r) ≡ got n r
@@ -20,11 +20,6 @@ name-back (b ∷ n) r h s =
     let first : beginsName b ≡ true = left _ _ h in
     let rest : every inName n ≡ true = sym (all-in-name n) ∙ right (beginsName b) _ h in
     rw (first, front-of inName n r rest s, back-of inName n r rest s)
-
-pub word-back : (w r : List ℕ) → readWord w (w ++ r) ≡ got [] r
-unfolding readWord
-word-back [] r = refl
-word-back (b ∷ w) r = rw (eq-eqb b b refl, word-back w r)
 
 pub reference-back : (n r : List ℕ) → isEntity n ≡ true → readReference (n ++ (59 ∷ r)) ≡ got n r
 unfolding readReference begins

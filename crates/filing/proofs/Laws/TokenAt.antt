@@ -21,9 +21,6 @@ unfolding declarationBytes
 declaration-length = refl
 
 module _ (s : List ℕ) (at : ℕ) where
-  pub declared-fits : at ≤ length s → begins declarationBytes (drop at s) ≡ true → at + 21 ≤ length s
-  declared-fits h t = omega (arith, word-fits s at h declarationBytes t, declaration-length)
-
   abbrev Here : Found
   Here = foundOf (length s) at (readToken (drop at s))
 
