@@ -1,43 +1,12 @@
 // Scans over a report's bytes: how far names, blanks and words go.
+use notation::names;
 ghost use mathlib.Core.Path.{_≡_};
 ghost use Prim.Native.Nat.{_+_, _≤_};
 ghost use lib.ListN.{length, drop};
-ghost use Rattle.notation.specs.Names.{beginsName, inName};
+ghost use Rattle.notation.specs.Names.{inName};
 ghost use Rattle.notation.specs.Form.{every};
 ghost use Rattle.filing.specs.Tokens.{blank as blankByte, listed as listedByte, inText, begins};
 ghost use Rattle.filing.specs.Reading.{front};
-
-// A letter or `_`.
-pub fn begins_name(b: u8) -> bool
-    ensures { λ r. ⌜ r ≡ beginsName b ⌝ }
-{
-    if b < 65 {
-        return false;
-    }
-    if b <= 90 {
-        return true;
-    }
-    if b < 97 {
-        return b == 95;
-    }
-    b <= 122
-}
-
-// A letter, a digit, `_`, `-` or `.`.
-pub fn in_name(b: u8) -> bool
-    ensures { λ r. ⌜ r ≡ inName b ⌝ }
-{
-    if begins_name(b) {
-        return true;
-    }
-    if b < 48 {
-        if b == 45 {
-            return true;
-        }
-        return b == 46;
-    }
-    b <= 57
-}
 
 // 9, 10, 13 or 32.
 pub fn blank(b: u8) -> bool
@@ -123,7 +92,7 @@ pub fn name_end(s: &[u8], at: usize) -> usize
 {
     let mut i = at;
     while i < s.len() {
-        if !in_name(s[i]) {
+        if !names::in_name(s[i]) {
             return i;
         }
         i += 1;

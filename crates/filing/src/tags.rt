@@ -1,9 +1,9 @@
 // The parts of tags: references, values, attributes. Each call answers how far a part goes that begins at an offset.
-use crate::scan::begins_name;
 use crate::scan::blanks_end;
 use crate::scan::in_text;
 use crate::scan::name_end;
 use crate::scan::word_at;
+use notation::names;
 ghost use mathlib.Core.Path.{_≡_};
 ghost use Prim.Native.Nat.{_+_, _≤_};
 ghost use lib.ListN.{length, drop};
@@ -83,7 +83,7 @@ pub fn name_reach(s: &[u8], at: usize) -> Reach
     if s.len() <= at {
         return Reach::No;
     }
-    if !begins_name(s[at]) {
+    if !names::begins_name(s[at]) {
         return Reach::No;
     }
     Reach::To(name_end(s, at + 1))
@@ -170,7 +170,7 @@ pub fn inside_end(s: &[u8], at: usize) -> Reach
         if s.len() <= n {
             return Reach::To(n);
         }
-        if !begins_name(s[n]) {
+        if !names::begins_name(s[n]) {
             return Reach::To(n);
         }
         match attribute_end(s, n) {

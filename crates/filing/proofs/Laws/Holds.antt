@@ -7,7 +7,7 @@ use lib.Dec.{eqb}
 use borrow.Author.Tests.{eqb-true}
 use Rattle.notation.specs.Names.{beginsName, inName, nameForm}
 use Rattle.notation.specs.Form.{every}
-use Rattle.notation.proofs.Laws.Innermost.{cases}
+use Rattle.notation.proofs.Laws.Tests.{cases}
 use Rattle.filing.specs.Tokens.{quoteByte}
 use Rattle.filing.specs.Reading.{Read, fail, got, thenRead, when, front, back, readWord, readName, readQuote}
 use Rattle.filing.proofs.Laws.Bytes.{join, all-in-name}

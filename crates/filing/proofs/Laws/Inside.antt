@@ -8,7 +8,7 @@ use lib.ListN.{length, getD, drop, length-append, length-drop, drop-of-length-le
 use lib.Seq.{drop-cons}
 use Rattle.notation.specs.Names.{beginsName}
 use Rattle.notation.specs.Form.{nonEmpty}
-use Rattle.notation.proofs.Laws.Innermost.{cases}
+use Rattle.notation.proofs.Laws.Tests.{cases}
 use Rattle.filing.specs.declared.tags.Reach.the-variants.{No, To}
 use Rattle.filing.specs.Tokens.{blank, inValue, quoteByte, Attribute, printAttribute, formedAttribute}
 use Rattle.filing.specs.Reading.{Read, fail, got, thenRead, front, back, readWord, readName, readQuote, readParts, readAttributeFrom, readAttribute, attributeAhead, readAttributes}

@@ -6,7 +6,7 @@ use mathlib.Core.List.{List, [], _∷_, List·Memᴰ, List·Memᴰ·head, List·
 use Rattle.notation.specs.Names.{Name}
 use Rattle.notation.specs.Sets.{Path}
 use Rattle.notation.specs.Activity.{sameName, here, activeIn, seenIn, fits}
-use Rattle.notation.proofs.Laws.Innermost.{cases}
+use Rattle.notation.proofs.Laws.Tests.{cases}
 use Rattle.notation.proofs.Laws.Fit.{fits-is}
 use Rattle.filing.specs.Tree.{Document, Place, kindAt, kindIn, childrenAt, childrenIn}
 use Rattle.filing.specs.XPath.{IsElement, selected}

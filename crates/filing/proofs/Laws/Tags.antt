@@ -10,7 +10,7 @@ use borrow.Author.Tests.{eq-eqb, ne-eqb, eqb-true, eqb-false, ltb-true, ltb-fals
 use lib.ListN.{length, getD, drop, length-append, length-drop, drop-of-length-le}
 use lib.Seq.{drop-cons}
 use Rattle.notation.specs.Names.{Name}
-use Rattle.notation.proofs.Laws.Innermost.{cases}
+use Rattle.notation.proofs.Laws.Tests.{cases}
 use Rattle.filing.specs.declared.tags.Reach.the-variants.{No, To}
 use Rattle.filing.specs.declared.tokens.Found.the-variants.{Nothing, Start, Empty, End}
 use Rattle.filing.specs.Tokens.{blank, Attribute, printAttributes, emptyTag}
