@@ -11,6 +11,10 @@ pub mod Examples
 pub mod Automaton
 pub mod Tables
 pub mod Shape
+pub mod Chains
+pub mod Parents
+pub mod Walkable
+pub mod Fails
 pub mod Bits
 pub mod Chain
 pub mod Run
