@@ -1,38 +1,38 @@
 -- The automaton of a set that fits its limits has the laws of `Compiled`, whatever stands behind it; so for every accepted set.
-use Prim.Native.Nat.{ℕ, zero, suc, _+_, _-_, _*_, _/_, _%_, _≤_, _<_}
-use mathlib.Core.Path.{_≡_, refl, sym, _∙_, ap, ap₂, subst}
-use mathlib.Core.Bool.{Bool, true, false, cond}
-use mathlib.Core.Logic.{_⊎_, inl, inr}
+use Prim.Native.Nat.{ℕ, zero, suc, _+_, _*_, _/_, _%_, _≤_, _<_}
+use mathlib.Core.Path.{_≡_, refl, sym, _∙_, ap}
+use mathlib.Core.Bool.{false}
+use mathlib.Core.Logic.{inl, inr}
 use mathlib.Core.List.{List, [], _∷_, _++_, List·Memᴰ, List·Memᴰ·not-nil, List·Memᴰ·cases-cons}
-use native.Mathlib.Nat.{add-zero}
 use native.Mathlib.Omega.{arith}
 use lib.ListN.{length, getD, length-append}
 use Rattle.notation.specs.Names.{Name}
 use Rattle.notation.specs.Limits.{maxPaths, maxSteps, maxLabels}
-use Rattle.notation.specs.Sets.{child, descendant, label, star, Step, step, Path, FolderSet, testOf}
-use Rattle.notation.specs.Form.{pathsOf, stepsOf, labelsOf}
+use Rattle.notation.specs.Sets.{child, descendant, label, star, step, Path, FolderSet}
+use Rattle.notation.specs.Form.{pathsOf, stepsOf}
 use Rattle.notation.specs.Layout.{setPart}
-use Rattle.notation.specs.Reads.{word16, pathCount, stepCount, labelCount, labelEntryAt, labelAt}
+use Rattle.notation.specs.Reads.{word16, labelEntryAt, labelAt}
 use Rattle.notation.specs.Accepted.{Accepted}
 use Rattle.notation.specs.declared.reads.LabelAt.{LabelAt}
 use Rattle.notation.proofs.Laws.Fitting.{Fitting}
 use Rattle.notation.proofs.Laws.Reads.{paths-read, steps-read, labels-read, there}
-use Rattle.notation.proofs.Laws.ReadPaths.{LabelRead, label-read}
+use Rattle.notation.proofs.Laws.ReadPaths.{label-read}
 use Rattle.notation.proofs.Laws.AcceptedSet.{accepted-fits}
-use Rattle.machine.specs.Words.{Symbol, document, name, Word, before, labelWords, begins}
-use Rattle.machine.specs.Prefix.{IsPrefix, longestEnd, failure}
+use Rattle.machine.specs.Words.{document, name, Word, before, labelWords, begins}
+use Rattle.machine.specs.Prefix.{IsPrefix, failure}
 use Rattle.machine.specs.Walk.{followedBy}
-use Rattle.machine.specs.Calls.{State, fresh}
-use Rattle.machine.specs.Automaton.{hashes, maskSize, masksAt, allSteps, allLabels, allWords, stateIn, stateOf, shortened, heads, headOf, nexts, Link, link, linksOf, links, Role, roles, roleAt, masks, bit, bitBytes, byteOf, startState, assembled, automatonOf}
-use Rattle.machine.specs.Tables.{startOf, failAt, sizeAt, sizeOf}
+use Rattle.machine.specs.Calls.{fresh}
+use Rattle.machine.specs.Automaton.{hashes, maskSize, masksAt, allLabels, allWords, stateOf, shortened, heads, headOf, nexts, link, linksOf, links, roles, roleAt, masks, bitBytes, byteOf, startState, automatonOf}
+use Rattle.machine.specs.Tables.{startOf, sizeAt, sizeOf}
 use Rattle.machine.specs.Bits.{bitOf, bitIn}
 use Rattle.machine.specs.Masks.{maskTest}
 use Rattle.machine.specs.Compiled.{LabelStep, Compiled}
 use Rattle.machine.proofs.Laws.Basics.{cases}
 use Rattle.machine.proofs.Laws.Prefix.{longest-end}
 use Rattle.machine.proofs.Laws.Labels.{LabelWord}
-use Rattle.machine.proofs.Laws.Bits.{tabulate-length, bit-small, bits-bit}
-use Rattle.machine.proofs.Laws.States.{words-count, among-label, at-among, state-empty, state-root, StateKind, ofEmpty, ofRoot, ofLabel, LabelState, state-kind, state-one, state-none, state-within}
+use Rattle.machine.proofs.Laws.Tabulate.{tabulate-length}
+use Rattle.machine.proofs.Laws.Bits.{bit-small, bits-bit}
+use Rattle.machine.proofs.Laws.States.{words-count, among-label, at-among, state-empty, state-root, StateKind, ofEmpty, ofRoot, ofLabel, state-kind, state-one, state-none, state-within}
 use Rattle.machine.proofs.Laws.Assembled.{Sized, noLink, nextOf, parentOf, failureOf, lengthOf, after-set, fail-read, size-read, mask-read, start-read}
 use Rattle.machine.proofs.Laws.Goto.{Linked, goto-is}
 use Rattle.machine.proofs.Laws.Linked.{small, linked-here}
