@@ -11,7 +11,10 @@ pub mod Examples
 pub mod Automaton
 pub mod Tables
 pub mod Shape
+pub mod Chains
+pub mod Parents
 pub mod Walkable
+pub mod Fails
 pub mod Bits
 pub mod Chain
 pub mod Run
@@ -19,3 +22,5 @@ pub mod RunCalls
 pub mod Asking
 pub mod Build
 pub mod Chains
+pub mod Masks
+pub mod Compiled

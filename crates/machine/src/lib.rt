@@ -3,4 +3,5 @@ pub mod answers;
 pub mod build;
 pub mod counters;
 pub mod layout;
+pub mod shape;
 pub mod walk;
