@@ -1,15 +1,13 @@
 -- The pass stores each label's parent and the length of its word, as the automaton's definition has them.
-use Prim.Native.Nat.{ℕ, zero, suc, _+_, _-_, _*_, _≤_, _<_}
-use native.Mathlib.Nat.{not-suc-le-zero, le-of-suc-le-suc}
-use native.Mathlib.Numerals.{add-one}
+use Prim.Native.Nat.{ℕ, suc, _+_, _*_, _≤_, _<_}
 use native.Mathlib.Omega.{arith}
 use mathlib.Core.Path.{_≡_, refl, sym, ap, ap₂, _∙_, subst}
-use mathlib.Core.Logic.{_⊎_, inl, inr}
+use mathlib.Core.Logic.{inl, inr}
 use mathlib.Core.Bool.{Bool, true, false}
-use mathlib.Core.List.{List, [], _∷_, _++_, append-assoc, append-nil}
-use lib.Dec.{eqb, ltb}
+use mathlib.Core.List.{List, [], _∷_, _++_, append-assoc}
+use lib.Dec.{ltb}
 use borrow.Author.Tests.{lt-ltb, eq-eqb, ne-eqb, ltb-true, ltb-false}
-use lib.ListN.{length, getD, set, take, drop, length-append, length-set}
+use lib.ListN.{length, getD, set, length-append, length-set}
 use lib.Seq.{sets, getD-at, take-at, set-set, getD-set-same}
 use Rattle.notation.specs.Names.{Name}
 use Rattle.notation.specs.Limits.{maxLabels}
@@ -17,25 +15,24 @@ use Rattle.notation.specs.Sets.{Axis, child, descendant, Test, label, star, Ste
 use Rattle.notation.specs.Form.{pathsOf, stepsOf, nonEmpty, every}
 use Rattle.notation.specs.Layout.{le16}
 use Rattle.notation.specs.Reads.{labelName, pathAt, stepAt, stepCount, isDescendant, isStar}
-use Rattle.notation.specs.declared.reads.PathAt.{PathAt}
 use Rattle.notation.specs.declared.reads.StepAt.{StepAt}
 use Rattle.notation.proofs.Laws.LabelTable.{noStep}
 use Rattle.notation.proofs.Laws.PathTable.{stepsBefore}
 use Rattle.notation.proofs.Laws.Fitting.{Fitting}
 use Rattle.notation.proofs.Laws.ReadPaths.{path-read, path-missing}
-use Rattle.machine.specs.Words.{document, name, Word, before, labelWords}
+use Rattle.machine.specs.Words.{document, name, Word, labelWords}
 use Rattle.machine.specs.Walk.{followedBy}
 use Rattle.machine.specs.Prefix.{IsPrefix}
 use Rattle.machine.specs.Automaton.{maskSize, linksAt, linkSize, Link, find, allSteps, allLabels, wordsIn, allWords, sameWord, stateIn, stateOf, shortened, heads, nexts, assembled}
 use Rattle.machine.specs.Tables.{sizeAt, sizeOf, goto}
-use Rattle.machine.specs.Parents.{Passed, startsAt, entered, emptied, wordStored, followed, labelled, tested, passedBy, passed, parented, outset}
+use Rattle.machine.specs.Parents.{startsAt, wordStored, labelled, tested, passedBy, passed, parented, outset}
 use Rattle.machine.specs.declared.build.parents.Place.{Place}
 use Rattle.machine.proofs.Laws.Basics.{cases, clash}
 use Rattle.machine.proofs.Laws.Tabulate.{tabulate-length}
 use Rattle.machine.proofs.Laws.Assembled.{nextOf, parentOf, lengthOf, withParent, withLength, noLink, Sized, parent-put, size-put, size-read}
 use Rattle.machine.proofs.Laws.SetReads.{of-set, label-bytes, step-entry, step-count}
 use Rattle.machine.proofs.Laws.States.{same-word, word-same, shortened-followed, followed-last, words-count, word-ends, label-parent, state-followed}
-use Rattle.machine.proofs.Laws.Goto.{Chained, ParentAt, Enough, goto-word}
+use Rattle.machine.proofs.Laws.Goto.{Chained, ParentAt, goto-word}
 use Rattle.machine.proofs.Laws.Linked.{chained-here, parent-here}
 use Rattle.machine.proofs.Laws.Placed.{marked, placed, marked-next, marked-parent, marked-length, upTo, upTo-length, upTo-done, upTo-rest, upTo-step, upTo-all, find-first, words-short}
 

@@ -8,9 +8,6 @@ use Rattle.machine.specs.Tables.{sizeAt, sizeOf}
 use borrow.Author.Needs.{needs}
 use Rattle.machine.proofs.build.parents.size_of.Statement.{statement}
 use Rattle.machine.proofs.build.parents.size_of.Tie as tie
-use Rattle.machine.proofs.build.parents.size_of.Reads as reads
-use Rattle.machine.proofs.build.parents.size_of.Lts as lts
-use Rattle.notation.proofs.reads.word_at.Reads as word-at-reads
 
 small : (a : List ℕ) (q : ℕ) → q < 2 → q ≡ sizeOf a q
 unfolding sizeOf
@@ -24,27 +21,21 @@ of-label a zero h = absurd (omega arith)
 of-label a (suc zero) h = absurd (omega arith)
 of-label a (suc (suc l)) h = let s : suc (suc l) - 2 ≡ l = omega arith in rw s
 
--- src/build/parents.rt:80:41
 mul-word-at : tie.Need-mul-word-at
 mul-word-at c = search needs
 
--- src/build/parents.rt:80:30
 add-word-at : tie.Need-add-word-at
 add-word-at c = search needs
 
--- src/build/parents.rt:80:30
 add-word-at-2 : tie.Need-add-word-at-2
 add-word-at-2 c = search needs
 
--- src/build/parents.rt:80:9
 word-at-requires : tie.Need-word-at-requires
 word-at-requires c κs = search needs
 
--- src/build/parents.rt:73:1
 returns : tie.Need-returns
 returns c = (small (c .before .before .args .part .now) (c .before .before .args .q) (c .if1 .taken), omega arith)
 
--- src/build/parents.rt:73:1
 returns-2 : tie.Need-returns-2
 unfolding linksAt linkSize
 returns-2 c = (c .word-at .ensures .0 ∙ sym (of-label (c .before .before .before .args .part .now) (c .before .before .before .args .q) (c .before .if1 .left)), c .word-at .ensures .1)
