@@ -1,5 +1,5 @@
 -- `build::parents::pass_step`: the step's axis, then its test.
-use Prim.Native.Nat.{ℕ, _+_, _≤_}
+use Prim.Native.Nat.{ℕ, _+_, _≤_, _<_}
 use mathlib.Core.Path.{_≡_, sym, ap, ap₂, _∙_}
 use mathlib.Core.Bool.{Bool, true, false}
 use mathlib.Core.List.{List}
@@ -34,7 +34,7 @@ entered-paths true deep at = omega arith
 entered-paths false true at = omega arith
 entered-paths false false at = omega arith
 
-entered-state : (first deep : Bool) (at : Place) → at .state ≤ 65536 → entered first deep at .state ≤ 65536
+entered-state : (first deep : Bool) (at : Place) → at .state < 65536 → entered first deep at .state < 65536
 entered-state true true at h = omega arith
 entered-state true false at h = omega arith
 entered-state false true at h = omega arith

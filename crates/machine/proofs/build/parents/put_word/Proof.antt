@@ -24,7 +24,7 @@ roomy : (at : Place) (a b : List ℕ) (r : ℕ) → at .labels < maxLabels → b
 unfolding labelled
 roomy at a b r h e f = rw (lt-ltb (at .labels) maxLabels h, ← e, f)
 
-small : (a : List ℕ) (r : ℕ) → Searchable a → r ≤ suc (labelCount a) → r ≤ 65536
+small : (a : List ℕ) (r : ℕ) → Searchable a → r ≤ suc (labelCount a) → r < 65536
 unfolding maxLabels
 small a r s h = omega (arith, s .few)
 
