@@ -47,3 +47,4 @@ pub mod Placed
 pub mod Parents
 pub mod Elsewhere
 pub mod Linking
+pub mod Accepting
