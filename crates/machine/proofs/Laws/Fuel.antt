@@ -63,7 +63,7 @@ module _ (a : List ℕ) (c : Searchable a) (q : ℕ) (e : Name) where
   unfolding goto
   goto-state = goto-within maxLabels (headAt a (hash e)) (c .head (hash e) (hash-below e))
 
--- the walk: its moves are bounded by the length of the word that it starts from
+-- a failure move leads to a state
 pub fail-state : (a : List ℕ) → Falling a → (q : ℕ) → q ≤ suc (labelCount a) → failOf a q ≤ suc (labelCount a)
 unfolding failOf
 fail-state a f zero h = omega arith
@@ -77,6 +77,7 @@ size-within a f zero h = omega arith
 size-within a f (suc zero) h = omega arith
 size-within a f (suc (suc l)) h = f .size l (omega arith)
 
+-- of a shorter word
 pub fail-shorter : (a : List ℕ) → Falling a → (q : ℕ) → q ≤ suc (labelCount a) → (q ≡ 0 → ⊥) → sizeOf a (failOf a q) < sizeOf a q
 unfolding sizeOf failOf
 fail-shorter a f zero h z = absurd (z refl)
