@@ -41,3 +41,4 @@ pub mod Placed
 pub mod Parents
 pub mod Elsewhere
 pub mod Linking
+pub mod Accepting
