@@ -8,6 +8,14 @@ pub mod Finding
 pub mod States
 pub mod Goto
 pub mod Linked
+pub mod WithBit
+pub mod Marking
+pub mod MaskRows
+pub mod Masked
+pub mod Started
+pub mod ChainPlaces
+pub mod Compiled
+pub mod Finished
 pub mod Walked
 pub mod Order
 pub mod Calls

@@ -20,3 +20,5 @@ pub mod Chain
 pub mod Run
 pub mod RunCalls
 pub mod Asking
+pub mod Masks
+pub mod Compiled
