@@ -34,10 +34,12 @@ pub mod Examples
 pub mod AllBelow
 pub mod Fuel
 pub mod Shaped
+pub mod SetShape
 pub mod Searched
 pub mod Growing
 pub mod Staged
 pub mod Fails
+pub mod BuiltShape
 pub mod Stores
 pub mod Assembled
 pub mod Tabulate

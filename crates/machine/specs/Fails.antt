@@ -8,7 +8,6 @@ use lib.Dec.{eqb}
 use lib.ListN.{length}
 use lib.Seq.{sets}
 use Rattle.notation.specs.Layout.{le16}
-use Rattle.notation.specs.Limits.{maxSteps}
 use Rattle.notation.specs.Reads.{labelCount, labelName}
 use Rattle.machine.specs.Automaton.{automatonSize, linksAt, linkSize}
 use Rattle.machine.specs.Tables.{parentAt, sizeAt, sizeOf, failOf, walkOver}

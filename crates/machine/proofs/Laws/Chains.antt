@@ -15,8 +15,7 @@ use Rattle.notation.specs.Layout.{le16}
 use Rattle.notation.proofs.Laws.Fitting.{Fitting}
 use Rattle.machine.specs.Automaton.{hashes, maskSize, headsAt, linksAt, linkSize, hash, find, allLabels, hasHash, tabulate, heads, nexts, Link, assembled}
 use Rattle.machine.specs.Chains.{linkedBy, linked, chained}
-use Rattle.machine.proofs.Laws.Tabulate.{tabulate-length, tabulate-at, tabulate-set, tabulate-constant}
-use Rattle.machine.proofs.Laws.Finding.{find-range, range-below}
+use Rattle.machine.proofs.Laws.Tabulate.{find-below, tabulate-length, tabulate-at, tabulate-set, tabulate-constant}
 use Rattle.machine.proofs.Laws.Goto.{hash-small}
 use Rattle.machine.proofs.Laws.Assembled.{withNext, noLink, Sized, head-read, head-put, next-put}
 use Rattle.machine.proofs.Laws.SetReads.{label-bytes}
@@ -87,7 +86,7 @@ module _ (s : FolderSet) (fit : Fitting s) (ls : List Link) (ms : List ℕ) (f :
 
   small : (k h : ℕ) → k < length (allLabels s) → headFrom (allLabels s) (suc k) h < 65536
   unfolding maxLabels
-  small k h b = omega (arith, range-below (suc (suc k)) (length (drop (suc k) (allLabels s))) (headFrom (allLabels s) (suc k) h) (find-range (hasHash h) (suc (suc k)) (drop (suc k) (allLabels s))), length-drop (suc k) (allLabels s), fit .labels)
+  small k h b = omega (arith, find-below (hasHash h) (suc (suc k)) (drop (suc k) (allLabels s)), length-drop (suc k) (allLabels s), fit .labels)
 
   one : (l : ℕ) → l < length (allLabels s) → linked l (stage (suc l)) ≡ stage l
   unfolding stage e

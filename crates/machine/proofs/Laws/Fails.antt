@@ -1,32 +1,32 @@
 -- The pass that makes the failure links leaves those of the definition: the links are then the links of the set.
 use Prim.Native.Nat.{ℕ, zero, suc, _+_, _*_, _≤_, _<_}
 use mathlib.Core.Path.{_≡_, refl, sym, _∙_, ap}
-use mathlib.Core.Bool.{Bool, true, false, cond}
-use mathlib.Core.Logic.{_⊎_, inl, inr}
+use mathlib.Core.Bool.{true, false}
+use mathlib.Core.Logic.{_⊎_, inr}
 use mathlib.Core.List.{List, [], _∷_, _++_, cons≢nil}
 use native.Mathlib.Omega.{arith}
 use lib.Dec.{eqb}
-use lib.ListN.{length, getD, set, length-set, length-append}
+use lib.ListN.{length, getD, set, length-set}
 use lib.Seq.{sets, ext-getD, getD-set-same, getD-set-other}
-use borrow.Author.Tests.{eqb-true, eqb-false, eq-eqb, ne-eqb}
+use borrow.Author.Tests.{eqb-true, eqb-false, ne-eqb}
 use Rattle.notation.specs.Names.{Name}
-use Rattle.notation.specs.Limits.{maxSteps, maxLabels}
+use Rattle.notation.specs.Limits.{maxSteps}
 use Rattle.notation.specs.Sets.{FolderSet}
 use Rattle.notation.specs.Layout.{le16}
 use Rattle.notation.specs.Reads.{labelCount, labelName}
 use Rattle.notation.proofs.Laws.Fitting.{Fitting}
 use Rattle.machine.specs.Words.{Symbol, name, Word}
 use Rattle.machine.specs.Prefix.{IsPrefix, failure}
-use Rattle.machine.specs.Walk.{followedBy, arrivedAt, walk}
+use Rattle.machine.specs.Walk.{followedBy}
 use Rattle.machine.specs.Automaton.{maskSize, linksAt, linkSize, allLabels, allWords, stateOf, shortened, heads, nexts, Link, link, linksOf, links, assembled}
-use Rattle.machine.specs.Tables.{parentAt, failAt, sizeAt, sizeOf, failOf, walkOver}
+use Rattle.machine.specs.Tables.{parentAt, sizeAt, sizeOf}
 use Rattle.machine.specs.Fails.{failTo, failed, failedIf, failedBelow, failedTo}
-use Rattle.machine.proofs.Laws.Basics.{cases, clash}
+use Rattle.machine.proofs.Laws.Basics.{cases}
 use Rattle.machine.proofs.Laws.Prefix.{failure-is}
 use Rattle.machine.proofs.Laws.Walk.{failure-extends, failure-single}
 use Rattle.machine.proofs.Laws.Assembled.{nextOf, parentOf, failureOf, lengthOf, withFailure, noLink, fail-put}
 use Rattle.machine.proofs.Laws.States.{StateKind, ofEmpty, ofRoot, ofLabel, state-kind, state-empty, words-count, word-ends, label-parent, shortened-followed}
-use Rattle.machine.proofs.Laws.Goto.{Chained, Linked}
+use Rattle.machine.proofs.Laws.Goto.{Linked}
 use Rattle.machine.proofs.Laws.Walked.{FailsTo, fail-word, walk-over}
 use Rattle.machine.proofs.Laws.Staged.{wordAt, failureAt, Links, Short, word-size, stage, sized, staged, count-here, size-here, fail-here, size-state}
 
@@ -233,3 +233,7 @@ module _ (s : FolderSet) (fit : Fitting s) (short : Short s) (ms : List ℕ) (f 
       let start : Stage s 1 0 ls = record { links = k; lower = λ j i b. absurd (omega (arith, word-size s j i)); upto = λ j i b. absurd (omega arith) } in
       let r = to (suc maxSteps) ls start in
       r .1 ∙ ap at (all-right (r .0) (r .2))
+
+  -- the same, for the count of labels that the code goes by
+  pub fails-made : (ls : List Link) → Links s ls → failedTo (labelCount (assembled s (heads (allLabels s)) ls ms f ++ rest)) (suc maxSteps) (assembled s (heads (allLabels s)) ls ms f ++ rest) ≡ assembled s (heads (allLabels s)) (links s) ms f ++ rest
+  fails-made ls k = rw (count-here s fit short ms f masks rest ls k) (fails-is ls k)

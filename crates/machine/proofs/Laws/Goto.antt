@@ -73,7 +73,7 @@ past-end [] (suc j) h = refl
 past-end (x ∷ l) zero h = absurd (omega arith)
 past-end (x ∷ l) (suc j) h = past-end l j (omega arith)
 
-goto-end : (more : ℕ) (a : List ℕ) (q : ℕ) (e : Name) → gotoFrom more a q e 0 ≡ 0
+pub goto-end : (more : ℕ) (a : List ℕ) (q : ℕ) (e : Name) → gotoFrom more a q e 0 ≡ 0
 unfolding gotoFrom
 goto-end zero a q e = refl
 goto-end (suc more) a q e = refl

@@ -1,14 +1,13 @@
 -- The chains of a set can be searched: heads are labels, and a chain goes on to a later label or ends.
-use Prim.Native.Nat.{ℕ, zero, suc, _+_, _*_, _≤_, _<_}
-use mathlib.Core.Path.{_≡_, refl, sym, _∙_, ap}
+use Prim.Native.Nat.{ℕ, suc, _+_, _≤_, _<_}
+use mathlib.Core.Path.{_≡_, sym, _∙_}
 use mathlib.Core.List.{List, []}
 use native.Mathlib.Omega.{arith}
 use lib.ListN.{length, getD, drop, length-drop}
 use Rattle.notation.specs.Names.{Name}
 use Rattle.notation.specs.Sets.{FolderSet}
 use Rattle.notation.specs.Reads.{labelCount}
-use Rattle.machine.specs.Automaton.{hash, hasHash, find, headOf, allLabels, nexts}
-use Rattle.machine.specs.Tables.{nextAt}
+use Rattle.machine.specs.Automaton.{hash, hasHash, headOf, allLabels, nexts}
 use Rattle.machine.specs.Walkable.{Searchable}
 use Rattle.machine.proofs.Laws.Finding.{Ranged, nowhere, somewhere, find-range}
 use Rattle.machine.proofs.Laws.Goto.{Chained, next-at}

@@ -1,29 +1,25 @@
 -- An automaton in the making that has all its links but for some failure links, which are still 0: its tables can be walked.
-use Prim.Native.Nat.{ℕ, zero, suc, _+_, _*_, _≤_, _<_}
-use mathlib.Core.Path.{_≡_, refl, sym, _∙_, ap}
+use Prim.Native.Nat.{ℕ, suc, _*_, _≤_, _<_}
+use mathlib.Core.Path.{_≡_, refl, _∙_, ap}
 use mathlib.Core.Logic.{_⊎_, inl, inr}
 use mathlib.Core.List.{List, [], _∷_, _++_}
 use native.Mathlib.Omega.{arith}
 use lib.ListN.{length, getD, length-append}
-use Rattle.notation.specs.Names.{Name}
 use Rattle.notation.specs.Limits.{maxSteps, maxLabels}
 use Rattle.notation.specs.Sets.{FolderSet}
 use Rattle.notation.specs.Reads.{labelCount}
 use Rattle.notation.proofs.Laws.Fitting.{Fitting}
-use Rattle.machine.specs.Words.{Symbol, name, Word}
+use Rattle.machine.specs.Words.{name, Word}
 use Rattle.machine.specs.Prefix.{IsPrefix, failure}
-use Rattle.machine.specs.Walk.{followedBy}
 use Rattle.machine.specs.Automaton.{hashes, maskSize, automatonSize, allLabels, allWords, stateOf, shortened, heads, nexts, Link, assembled}
-use Rattle.machine.specs.Tables.{parentAt, failAt, sizeAt, sizeOf}
-use Rattle.machine.specs.Walkable.{Walkable}
+use Rattle.machine.specs.Tables.{failAt, sizeAt, sizeOf}
 use Rattle.machine.specs.Fails.{Growing}
-use Rattle.machine.proofs.Laws.Basics.{cases, clash}
-use Rattle.machine.proofs.Laws.Prefix.{failure-is, failure-shorter}
+use Rattle.machine.proofs.Laws.Prefix.{failure-is}
 use Rattle.machine.proofs.Laws.Tabulate.{tabulate-length}
 use Rattle.machine.proofs.Laws.Assembled.{nextOf, parentOf, failureOf, lengthOf, noLink, Sized, assembled-length, fail-read, size-read}
 use Rattle.machine.proofs.Laws.SetReads.{label-count}
-use Rattle.machine.proofs.Laws.States.{LabelState, StateKind, ofEmpty, ofRoot, ofLabel, state-kind, word-ends, label-parent, shortened-followed, state-within}
-use Rattle.machine.proofs.Laws.Goto.{Chained, Linked}
+use Rattle.machine.proofs.Laws.States.{StateKind, ofEmpty, ofRoot, ofLabel, state-kind, word-ends, label-parent, shortened-followed, state-within}
+use Rattle.machine.proofs.Laws.Goto.{Linked}
 use Rattle.machine.proofs.Laws.Linked.{linked-here}
 use Rattle.machine.proofs.Laws.Searched.{chained-searchable}
 

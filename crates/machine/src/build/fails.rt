@@ -1,10 +1,8 @@
 // The failure links, by increasing word length.
 ghost use mathlib.Core.Path.{_≡_};
-ghost use Prim.Native.Nat.{suc, _≤_, _<_};
-ghost use lib.ListN.{length};
-ghost use Rattle.notation.specs.Limits.{maxSteps, maxLabels};
+ghost use Prim.Native.Nat.{suc, _<_};
+ghost use Rattle.notation.specs.Limits.{maxSteps};
 ghost use Rattle.notation.specs.Reads.{labelCount};
-ghost use Rattle.machine.specs.Automaton.{automatonSize};
 ghost use Rattle.machine.specs.Fails.{failTo, failedIf, failedBelow, failedTo, Growing};
 use crate::build::chains::hash_of;
 use crate::layout::LINK_SIZE;

@@ -2,16 +2,14 @@
 use Rattle.notation.specs.Layout.{le16}
 use lib.Seq.{sets}
 use borrow.Author.Tests.{eq-eqb, ne-eqb}
-use Rattle.machine.specs.Fails.{failTo, failed, failedIf, failedBelow, failedTo, Growing}
-use Rattle.machine.specs.Tables.{parentAt, sizeAt, failOf, walkOver}
-use Rattle.machine.specs.Automaton.{automatonSize, hash, linksAt, linkSize}
-use Rattle.notation.specs.Reads.{labelCount, labelName}
-use Rattle.notation.specs.Limits.{maxSteps, maxLabels}
-use lib.ListN.{length}
+use Rattle.machine.specs.Fails.{failTo, failedIf}
+use Rattle.machine.specs.Tables.{sizeAt}
+use Rattle.machine.specs.Automaton.{automatonSize, linksAt, linkSize}
+use Rattle.notation.specs.Limits.{maxLabels}
 use native.Mathlib.Omega.{arith}
 use mathlib.Core.List.{List}
-use mathlib.Core.Path.{_≡_, refl, sym, _∙_, ap}
-use Prim.Native.Nat.{ℕ, suc, _+_, _-_, _*_, _≤_, _<_}
+use mathlib.Core.Path.{_≡_, sym, _∙_}
+use Prim.Native.Nat.{ℕ, _+_, _*_}
 use borrow.Author.Needs.{needs}
 use Rattle.machine.proofs.build.fails.fail_label.Statement.{statement}
 use Rattle.machine.proofs.build.fails.fail_label.Tie as tie

@@ -1,18 +1,13 @@
 -- `build::fails::fail_labels`: the labels so far have been gone through.
 -- `build::fails::fail_labels`: the labels so far have been gone through.
 use native.Mathlib.Numerals.{add-one}
-use Rattle.machine.proofs.Laws.Growing.{grows-if, grows-below, grows-to}
-use borrow.Author.Tests.{eq-eqb, ne-eqb}
-use Rattle.machine.specs.Fails.{failTo, failed, failedIf, failedBelow, failedTo, Growing}
-use Rattle.machine.specs.Tables.{parentAt, sizeAt, failOf, walkOver}
-use Rattle.machine.specs.Automaton.{automatonSize, hash, linksAt, linkSize}
-use Rattle.notation.specs.Reads.{labelCount, labelName}
-use Rattle.notation.specs.Limits.{maxSteps, maxLabels}
+use Rattle.machine.proofs.Laws.Growing.{grows-below}
+use Rattle.machine.specs.Fails.{failedIf, failedBelow}
+use Rattle.notation.specs.Reads.{labelCount}
 use lib.ListN.{length}
 use native.Mathlib.Omega.{arith}
-use mathlib.Core.List.{List}
-use mathlib.Core.Path.{_≡_, refl, sym, _∙_, ap}
-use Prim.Native.Nat.{ℕ, suc, _+_, _-_, _*_, _≤_, _<_}
+use mathlib.Core.Path.{_≡_, refl, _∙_, ap}
+use Prim.Native.Nat.{ℕ, _-_, _≤_, _<_}
 use borrow.Author.Needs.{needs}
 use Rattle.machine.proofs.build.fails.fail_labels.Statement.{statement}
 use Rattle.machine.proofs.build.fails.fail_labels.Tie as tie

@@ -1,16 +1,14 @@
 -- `build::fails::fail_to`: no parent, or the walk from the parent's failure state.
 use Rattle.machine.proofs.Laws.Fuel.{fail-state}
 use borrow.Author.Tests.{eq-eqb, ne-eqb}
-use Rattle.machine.specs.Fails.{failTo, failed, failedIf, failedBelow, failedTo, Growing}
-use Rattle.machine.specs.Tables.{parentAt, sizeAt, failOf, walkOver}
-use Rattle.machine.specs.Automaton.{automatonSize, hash, linksAt, linkSize}
+use Rattle.machine.specs.Fails.{failTo, Growing}
+use Rattle.machine.specs.Tables.{parentAt, failOf}
+use Rattle.machine.specs.Automaton.{linksAt, linkSize}
 use Rattle.notation.specs.Reads.{labelCount, labelName}
-use Rattle.notation.specs.Limits.{maxSteps, maxLabels}
-use lib.ListN.{length}
+use Rattle.notation.specs.Limits.{maxLabels}
 use native.Mathlib.Omega.{arith}
-use mathlib.Core.List.{List}
-use mathlib.Core.Path.{_≡_, refl, sym, _∙_, ap}
-use Prim.Native.Nat.{ℕ, suc, _+_, _-_, _*_, _≤_, _<_}
+use mathlib.Core.Path.{_≡_, sym, _∙_, ap}
+use Prim.Native.Nat.{_<_}
 use borrow.Author.Needs.{needs}
 use Rattle.machine.proofs.build.fails.fail_to.Statement.{statement}
 use Rattle.machine.proofs.build.fails.fail_to.Tie as tie
@@ -32,7 +30,10 @@ word-at-requires c κs = search needs
 
 returns : tie.Need-returns
 unfolding failTo linksAt linkSize
-returns c = let a = c .before .before .before .args .a .now in let l = c .before .before .before .args .l in let g : Growing a = c .before .before .before .pre .0 in let i : l < labelCount a = c .before .before .before .pre .1 in
+returns c = let a = c .before .before .before .args .a .now in
+    let l = c .before .before .before .args .l in
+    let g : Growing a = c .before .before .before .pre .0 in
+    let i : l < labelCount a = c .before .before .before .pre .1 in
     let p : parentAt a l ≡ 0 = sym (c .before .word-at .ensures .0) ∙ c .if1 .taken in
     rw (eq-eqb (parentAt a l) 0 p)
 
@@ -47,14 +48,20 @@ hash-of-requires c κs = search needs
 
 walk-from-requires : tie.Need-walk-from-requires
 unfolding linksAt linkSize
-walk-from-requires c κs = let a = c .before .before .before .before .before .before .args .a .now in let l = c .before .before .before .before .before .before .args .l in let g : Growing a = c .before .before .before .before .before .before .pre .0 in let i : l < labelCount a = c .before .before .before .before .before .before .pre .1 in
+walk-from-requires c κs = let a = c .before .before .before .before .before .before .args .a .now in
+    let l = c .before .before .before .before .before .before .args .l in
+    let g : Growing a = c .before .before .before .before .before .before .pre .0 in
+    let i : l < labelCount a = c .before .before .before .before .before .before .pre .1 in
     let p : c .before .before .before .before .word-at .result ≡ parentAt a l = c .before .before .before .before .word-at .ensures .0 in
     let f : c .before .fail-of .result ≡ failOf a (parentAt a l) = c .before .fail-of .ensures ∙ ap (failOf a) p in
     (g .walkable, (rw f (fail-state a (g .walkable .falling) (parentAt a l) (g .parent l i)), c .hash-of .ensures .0))
 
 returns-2 : tie.Need-returns-2
 unfolding failTo linksAt linkSize
-returns-2 c = let a = c .before .before .before .before .before .before .before .args .a .now in let l = c .before .before .before .before .before .before .before .args .l in let g : Growing a = c .before .before .before .before .before .before .before .pre .0 in let i : l < labelCount a = c .before .before .before .before .before .before .before .pre .1 in
+returns-2 c = let a = c .before .before .before .before .before .before .before .args .a .now in
+    let l = c .before .before .before .before .before .before .before .args .l in
+    let g : Growing a = c .before .before .before .before .before .before .before .pre .0 in
+    let i : l < labelCount a = c .before .before .before .before .before .before .before .pre .1 in
     let p : c .before .before .before .before .before .word-at .result ≡ parentAt a l = c .before .before .before .before .before .word-at .ensures .0 in
     let z : parentAt a l ≡ 0 → ⊥ = λ e. c .before .before .before .before .if1 .left (p ∙ e) in
     let f : c .before .before .fail-of .result ≡ failOf a (parentAt a l) = c .before .before .fail-of .ensures ∙ ap (failOf a) p in
