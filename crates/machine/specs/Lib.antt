@@ -21,6 +21,5 @@ pub mod Run
 pub mod RunCalls
 pub mod Asking
 pub mod Build
-pub mod Chains
 pub mod Masks
 pub mod Compiled
