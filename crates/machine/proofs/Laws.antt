@@ -15,6 +15,7 @@ pub mod Masked
 pub mod Started
 pub mod ChainPlaces
 pub mod Compiled
+pub mod Finished
 pub mod Walked
 pub mod Order
 pub mod Calls
@@ -63,3 +64,4 @@ pub mod Placed
 pub mod Parents
 pub mod Elsewhere
 pub mod Linking
+pub mod Accepting

@@ -1,19 +1,19 @@
 -- What an automaton's tables mean: the laws of the bytes that were built from a set. The calls on a run use these and nothing else of the
 -- build.
-use Prim.Native.Nat.{ℕ, zero, suc, _+_, _*_, _≤_, _<_}
+use Prim.Native.Nat.{ℕ, suc, _+_, _*_, _≤_, _<_}
 use mathlib.Core.Path.{_≡_}
-use mathlib.Core.Bool.{Bool, true, false, cond}
+use mathlib.Core.Bool.{true, false, cond}
 use mathlib.Core.List.{List, [], _∷_, _++_}
 use lib.ListN.{length, getD, take}
 use Rattle.notation.specs.Names.{Name}
-use Rattle.notation.specs.Sets.{child, label, star, Step, step, FolderSet, testOf}
+use Rattle.notation.specs.Sets.{child, label, star, step, FolderSet, testOf}
 use Rattle.notation.specs.Form.{pathsOf, labelsOf}
 use Rattle.notation.specs.Activity.{sameName}
 use Rattle.notation.specs.Reads.{word16, pathCount, stepCount, labelCount, labelEntryAt}
 use Rattle.machine.specs.Words.{Word, begins}
 use Rattle.machine.specs.Prefix.{IsPrefix, failure}
 use Rattle.machine.specs.Walk.{followedBy, Walked, movesOf, arrivedAt, walk}
-use Rattle.machine.specs.Calls.{State, fresh}
+use Rattle.machine.specs.Calls.{fresh}
 use Rattle.machine.specs.Automaton.{maskSize, masksAt, allSteps, allLabels, stateOf, roles, roleAt, startState}
 use Rattle.machine.specs.Tables.{startOf, sizeOf, failOf, goto, walkOver}
 use Rattle.machine.specs.Bits.{bitIn}

@@ -21,5 +21,6 @@ pub mod Run
 pub mod RunCalls
 pub mod Asking
 pub mod Demand3
+pub mod Build
 pub mod Masks
 pub mod Compiled

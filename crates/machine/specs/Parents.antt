@@ -1,6 +1,6 @@
 -- The pass over an automaton's bytes that stores each label's parent and the length of its word, step by step in set order. It follows the
 -- code; a law says that it stores those of the automaton's definition.
-use Prim.Native.Nat.{ℕ, zero, suc, _+_, _*_, _≤_}
+use Prim.Native.Nat.{ℕ, zero, suc, _+_, _*_, _≤_, _<_}
 use mathlib.Core.Bool.{Bool, true, false, cond}
 use mathlib.Core.List.{List}
 use lib.Dec.{eqb, ltb}
@@ -76,4 +76,4 @@ outset = record { labels = 0; paths = 0; state = 0 }
 pub record Sound (most : ℕ) (at : Place) (a : List ℕ) : Type 0 where
   pub searchable : Searchable a
   pub paths : at .paths ≤ most
-  pub state : at .state ≤ 65536
+  pub state : at .state < 65536

@@ -17,3 +17,9 @@ pub enum Length {
     Symbols(usize),
     Refused(u8),
 }
+
+// A written text's length, or a refusal.
+pub enum Written {
+    Bytes(usize),
+    Refused(u8),
+}

@@ -61,3 +61,4 @@ pub mod Reads
 pub mod ReadSteps
 pub mod ReadFolders
 pub mod ReadPaths
+pub mod WriteBack

@@ -18,11 +18,12 @@ use Rattle.notation.proofs.Laws.AcceptedSet.{accepted-fits}
 use Rattle.notation.proofs.Laws.Reads.{text-len, folders-read, paths-read, steps-read}
 use Rattle.machine.specs.Words.{name, Word, before, labelWords, begins, document}
 use Rattle.machine.specs.Walk.{followedBy}
-use Rattle.machine.specs.Automaton.{maskSize, bit, masks, allLabels, heads, links, startState, automatonOf}
+use Rattle.machine.specs.Automaton.{maskSize, masks, allLabels, heads, links, startState, automatonOf}
 use Rattle.machine.specs.Shape.{automatonShaped}
 use Rattle.machine.specs.Walkable.{Walkable}
 use Rattle.machine.specs.Fails.{Growing}
 use Rattle.machine.proofs.Laws.Labels.{LabelWord, begins-label}
+use Rattle.machine.proofs.Laws.Bits.{bit-small}
 use Rattle.machine.proofs.Laws.Tabulate.{tabulate-length}
 use Rattle.machine.proofs.Laws.Assembled.{nextOf, parentOf, failureOf, lengthOf, start-read}
 use Rattle.machine.proofs.Laws.States.{word-ends, label-begins}
@@ -78,14 +79,10 @@ links-right s = record {
   size = λ l h. ap lengthOf (links-at s l h);
 }
 
--- the masks' size, and the initial state
+-- the masks' size
 pub masks-length : (s : FolderSet) → length (masks s) ≡ 6 * maskSize
 unfolding masks
 masks-length s = simp (length-append, tabulate-length) (omega arith)
-
-bit-small : (b : Bool) → bit b ≤ 1
-bit-small true = omega arith
-bit-small false = omega arith
 
 module _ (s : FolderSet) (fit : Fitting s) (few : pathsLong s ≡ false) (rest : List ℕ) where
   pub built-grows : Growing (automatonOf s ++ rest)

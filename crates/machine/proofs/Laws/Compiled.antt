@@ -1,38 +1,37 @@
 -- The automaton of a set that fits its limits has the laws of `Compiled`, whatever stands behind it; so for every accepted set.
-use Prim.Native.Nat.{ℕ, zero, suc, _+_, _-_, _*_, _/_, _%_, _≤_, _<_}
-use mathlib.Core.Path.{_≡_, refl, sym, _∙_, ap, ap₂, subst}
-use mathlib.Core.Bool.{Bool, true, false, cond}
-use mathlib.Core.Logic.{_⊎_, inl, inr}
+use Prim.Native.Nat.{ℕ, suc, _+_, _*_, _/_, _%_, _≤_, _<_}
+use mathlib.Core.Path.{_≡_, refl, sym, _∙_, ap}
+use mathlib.Core.Bool.{false}
+use mathlib.Core.Logic.{inl, inr}
 use mathlib.Core.List.{List, [], _∷_, _++_, List·Memᴰ, List·Memᴰ·not-nil, List·Memᴰ·cases-cons}
-use native.Mathlib.Nat.{add-zero}
 use native.Mathlib.Omega.{arith}
 use lib.ListN.{length, getD, length-append}
-use Rattle.notation.specs.Names.{Name}
 use Rattle.notation.specs.Limits.{maxPaths, maxSteps, maxLabels}
-use Rattle.notation.specs.Sets.{child, descendant, label, star, Step, step, Path, FolderSet, testOf}
-use Rattle.notation.specs.Form.{pathsOf, stepsOf, labelsOf}
+use Rattle.notation.specs.Sets.{child, descendant, label, star, step, Path, FolderSet}
+use Rattle.notation.specs.Form.{pathsOf, stepsOf}
 use Rattle.notation.specs.Layout.{setPart}
-use Rattle.notation.specs.Reads.{word16, pathCount, stepCount, labelCount, labelEntryAt, labelAt}
+use Rattle.notation.specs.Reads.{word16, labelEntryAt, labelAt}
 use Rattle.notation.specs.Accepted.{Accepted}
 use Rattle.notation.specs.declared.reads.LabelAt.{LabelAt}
 use Rattle.notation.proofs.Laws.Fitting.{Fitting}
 use Rattle.notation.proofs.Laws.Reads.{paths-read, steps-read, labels-read, there}
-use Rattle.notation.proofs.Laws.ReadPaths.{LabelRead, label-read}
+use Rattle.notation.proofs.Laws.ReadPaths.{label-read}
 use Rattle.notation.proofs.Laws.AcceptedSet.{accepted-fits}
-use Rattle.machine.specs.Words.{Symbol, document, name, Word, before, labelWords, begins}
-use Rattle.machine.specs.Prefix.{IsPrefix, longestEnd, failure}
+use Rattle.machine.specs.Words.{document, name, Word, before, labelWords, begins}
+use Rattle.machine.specs.Prefix.{IsPrefix, failure}
 use Rattle.machine.specs.Walk.{followedBy}
-use Rattle.machine.specs.Calls.{State, fresh}
-use Rattle.machine.specs.Automaton.{hashes, maskSize, masksAt, allSteps, allLabels, allWords, stateIn, stateOf, shortened, heads, headOf, nexts, Link, link, linksOf, links, Role, roles, roleAt, masks, bit, bitBytes, byteOf, startState, assembled, automatonOf}
-use Rattle.machine.specs.Tables.{startOf, failAt, sizeAt, sizeOf}
+use Rattle.machine.specs.Calls.{fresh}
+use Rattle.machine.specs.Automaton.{hashes, maskSize, masksAt, allLabels, allWords, stateOf, heads, headOf, links, roles, roleAt, masks, bitBytes, byteOf, startState, automatonOf}
+use Rattle.machine.specs.Tables.{startOf, sizeAt, sizeOf}
 use Rattle.machine.specs.Bits.{bitOf, bitIn}
 use Rattle.machine.specs.Masks.{maskTest}
 use Rattle.machine.specs.Compiled.{LabelStep, Compiled}
 use Rattle.machine.proofs.Laws.Basics.{cases}
 use Rattle.machine.proofs.Laws.Prefix.{longest-end}
 use Rattle.machine.proofs.Laws.Labels.{LabelWord}
-use Rattle.machine.proofs.Laws.Bits.{tabulate-length, bit-small, bits-bit}
-use Rattle.machine.proofs.Laws.States.{words-count, among-label, at-among, state-empty, state-root, StateKind, ofEmpty, ofRoot, ofLabel, LabelState, state-kind, state-one, state-none, state-within}
+use Rattle.machine.proofs.Laws.Tabulate.{tabulate-length}
+use Rattle.machine.proofs.Laws.Bits.{bit-small, bits-bit}
+use Rattle.machine.proofs.Laws.States.{words-count, among-label, at-among, state-empty, state-root, StateKind, ofEmpty, ofRoot, ofLabel, state-kind, state-one, state-none, state-within}
 use Rattle.machine.proofs.Laws.Assembled.{Sized, noLink, nextOf, parentOf, failureOf, lengthOf, after-set, fail-read, size-read, mask-read, start-read}
 use Rattle.machine.proofs.Laws.Goto.{Linked, goto-is}
 use Rattle.machine.proofs.Laws.Linked.{small, linked-here}
@@ -40,6 +39,7 @@ use Rattle.machine.proofs.Laws.Walked.{FailAt, fail-word, walk-over}
 use Rattle.machine.proofs.Laws.MaskRows.{place, roleBits, all-bits, masks-are}
 use Rattle.machine.proofs.Laws.Masked.{bit-in, byte-in, all-roles-length, all-small}
 use Rattle.machine.proofs.Laws.ChainPlaces.{chain-places}
+use Rattle.machine.proofs.Laws.Fails.{links-length, links-at}
 
 -- a label's word has at most its path's steps and `#`
 word-short : (p : Path) (w u : Word) → List·Memᴰ u (labelWords w p) → length u ≤ length w + length p
@@ -72,26 +72,6 @@ path-short (q ∷ ps) {p} m =
       | inr t ↦ omega (arith, path-short ps t, length-append q (stepsOf ps))
     ]
 
-nexts-count : (k : ℕ) (names : List Name) → length (nexts k names) ≡ length names
-unfolding nexts
-nexts-count k [] = refl
-nexts-count k (n ∷ names) = ap suc (nexts-count (suc k) names)
-
--- a label's link
-links-at : (s : FolderSet) (ns : List ℕ) (ws : List Word) (l : ℕ) → l < length ns → length ns ≡ length ws
-    → getD (linksOf s ns ws) l noLink ≡ link (getD ns l 0) (stateOf s (shortened (getD ws l []))) (stateOf s (failure s (getD ws l []))) (length (getD ws l []))
-unfolding linksOf
-links-at s [] ws l h e = absurd (omega arith)
-links-at s (n ∷ ns) [] l h e = absurd (omega arith)
-links-at s (n ∷ ns) (w ∷ ws) zero h e = refl
-links-at s (n ∷ ns) (w ∷ ws) (suc l) h e = links-at s ns ws l (omega arith) (omega arith)
-
-links-count : (s : FolderSet) (ns : List ℕ) (ws : List Word) → length ns ≡ length ws → length (linksOf s ns ws) ≡ length ns
-unfolding linksOf
-links-count s [] ws e = refl
-links-count s (n ∷ ns) [] e = absurd (omega arith)
-links-count s (n ∷ ns) (w ∷ ws) e = ap suc (links-count s ns ws (omega arith))
-
 pub failure-prefix : (s : FolderSet) (w : Word) → IsPrefix s (failure s w)
 unfolding failure
 failure-prefix s w = longest-end s _ .starts
@@ -114,35 +94,25 @@ unfolding maskSize
 bit-place m i = omega arith
 
 module _ (s : FolderSet) (fit : Fitting s) (rest : List ℕ) where
-  same-count : length (nexts 0 (allLabels s)) ≡ length (allWords s)
-  same-count = nexts-count 0 (allLabels s) ∙ sym (words-count s)
-
-  count : length (links s) ≡ length (allLabels s)
-  count = links-count s (nexts 0 (allLabels s)) (allWords s) same-count ∙ nexts-count 0 (allLabels s)
-
-  link-at : (l : ℕ) → l < length (allLabels s)
-      → getD (links s) l noLink ≡ link (getD (nexts 0 (allLabels s)) l 0) (stateOf s (shortened (getD (allWords s) l []))) (stateOf s (failure s (getD (allWords s) l []))) (length (getD (allWords s) l []))
-  link-at l h = links-at s (nexts 0 (allLabels s)) (allWords s) l (omega (arith, nexts-count 0 (allLabels s))) same-count
-
   few-roles : length (roles s) ≤ 8 * maskSize
   few-roles = omega (arith, all-roles-length (pathsOf s), fit .steps, all-small)
 
   pub automaton-sized : Sized (heads (allLabels s)) (links s) (masks s)
   automaton-sized = record {
     heads = tabulate-length (headOf (allLabels s)) hashes;
-    links = omega (arith, count, fit .labels);
+    links = omega (arith, links-length s, fit .labels);
     masks = ap length (sym (masks-are s few-roles)) ∙ tabulate-length (byteOf (roleBits 0 (roles s) (λ k. false))) (6 * maskSize);
   }
 
   pub automaton-linked : Linked s (automatonOf s ++ rest)
   unfolding automatonOf
-  automaton-linked = linked-here s fit (links s) (masks s) (startState s) automaton-sized rest count (λ l h. ap nextOf (link-at l h)) (λ l h. ap parentOf (link-at l h))
+  automaton-linked = linked-here s fit (links s) (masks s) (startState s) automaton-sized rest (links-length s) (λ l h. ap nextOf (links-at s l h)) (λ l h. ap parentOf (links-at s l h))
 
   fails : (l : ℕ) → l < length (allLabels s) → FailAt s (automatonOf s ++ rest) l
   unfolding automatonOf
   fails l h =
-      let e : failureOf (getD (links s) l noLink) ≡ stateOf s (failure s (getD (allWords s) l [])) = ap failureOf (link-at l h) in
-      fail-read s fit (heads (allLabels s)) (links s) (masks s) (startState s) automaton-sized rest l (omega (arith, count))
+      let e : failureOf (getD (links s) l noLink) ≡ stateOf s (failure s (getD (allWords s) l [])) = ap failureOf (links-at s l h) in
+      fail-read s fit (heads (allLabels s)) (links s) (masks s) (startState s) automaton-sized rest l (omega (arith, links-length s))
       (rw e (small (length (allLabels s)) _ (fit .labels) (state-within s _ (failure-prefix s (getD (allWords s) l [])))))
       ∙ e
 
@@ -155,8 +125,8 @@ module _ (s : FolderSet) (fit : Fitting s) (rest : List ℕ) where
   sizes : (l : ℕ) → l < length (allLabels s) → sizeAt (automatonOf s ++ rest) l ≡ length (getD (allWords s) l [])
   unfolding automatonOf
   sizes l h =
-      let e : lengthOf (getD (links s) l noLink) ≡ length (getD (allWords s) l []) = ap lengthOf (link-at l h) in
-      size-read s fit (heads (allLabels s)) (links s) (masks s) (startState s) automaton-sized rest l (omega (arith, count)) (rw e (short l h)) ∙ e
+      let e : lengthOf (getD (links s) l noLink) ≡ length (getD (allWords s) l []) = ap lengthOf (links-at s l h) in
+      size-read s fit (heads (allLabels s)) (links s) (masks s) (startState s) automaton-sized rest l (omega (arith, links-length s)) (rw e (short l h)) ∙ e
 
   size-word : (w : Word) → IsPrefix s w → sizeOf (automatonOf s ++ rest) (stateOf s w) ≡ length w
   unfolding sizeOf

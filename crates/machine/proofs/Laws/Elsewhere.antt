@@ -3,13 +3,12 @@ use Prim.Native.Nat.{ℕ, suc, _+_, _*_, _/_, _%_, _≤_, _<_}
 use native.Mathlib.Omega.{arith}
 use mathlib.Core.Path.{_≡_, ap₂, _∙_}
 use mathlib.Core.Logic.{_⊎_, inl, inr}
-use mathlib.Core.Bool.{Bool, true, false}
-use mathlib.Core.List.{List, [], _∷_}
+use mathlib.Core.List.{List}
 use lib.Dec.{ltb}
 use borrow.Author.Tests.{ltb-true, ltb-false}
-use lib.ListN.{length, getD, set}
+use lib.ListN.{getD, set}
 use lib.Seq.{sets, getD-set-other}
-use Rattle.notation.specs.Layout.{setSize, le16}
+use Rattle.notation.specs.Layout.{le16}
 use Rattle.notation.specs.Reads.{word16, labelCount}
 use Rattle.machine.specs.Automaton.{hashes, headsAt, linksAt, linkSize}
 use Rattle.machine.specs.Tables.{headAt, nextAt, sizeOf}

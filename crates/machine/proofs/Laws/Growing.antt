@@ -17,7 +17,8 @@ use Rattle.machine.specs.Automaton.{hashes, hash, automatonSize, headsAt
 use Rattle.machine.specs.Tables.{headAt, nextAt, parentAt, failAt, sizeAt, sizeOf, failOf, follows, gotoFrom, goto, walkFrom, walkOver}
 use Rattle.machine.specs.Fails.{failTo, failed, failedIf, failedBelow, failedTo, Growing}
 use Rattle.machine.proofs.Laws.Basics.{cases, both}
-use Rattle.machine.proofs.Laws.Fuel.{hash-below, fail-state, fail-shorter, over-state}
+use Rattle.machine.proofs.Laws.Goto.{hash-small}
+use Rattle.machine.proofs.Laws.Fuel.{fail-state, fail-shorter, over-state}
 
 -- a number after another one was stored
 kept : (a : List ℕ) (at v j : ℕ) → (j ≡ at → ⊥) → (j ≡ suc at → ⊥) → (j + 1 ≡ at → ⊥) → (j + 1 ≡ suc at → ⊥) → word16 (sets a at (le16 v)) j ≡ word16 a j
@@ -51,7 +52,7 @@ module _ (a : List ℕ) (g : Growing a) (e : Name) where
 
   at-goto : (q : ℕ) → sizeOf a (goto a q e) ≤ suc (sizeOf a q)
   unfolding goto
-  at-goto q = goto-grows _ q (headAt a (hash e)) (g .walkable .searchable .head (hash e) (hash-below e))
+  at-goto q = goto-grows _ q (headAt a (hash e)) (g .walkable .searchable .head (hash e) (hash-small e))
 
   walk-grows : (m q : ℕ) → q ≤ suc (labelCount a) → sizeOf a (walkFrom m a q e .state) ≤ suc (sizeOf a q)
   unfolding walkFrom

@@ -1,10 +1,10 @@
 -- The passes of the chains and of the parents, one after the other, from links of zeros: what they leave are the set's links but for the
 -- failure links, which are 0.
-use Prim.Native.Nat.{ℕ, zero, suc, _+_, _*_, _≤_, _<_, min}
+use Prim.Native.Nat.{ℕ, zero, suc, _*_, _<_, min}
 use native.Mathlib.Nat.{not-suc-le-zero, le-of-suc-le-suc}
 use native.Mathlib.Omega.{arith}
-use mathlib.Core.Path.{_≡_, refl, sym, ap, _∙_}
-use mathlib.Core.Logic.{_⊎_, inl, inr}
+use mathlib.Core.Path.{_≡_, refl, ap, _∙_}
+use mathlib.Core.Logic.{inl}
 use mathlib.Core.Bool.{true}
 use mathlib.Core.List.{List, [], _∷_, _++_}
 use lib.ListN.{length, getD, replicate, length-replicate, getD-replicate}
@@ -26,7 +26,7 @@ use Rattle.machine.proofs.Laws.States.{words-count}
 use Rattle.machine.proofs.Laws.Linked.{chained-here}
 use Rattle.machine.proofs.Laws.Searched.{chained-searchable}
 use Rattle.machine.proofs.Laws.Chains.{withNexts, length-withNexts, chained-is}
-use Rattle.machine.proofs.Laws.Placed.{marked, placed, length-placed, placed-at, marked-next, marked-parent, marked-length}
+use Rattle.machine.proofs.Laws.Placed.{marked, placed, length-placed, placed-at}
 use Rattle.machine.proofs.Laws.Parents.{parented-is}
 use Rattle.machine.proofs.Laws.Staged.{Links}
 

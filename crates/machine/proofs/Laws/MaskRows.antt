@@ -1,39 +1,33 @@
 -- The six masks as one row of bits: how it is made step by step, and that it is the masks of the set.
 use Prim.Native.Nat.{ℕ, zero, suc, _+_, _-_, _*_, _≤_, _<_}
 use mathlib.Core.Path.{_≡_, refl, sym, _∙_, ap, ap₂}
-use mathlib.Core.Bool.{Bool, true, false, not, _&&_, _||_}
+use mathlib.Core.Bool.{Bool, true, false, _&&_, _||_}
 use mathlib.Core.List.{List, [], _∷_, _++_, append-nil, append-assoc}
 use native.Mathlib.Nat.{add-zero, add-suc, sub-zero}
 use native.Mathlib.Omega.{arith}
 use borrow.Author.Tests.{eq-eqb, ne-eqb, eqb-true, eqb-false, le-leb, lt-leb, leb-true, leb-false}
 use lib.Dec.{eqb, leb}
-use lib.ListN.{length, getD, replicate, length-replicate, getD-replicate}
-use lib.Seq.{ext-getD}
+use lib.ListN.{length, replicate}
 use Rattle.notation.specs.Sets.{child, descendant, Test, step, FolderSet, axisOf, testOf}
 use Rattle.notation.specs.Reads.{isDescendant, isStar}
-use Rattle.machine.specs.Automaton.{maskSize, tabulate, packed, byteOf, bitBytes, Role, role, roles, roleAt, mask, masks, isStarRole, isChildRole, isDescendantRole, isAnywhereRole, isRootRole, isLastRole}
+use Rattle.machine.specs.Automaton.{maskSize, tabulate, packed, byteOf, bitBytes, Role, role, roles, roleAt, mask, masks, isLastRole}
 use Rattle.machine.specs.Masks.{axisMask, maskTest}
 use Rattle.machine.proofs.Laws.Basics.{cases, both, both-true}
-use Rattle.machine.proofs.Laws.Bits.{tabulate-length, tabulate-at}
+use Rattle.machine.proofs.Laws.Tabulate.{tabulate-same, tabulate-constant}
 use Rattle.machine.proofs.Laws.WithBit.{packed-same}
 use Rattle.machine.proofs.Laws.Goto.{same-test}
 
 -- equal bits, equal rows
 pub bits-same : (b c : ℕ → Bool) (n : ℕ) → ((j : ℕ) → j < 8 * n → b j ≡ c j) → bitBytes b n ≡ bitBytes c n
-unfolding tabulate
-bits-same b c zero h = refl
-bits-same b c (suc n) h =
-    ap₂ (λ (l : List ℕ) (x : ℕ). l ++ (x ∷ [])) (bits-same b c n (λ j k. h j (omega arith)))
-    (packed-same (λ k. b (8 * n + k)) (λ k. c (8 * n + k)) (λ k l. h (8 * n + k) (omega arith)))
+bits-same b c n h =
+    tabulate-same (byteOf b) (byteOf c) n (λ i k. packed-same (λ j. b (8 * i + j)) (λ j. c (8 * i + j)) (λ j l. h (8 * i + j) (omega arith)))
 
 no-bits : packed (λ k. false) ≡ 0
 unfolding packed
 no-bits = refl
 
 pub bits-none : (n : ℕ) → bitBytes (λ j. false) n ≡ replicate n 0
-bits-none n =
-    ext-getD 0 (bitBytes (λ j. false) n) (replicate n 0) (tabulate-length (byteOf (λ j. false)) n ∙ sym (length-replicate n 0))
-    (λ i h. let k : i < n = omega (arith, tabulate-length (byteOf (λ j. false)) n) in tabulate-at (byteOf (λ j. false)) n i k ∙ no-bits ∙ sym (getD-replicate n i 0 0 k))
+bits-none n = tabulate-same (byteOf (λ j. false)) (λ i. 0) n (λ i k. no-bits) ∙ tabulate-constant n 0
 
 -- a row of rows
 pub bits-split : (b : ℕ → Bool) (n k : ℕ) → bitBytes b (n + k) ≡ bitBytes b n ++ bitBytes (λ j. b (8 * n + j)) k

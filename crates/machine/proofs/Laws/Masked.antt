@@ -1,17 +1,15 @@
 -- On the bytes of a set, the pass over the steps gives the set's masks, and the initial state is that of a fresh run.
-use Prim.Native.Nat.{ℕ, zero, suc, _+_, _-_, _*_, _/_, _%_, _≤_, _<_}
-use mathlib.Core.Path.{_≡_, refl, sym, _∙_, ap, ap₂, subst}
-use mathlib.Core.Bool.{Bool, true, false, not, _||_, cond}
-use mathlib.Core.Logic.{_⊎_, inl, inr}
+use Prim.Native.Nat.{ℕ, suc, _+_, _*_, _/_, _%_, _≤_, _<_}
+use mathlib.Core.Path.{_≡_, refl, sym, _∙_, ap, ap₂}
+use mathlib.Core.Bool.{Bool, true, false}
 use mathlib.Core.List.{List, [], _∷_, _++_, append-assoc, append-nil}
 use native.Mathlib.Nat.{add-zero}
 use native.Mathlib.Omega.{arith}
 use borrow.Author.Tests.{lt-ltb, ne-eqb}
-use lib.Dec.{eqb, ltb}
-use lib.ListN.{length, getD, take, set, replicate, length-append, List·getD-append}
+use lib.ListN.{length, getD, take, replicate, length-append, List·getD-append}
 use lib.Seq.{getD-append-add, getD-append-seam, take-append-seam}
 use Rattle.notation.specs.Limits.{maxPaths, maxSteps}
-use Rattle.notation.specs.Sets.{child, descendant, Test, Step, step, Path, FolderSet, axisOf, testOf}
+use Rattle.notation.specs.Sets.{Step, Path, FolderSet, axisOf, testOf}
 use Rattle.notation.specs.Print.{printPath}
 use Rattle.notation.specs.Layout.{setPart}
 use Rattle.notation.specs.Form.{pathsOf, stepsOf}
@@ -21,13 +19,12 @@ use Rattle.notation.specs.declared.reads.StepAt.{StepAt}
 use Rattle.notation.proofs.Laws.Fitting.{Fitting}
 use Rattle.notation.proofs.Laws.Reads.{paths-read}
 use Rattle.notation.proofs.Laws.LabelTable.{noStep, steps-append}
-use Rattle.notation.proofs.Laws.PathTable.{stepsBefore, steps-through}
 use Rattle.notation.proofs.Laws.ReadSteps.{step-read}
-use Rattle.notation.proofs.Laws.ReadPaths.{PathRead, path-read}
-use Rattle.machine.specs.Automaton.{maskSize, masksAt, allSteps, Link, Role, role, rolesFrom, rolesIn, roles, masks, bitBytes, byteOf, assembled}
+use Rattle.notation.proofs.Laws.ReadPaths.{path-read}
+use Rattle.machine.specs.Automaton.{maskSize, allSteps, Link, Role, role, rolesFrom, rolesIn, roles, masks, bitBytes, byteOf, assembled}
 use Rattle.machine.specs.Masks.{withBit, marked, axisMask, markRole, markStep, markSteps, markPath, markPaths, withMasks}
-use Rattle.machine.proofs.Laws.Bits.{tabulate-length}
-use Rattle.machine.proofs.Laws.WithBit.{bits-with, adding}
+use Rattle.machine.proofs.Laws.Tabulate.{tabulate-length}
+use Rattle.machine.proofs.Laws.WithBit.{bits-with}
 use Rattle.machine.proofs.Laws.Assembled.{Sized, after-set, mask-read, mask-put}
 use Rattle.machine.proofs.Laws.MaskRows.{bits-none, place, marks, markBits, roleBits, masks-are}
 

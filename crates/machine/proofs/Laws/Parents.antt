@@ -1,15 +1,13 @@
 -- The pass stores each label's parent and the length of its word, as the automaton's definition has them.
-use Prim.Native.Nat.{ℕ, zero, suc, _+_, _-_, _*_, _≤_, _<_}
-use native.Mathlib.Nat.{not-suc-le-zero, le-of-suc-le-suc}
-use native.Mathlib.Numerals.{add-one}
+use Prim.Native.Nat.{ℕ, suc, _+_, _*_, _≤_, _<_}
 use native.Mathlib.Omega.{arith}
 use mathlib.Core.Path.{_≡_, refl, sym, ap, ap₂, _∙_, subst}
-use mathlib.Core.Logic.{_⊎_, inl, inr}
+use mathlib.Core.Logic.{inl, inr}
 use mathlib.Core.Bool.{Bool, true, false}
-use mathlib.Core.List.{List, [], _∷_, _++_, append-assoc, append-nil}
-use lib.Dec.{eqb, ltb}
+use mathlib.Core.List.{List, [], _∷_, _++_, append-assoc}
+use lib.Dec.{ltb}
 use borrow.Author.Tests.{lt-ltb, eq-eqb, ne-eqb, ltb-true, ltb-false}
-use lib.ListN.{length, getD, set, take, drop, length-append, length-set}
+use lib.ListN.{length, getD, set, length-append, length-set}
 use lib.Seq.{sets, getD-at, take-at, set-set, getD-set-same}
 use Rattle.notation.specs.Names.{Name}
 use Rattle.notation.specs.Limits.{maxLabels}
@@ -17,25 +15,24 @@ use Rattle.notation.specs.Sets.{Axis, child, descendant, Test, label, star, Ste
 use Rattle.notation.specs.Form.{pathsOf, stepsOf, nonEmpty, every}
 use Rattle.notation.specs.Layout.{le16}
 use Rattle.notation.specs.Reads.{labelName, pathAt, stepAt, stepCount, isDescendant, isStar}
-use Rattle.notation.specs.declared.reads.PathAt.{PathAt}
 use Rattle.notation.specs.declared.reads.StepAt.{StepAt}
 use Rattle.notation.proofs.Laws.LabelTable.{noStep}
 use Rattle.notation.proofs.Laws.PathTable.{stepsBefore}
 use Rattle.notation.proofs.Laws.Fitting.{Fitting}
 use Rattle.notation.proofs.Laws.ReadPaths.{path-read, path-missing}
-use Rattle.machine.specs.Words.{document, name, Word, before, labelWords}
+use Rattle.machine.specs.Words.{document, name, Word, labelWords}
 use Rattle.machine.specs.Walk.{followedBy}
 use Rattle.machine.specs.Prefix.{IsPrefix}
 use Rattle.machine.specs.Automaton.{maskSize, linksAt, linkSize, Link, find, allSteps, allLabels, wordsIn, allWords, sameWord, stateIn, stateOf, shortened, heads, nexts, assembled}
 use Rattle.machine.specs.Tables.{sizeAt, sizeOf, goto}
-use Rattle.machine.specs.Parents.{Passed, startsAt, entered, emptied, wordStored, followed, labelled, tested, passedBy, passed, parented, outset}
+use Rattle.machine.specs.Parents.{startsAt, wordStored, labelled, tested, passedBy, passed, parented, outset}
 use Rattle.machine.specs.declared.build.parents.Place.{Place}
 use Rattle.machine.proofs.Laws.Basics.{cases, clash}
 use Rattle.machine.proofs.Laws.Tabulate.{tabulate-length}
 use Rattle.machine.proofs.Laws.Assembled.{nextOf, parentOf, lengthOf, withParent, withLength, noLink, Sized, parent-put, size-put, size-read}
 use Rattle.machine.proofs.Laws.SetReads.{of-set, label-bytes, step-entry, step-count}
 use Rattle.machine.proofs.Laws.States.{same-word, word-same, shortened-followed, followed-last, words-count, word-ends, label-parent, state-followed}
-use Rattle.machine.proofs.Laws.Goto.{Chained, ParentAt, Enough, goto-word}
+use Rattle.machine.proofs.Laws.Goto.{Chained, ParentAt, goto-word}
 use Rattle.machine.proofs.Laws.Linked.{chained-here, parent-here}
 use Rattle.machine.proofs.Laws.Placed.{marked, placed, marked-next, marked-parent, marked-length, upTo, upTo-length, upTo-done, upTo-rest, upTo-step, upTo-all, find-first, words-short}
 
@@ -87,6 +84,30 @@ next-step left i at a first e g =
 steps-before : (s : FolderSet) (gone ps : List Path) → pathsOf s ≡ gone ++ ps → stepsBefore (pathsOf s) (length gone) ≡ length (stepsOf gone)
 steps-before s gone ps e = rw e (ap (λ (l : List Path). length (stepsOf l)) (take-at gone ps (length gone) refl))
 
+-- a step after others of its path
+go-deep : (s : FolderSet) (w : Word) (t : Test) (p : Path) (ps : List Path) (done : List Word) → allWords s ≡ done ++ (labelWords w (step descendant t ∷ p) ++ wordsIn ps)
+    → allWords s ≡ done ++ (labelWords [] (step child t ∷ p) ++ wordsIn ps)
+unfolding labelWords
+go-deep s w (label n) p ps done e = e
+go-deep s w star p ps done e = e
+
+go-on : (s : FolderSet) (i l begun : ℕ) (w : Word) (x : Step) (v : Word) (p : Path) (ps : List Path) (h : Here s i l begun w (x ∷ p) ps)
+    → allWords s ≡ h .done ++ (labelWords v (step child (testOf x) ∷ p) ++ wordsIn ps) → Seen s l v → Ready s i l begun v x p ps
+go-on s i l begun w x v p ps h e q = record {
+  front = h .front;
+  steps = h .steps;
+  frontSize = h .frontSize;
+  done = h .done;
+  words = e;
+  doneSize = h .doneSize;
+  gone = h .gone;
+  paths = h .paths;
+  goneSize = h .goneSize;
+  until = h .until;
+  seen = q;
+  full = h .full;
+}
+
 -- a path's first step
 begun-words : (s : FolderSet) (t : Test) (p : Path) (ps : List Path) (done : List Word) → allWords s ≡ done ++ wordsIn ((step child t ∷ p) ∷ ps)
     → allWords s ≡ done ++ (labelWords (document ∷ []) (step child t ∷ p) ++ wordsIn ps)
@@ -95,9 +116,8 @@ begun-words s t p ps done e = e
 
 begun-deep : (s : FolderSet) (t : Test) (p : Path) (ps : List Path) (done : List Word) → allWords s ≡ done ++ wordsIn ((step descendant t ∷ p) ∷ ps)
     → allWords s ≡ done ++ (labelWords [] (step child t ∷ p) ++ wordsIn ps)
-unfolding wordsIn labelWords
-begun-deep s (label n) p ps done e = e
-begun-deep s star p ps done e = e
+unfolding wordsIn
+begun-deep s t p ps done e = go-deep s [] t p ps done e
 
 begin : (s : FolderSet) (i l begun : ℕ) (w : Word) (x : Step) (v : Word) (p : Path) (ps : List Path) (h : Here s i l begun w [] ((x ∷ p) ∷ ps))
     → allWords s ≡ h .done ++ (labelWords v (step child (testOf x) ∷ p) ++ wordsIn ps) → Seen s l v → Ready s i l (begun + 1) v x p ps
@@ -297,48 +317,12 @@ module _ (s : FolderSet) (fit : Fitting s) (ls : List Link) (ms : List ℕ) (f :
       next-step (length (p ++ stepsOf ps)) i (at l begun w) (stage l) false
       (step-here l i (h .front) (step child t) (p ++ stepsOf ps) (h .steps) (h .frontSize))
       (rw (← h .goneSize) (first-not l i (h .gone) ps (h .paths) (omega (arith, h .until))))
-      ∙ (after i l begun (length (p ++ stepsOf ps)) w child t p ps (ready h) (λ l' w' r. inside p ps k (i + 1) l' begun w' r))
-    where
-      ready : (h : Here s i l begun w (step child t ∷ p) ps) → Ready s i l begun w (step child t) p ps
-      ready h = record {
-        front = h .front;
-        steps = h .steps;
-        frontSize = h .frontSize;
-        done = h .done;
-        words = h .words;
-        doneSize = h .doneSize;
-        gone = h .gone;
-        paths = h .paths;
-        goneSize = h .goneSize;
-        until = h .until;
-        seen = h .seen;
-        full = h .full;
-      }
+      ∙ after i l begun (length (p ++ stepsOf ps)) w child t p ps (go-on s i l begun w (step child t) w p ps h (h .words) (h .seen)) (λ l' w' r. inside p ps k (i + 1) l' begun w' r)
   inside (step descendant t ∷ p) ps k i l begun w h =
       next-step (length (p ++ stepsOf ps)) i (at l begun w) (stage l) false
       (step-here l i (h .front) (step descendant t) (p ++ stepsOf ps) (h .steps) (h .frontSize))
       (rw (← h .goneSize) (first-not l i (h .gone) ps (h .paths) (omega (arith, h .until))))
-      ∙ (after i l begun (length (p ++ stepsOf ps)) [] descendant t p ps (ready t h) (λ l' w' r. inside p ps k (i + 1) l' begun w' r))
-    where
-      ready : (t : Test) (h : Here s i l begun w (step descendant t ∷ p) ps) → Ready s i l begun [] (step descendant t) p ps
-      ready t h = record {
-        front = h .front;
-        steps = h .steps;
-        frontSize = h .frontSize;
-        done = h .done;
-        words = deep t (h .words);
-        doneSize = h .doneSize;
-        gone = h .gone;
-        paths = h .paths;
-        goneSize = h .goneSize;
-        until = h .until;
-        seen = nothing refl;
-        full = h .full;
-      }
-        where
-          deep : (t : Test) → allWords s ≡ h .done ++ (labelWords w (step descendant t ∷ p) ++ wordsIn ps) → allWords s ≡ h .done ++ (labelWords [] (step child t ∷ p) ++ wordsIn ps)
-          deep (label n) e = e
-          deep star e = e
+      ∙ after i l begun (length (p ++ stepsOf ps)) [] descendant t p ps (go-on s i l begun w (step descendant t) [] p ps h (go-deep s w t p ps (h .done) (h .words)) (nothing refl)) (λ l' w' r. inside p ps k (i + 1) l' begun w' r)
 
   -- the paths that are left
   outside : (ps : List Path) → Claim [] ps

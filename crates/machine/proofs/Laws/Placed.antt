@@ -4,7 +4,7 @@ use native.Mathlib.Nat.{not-suc-le-zero, le-of-suc-le-suc}
 use native.Mathlib.Numerals.{add-one}
 use native.Mathlib.Omega.{arith}
 use mathlib.Core.Path.{_≡_, refl, sym, ap, _∙_}
-use mathlib.Core.Bool.{Bool, true, false}
+use mathlib.Core.Bool.{Bool, true}
 use mathlib.Core.List.{List, [], _∷_, _++_, append-assoc, append-nil}
 use lib.Dec.{ltb}
 use borrow.Author.Tests.{ltb-true, ltb-false}
@@ -12,7 +12,7 @@ use lib.ListN.{length, getD, set, take, drop, length-append, length-take, length
 use lib.Seq.{take-suc, drop-cons, drop-length, take-length, getD-take, getD-drop, getD-append-add, set-at, length-take-le}
 use Rattle.notation.specs.Sets.{child, descendant, label, star, step, Path, FolderSet}
 use Rattle.notation.specs.Form.{pathsOf}
-use Rattle.machine.specs.Words.{document, name, Word, before, labelWords}
+use Rattle.machine.specs.Words.{name, Word, before, labelWords}
 use Rattle.machine.specs.Walk.{followedBy}
 use Rattle.machine.specs.Automaton.{Link, link, find, wordsIn, allWords, stateOf, shortened}
 use Rattle.machine.proofs.Laws.Basics.{cases}

@@ -1,6 +1,6 @@
 -- What is read of the set is read of an automaton in the making: its labels and steps.
-use Prim.Native.Nat.{ℕ, _<_, _≤_}
-use mathlib.Core.Path.{_≡_, sym, ap, subst}
+use Prim.Native.Nat.{ℕ, _<_}
+use mathlib.Core.Path.{_≡_, sym, subst}
 use mathlib.Core.List.{List, [], _++_}
 use lib.ListN.{length, getD}
 use Rattle.notation.specs.Print.{print}

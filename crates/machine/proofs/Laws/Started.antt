@@ -1,30 +1,29 @@
 -- On the bytes of a well-formed set, the initial state is that of a fresh run: 1 where some path begins with `/`.
-use Prim.Native.Nat.{ℕ, suc, _+_, _≤_, _<_}
+use Prim.Native.Nat.{ℕ, suc, _<_}
 use mathlib.Core.Path.{_≡_, refl, sym, _∙_, ap, ap₂}
 use mathlib.Core.Bool.{Bool, true, false, not, _&&_, _||_}
-use mathlib.Core.Logic.{_⊎_, inl, inr}
+use mathlib.Core.Logic.{inl, inr}
 use mathlib.Core.List.{List, [], _∷_, _++_, append-assoc, cons≢nil, List·Memᴰ, List·Memᴰ·head, List·Memᴰ·tail, List·Memᴰ·not-nil, List·Memᴰ·cases-cons, List·Memᴰ·append-cases}
-use native.Mathlib.Nat.{add-zero}
 use native.Mathlib.Omega.{arith}
 use lib.ListN.{length, getD, length-append}
 use lib.Seq.{getD-append-seam}
 use Rattle.notation.specs.Names.{within}
 use Rattle.notation.specs.Limits.{maxNumber}
-use Rattle.notation.specs.Sets.{child, descendant, Step, step, Path, Folder, folder, FolderSet, axisOf, testOf}
+use Rattle.notation.specs.Sets.{child, descendant, Step, step, Path, folder, FolderSet, axisOf, testOf}
 use Rattle.notation.specs.Form.{every, nonEmpty, formedStep, formedPath, formedFolder, formed, pathsOf, stepsOf}
-use Rattle.notation.specs.Layout.{setPart, le16}
-use Rattle.notation.specs.Reads.{isDescendant, isStar, stepAt, pathAt, pathCount}
+use Rattle.notation.specs.Layout.{setPart}
+use Rattle.notation.specs.Reads.{isDescendant, isStar, stepAt, pathCount}
 use Rattle.notation.specs.declared.reads.StepAt.{StepAt}
 use Rattle.notation.proofs.Laws.Fitting.{Fitting}
 use Rattle.notation.proofs.Laws.Reads.{paths-read}
 use Rattle.notation.proofs.Laws.LabelTable.{noStep}
 use Rattle.notation.proofs.Laws.ReadSteps.{step-read}
-use Rattle.machine.specs.Words.{document, Word, before, any, begins}
-use Rattle.machine.specs.Automaton.{startAt, allSteps, Link, bit, startState, assembled}
+use Rattle.machine.specs.Words.{document, before, any, begins}
+use Rattle.machine.specs.Automaton.{allSteps, Link, startState, assembled}
 use Rattle.machine.specs.Masks.{rooted, anyRooted, withStart}
 use Rattle.machine.proofs.Laws.Basics.{both, any-is, is-any, clash}
 use Rattle.machine.proofs.Laws.Words.{begins-is, is-begins}
-use Rattle.machine.proofs.Laws.Labels.{Rooted, begins-document}
+use Rattle.machine.proofs.Laws.Labels.{begins-document}
 use Rattle.machine.proofs.Laws.Goto.{same-test}
 use Rattle.machine.proofs.Laws.Assembled.{Sized, after-set, start-put}
 use Rattle.machine.proofs.Laws.Masked.{path-in, steps-here}

@@ -1,18 +1,18 @@
 -- A byte with a bit set: it fits a byte, and its bits are those of the byte and this one; a row of bits with one set.
-use Prim.Native.Nat.{ℕ, zero, suc, _+_, _*_, _/_, _%_, _^_, _≤_, _<_}
-use mathlib.Core.Path.{_≡_, refl, sym, _∙_, ap, ap₂}
-use mathlib.Core.Bool.{Bool, true, false, not, _||_, cond}
-use mathlib.Core.List.{List, [], _∷_, _++_}
+use Prim.Native.Nat.{ℕ, zero, suc, _+_, _*_, _/_, _%_, _^_, _<_}
+use mathlib.Core.Path.{_≡_, sym, _∙_, ap}
+use mathlib.Core.Bool.{Bool, true, false, _||_, cond}
 use native.Mathlib.Omega.{arith}
 use borrow.Author.Tests.{eq-eqb, ne-eqb, eqb-true, eqb-false}
 use lib.Dec.{eqb}
 use lib.ListN.{length, getD, set, length-set}
 use lib.Seq.{ext-getD, getD-set-same, getD-set-other}
 use Rattle.machine.specs.Bits.{bitOf}
-use Rattle.machine.specs.Automaton.{tabulate, bit, packed, byteOf, bitBytes}
+use Rattle.machine.specs.Automaton.{bit, packed, byteOf, bitBytes}
 use Rattle.machine.specs.Masks.{withBit}
 use Rattle.machine.proofs.Laws.Basics.{cases}
-use Rattle.machine.proofs.Laws.Bits.{tabulate-length, tabulate-at, packed-bit, bit-small}
+use Rattle.machine.proofs.Laws.Tabulate.{tabulate-length, tabulate-at}
+use Rattle.machine.proofs.Laws.Bits.{packed-bit}
 use Rattle.machine.proofs.Laws.Goto.{same-test}
 
 -- a bit that is not set has room

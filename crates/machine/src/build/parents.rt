@@ -2,6 +2,7 @@
 use crate::build::chains::hash_of;
 use crate::layout::LINK_SIZE;
 use crate::layout::LINKS_AT;
+use crate::shape::size_of;
 use crate::walk::goto_state;
 use notation::PathPlace;
 use notation::limits::MAX_LABELS;
@@ -15,7 +16,7 @@ ghost use lib.ListN.{length};
 ghost use Rattle.notation.specs.Limits.{maxLabels};
 ghost use Rattle.notation.specs.Reads.{pathAt, stepCount, labelCount, labelName};
 ghost use Rattle.machine.specs.Automaton.{automatonSize};
-ghost use Rattle.machine.specs.Tables.{sizeOf, goto};
+ghost use Rattle.machine.specs.Tables.{goto};
 ghost use Rattle.machine.specs.Walkable.{Searchable};
 ghost use Rattle.machine.specs.Parents.{startsAt, entered, wordStored, labelled, passed, parented, outset, Sound};
 
@@ -69,20 +70,8 @@ fn enter(at: Place, first: bool, deep: bool) -> Place
     at
 }
 
-// The length of a state's word.
-fn size_of(part: &[u8], q: usize) -> usize
-    requires { ⌜ q ≤ 65536 ⌝ }
-    ensures { λ r. ⌜ (r ≡ sizeOf (now (part .entry)) q) × (r < 65536) ⌝ }
-{
-    if q < 2 {
-        q
-    } else {
-        reads::word_at(part, LINKS_AT + LINK_SIZE * (q - 2) + 6)
-    }
-}
-
 fn store_word(part: &mut [u8], l: usize, q: usize)
-    requires { ⌜ (l < maxLabels) × (q ≤ 65536) × (automatonSize ≤ length (now part)) ⌝ }
+    requires { ⌜ (l < maxLabels) × (q < 65536) × (automatonSize ≤ length (now part)) ⌝ }
     ensures { λ _. ⌜ now (part .exit) ≡ wordStored l q (now (part .entry)) ⌝ }
 {
     let size = size_of(part, q) + 1;
@@ -102,7 +91,7 @@ fn follow(part: &[u8], q: usize, l: usize) -> usize
 
 // A label's step: its parent and length are stored, and its word's state is the next one.
 fn put_word(part: &mut [u8], at: Place) -> Place
-    requires { ⌜ Searchable (now part) × ((at .state ≤ 65536) × (automatonSize ≤ length (now part))) ⌝ }
+    requires { ⌜ Searchable (now part) × ((at .state < 65536) × (automatonSize ≤ length (now part))) ⌝ }
     ensures { λ r. ⌜ (now (part .exit) ≡ labelled at (now (part .entry)) .bytes) × ((r ≡ labelled at (now (part .entry)) .place) × (Sound (at .paths) r (now (part .exit)))) ⌝ }
 {
     let l = at.labels;

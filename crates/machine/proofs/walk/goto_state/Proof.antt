@@ -1,5 +1,6 @@
 -- `walk::goto_state`: the search from the head is the search from the place that the loop has come to.
-use Rattle.machine.proofs.Laws.Fuel.{hash-below, goto-none, goto-turn}
+use Rattle.machine.proofs.Laws.Goto.{hash-small, goto-end}
+use Rattle.machine.proofs.Laws.Fuel.{goto-turn}
 use Rattle.machine.specs.Walkable.{Searchable}
 use Rattle.machine.specs.Tables.{headAt, nextAt, follows, gotoFrom, goto}
 use Rattle.machine.specs.Automaton.{hashes, hash, headsAt, linksAt, linkSize}
@@ -52,11 +53,11 @@ abbrev μ-loop : tie.MeasureT-loop
 
 mul-word-at : tie.Need-mul-word-at Inv-loop μ-loop
 unfolding hashes
-mul-word-at c = omega (arith, hash-below (c .before .before .args .e .now), c .before .before .pre .1)
+mul-word-at c = omega (arith, hash-small (c .before .before .args .e .now), c .before .before .pre .1)
 
 add-word-at : tie.Need-add-word-at Inv-loop μ-loop
 unfolding hashes
-add-word-at c = omega (arith, hash-below (c .before .before .args .e .now), c .before .before .pre .1)
+add-word-at c = omega (arith, hash-small (c .before .before .args .e .now), c .before .before .pre .1)
 
 word-at-requires : tie.Need-word-at-requires Inv-loop μ-loop
 word-at-requires c κs = search needs
@@ -69,7 +70,7 @@ loop-holds c = let a = c .before .before .before .args .a .now in
     let ch : Searchable a = c .before .before .before .pre .0 in
     let hh : c .before .before .before .args .h ≡ hash e = c .before .before .before .pre .1 in
     let r : c .word-at .result ≡ headAt a (hash e) = rw hh at (c .word-at .ensures .0) in
-    (rw r (ch .head (hash e) (hash-below e)), sym (ap (gotoFrom maxLabels a q e) r))
+    (rw r (ch .head (hash e) (hash-small e)), sym (ap (gotoFrom maxLabels a q e) r))
 
 sub-follows-label : tie.Need-sub-follows-label Inv-loop μ-loop
 sub-follows-label c = omega arith
@@ -138,7 +139,7 @@ returns-2 c = let a = c .before .before .before .before .before .args .a .now in
     let q = c .before .before .before .before .before .args .q in
     let e = c .before .before .before .before .before .args .e .now in
     let ch : Searchable a = c .before .before .before .before .before .pre .0 in
-    (sym (c .before .loop .inv .1 ∙ (ap (gotoFrom maxLabels a q e) (c .loop-test .left) ∙ goto-none maxLabels a q e)), omega arith)
+    (sym (c .before .loop .inv .1 ∙ (ap (gotoFrom maxLabels a q e) (c .loop-test .left) ∙ goto-end maxLabels a q e)), omega arith)
 
 pub goto-state-spec : {M : Type 1} → statement M
 goto-state-spec =

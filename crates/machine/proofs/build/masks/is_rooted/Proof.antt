@@ -1,5 +1,5 @@
 use Rattle.machine.specs.Masks.{rooted}
-use mathlib.Core.Path.{_≡_, refl, sym, _∙_, ap}
+use mathlib.Core.Path.{sym, _∙_}
 use borrow.Author.Needs.{needs}
 use Rattle.machine.proofs.build.masks.is_rooted.Statement.{statement}
 use Rattle.machine.proofs.build.masks.is_rooted.Tie as tie

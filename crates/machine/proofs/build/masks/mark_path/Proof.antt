@@ -1,6 +1,6 @@
 use native.Mathlib.Omega.{arith}
 use Rattle.machine.specs.Masks.{markPath}
-use mathlib.Core.Path.{_≡_, refl, sym, _∙_, ap}
+use mathlib.Core.Path.{sym, _∙_}
 use borrow.Author.Needs.{needs}
 use Rattle.machine.proofs.build.masks.mark_path.Statement.{statement}
 use Rattle.machine.proofs.build.masks.mark_path.Tie as tie

@@ -1,5 +1,5 @@
 use Rattle.machine.specs.Masks.{markRole}
-use mathlib.Core.Path.{_≡_, refl, sym, _∙_, ap}
+use mathlib.Core.Path.{_∙_}
 use borrow.Author.Needs.{needs}
 use Rattle.machine.proofs.build.masks.mark_role.Statement.{statement}
 use Rattle.machine.proofs.build.masks.mark_role.Tie as tie

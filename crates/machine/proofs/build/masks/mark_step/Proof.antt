@@ -2,7 +2,7 @@ use Rattle.machine.specs.Masks.{markStep}
 use Rattle.machine.specs.Automaton.{maskSize}
 use borrow.Author.Tests.{le-ltb, lt-ltb}
 use native.Mathlib.Omega.{arith}
-use mathlib.Core.Path.{_≡_, refl, sym, _∙_, ap}
+use mathlib.Core.Path.{sym, _∙_}
 use borrow.Author.Needs.{needs}
 use Rattle.machine.proofs.build.masks.mark_step.Statement.{statement}
 use Rattle.machine.proofs.build.masks.mark_step.Tie as tie

@@ -6,7 +6,6 @@ use mathlib.Core.Bool.{true}
 use Prim.Native.Nat.{_+_, _-_, _≤_}
 use native.Mathlib.Omega.{arith}
 use mathlib.Core.Path.{_≡_, refl, sym, _∙_, ap}
-use borrow.Author.Needs.{needs}
 use Rattle.machine.proofs.build.masks.mark_steps.Statement.{statement}
 use Rattle.machine.proofs.build.masks.mark_steps.Tie as tie
 

@@ -2,7 +2,7 @@ use Rattle.machine.proofs.Laws.Marking.{rooted-start, rooted-here, root
 use Rattle.machine.specs.Masks.{anyRooted}
 use Prim.Native.Nat.{_-_, _≤_}
 use native.Mathlib.Omega.{arith}
-use mathlib.Core.Path.{_≡_, refl, sym, _∙_, ap}
+use mathlib.Core.Path.{_≡_, sym, _∙_}
 use borrow.Author.Needs.{needs}
 use Rattle.machine.proofs.build.masks.start_state.Statement.{statement}
 use Rattle.machine.proofs.build.masks.start_state.Tie as tie

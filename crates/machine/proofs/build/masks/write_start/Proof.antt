@@ -1,7 +1,7 @@
 use Rattle.machine.specs.Masks.{withStart}
 use Rattle.machine.specs.Automaton.{automatonSize, startAt}
 use native.Mathlib.Omega.{arith}
-use mathlib.Core.Path.{_≡_, refl, sym, _∙_, ap}
+use mathlib.Core.Path.{_∙_}
 use borrow.Author.Needs.{needs}
 use Rattle.machine.proofs.build.masks.write_start.Statement.{statement}
 use Rattle.machine.proofs.build.masks.write_start.Tie as tie

@@ -1,30 +1,22 @@
 use borrow.Author.Needs.{needs}
 use Rattle.machine.proofs.build.parents.enter.Statement.{statement}
 use Rattle.machine.proofs.build.parents.enter.Tie as tie
-use Rattle.machine.proofs.build.parents.enter.Reads as reads
-use Rattle.machine.proofs.build.parents.enter.Lts as lts
 
--- src/build/parents.rt:52:24
 add-t6 : tie.Need-add-t6
 add-t6 c = search needs
 
--- src/build/parents.rt:50:13
 returns : tie.Need-returns
 returns c = rw (c .before .before .if1 .taken, c .before .if2 .taken)
 
--- src/build/parents.rt:58:20
 add-t7 : tie.Need-add-t7
 add-t7 c = search needs
 
--- src/build/parents.rt:56:9
 returns-2 : tie.Need-returns-2
 returns-2 c = rw (c .before .before .if1 .taken, c .before .if2 .left)
 
--- src/build/parents.rt:63:9
 returns-3 : tie.Need-returns-3
 returns-3 c = rw (c .before .if1 .left, c .if3 .taken)
 
--- src/build/parents.rt:44:1
 returns-4 : tie.Need-returns-4
 returns-4 c = search needs
 

@@ -1,21 +1,15 @@
 -- `build::parents::parents`: what the steps still to come make of the bytes is what all steps make of those at entry.
-use Prim.Native.Nat.{ℕ, zero, suc, _+_, _-_, _≤_, _<_}
+use Prim.Native.Nat.{ℕ, suc, _+_, _-_, _≤_, _<_}
 use mathlib.Core.Path.{_≡_, refl, sym, ap, _∙_}
 use mathlib.Core.List.{List}
 use native.Mathlib.Nat.{sub-zero}
 use native.Mathlib.Omega.{arith}
 use borrow.Author.Needs.{needs}
 use lib.ListN.{length}
-use Rattle.notation.specs.Reads.{stepCount}
-use Rattle.machine.specs.Automaton.{automatonSize}
-use Rattle.machine.specs.Parents.{Passed, passed, parented, outset, Sound}
+use Rattle.machine.specs.Parents.{passed, parented, outset, Sound}
 use Rattle.machine.specs.declared.build.parents.Place.{Place}
 use Rattle.machine.proofs.build.parents.parents.Statement.{statement}
 use Rattle.machine.proofs.build.parents.parents.Tie as tie
-use Rattle.machine.proofs.build.parents.parents.Reads as reads
-use Rattle.machine.proofs.build.parents.parents.Lts as lts
-use Rattle.machine.proofs.build.parents.pass_step.Reads as pass-step-reads
-use Rattle.notation.proofs.reads.steps.Reads as steps-reads
 
 -- one step less, and none
 next : (n i : ℕ) (at to : Place) (a b : List ℕ) → i < n → b ≡ passed i at a .bytes → to ≡ passed i at a .place → parented (n - (i + 1)) (i + 1) to b ≡ parented (n - i) i at a
@@ -32,11 +26,9 @@ Inv-loop part₀ n at₀ i₀ part at i = (i ≤ n) × (Sound i at part) × (len
 abbrev μ-loop : tie.MeasureT-loop
 μ-loop part₀ n at₀ i₀ part at i = n - i
 
--- src/build/parents.rt:149:9
 steps-requires : tie.Need-steps-requires Inv-loop μ-loop
 steps-requires c κs = search needs
 
--- src/build/parents.rt:156:5
 loop-holds : tie.Need-loop-holds Inv-loop μ-loop
 loop-holds c = (
   omega arith,
@@ -45,19 +37,15 @@ loop-holds c = (
   ap (λ (n : ℕ). parented n 0 outset (c .before .before .before .args .part .now)) (sub-zero (c .steps .result)),
 )
 
--- src/build/parents.rt:157:9
 pass-step-requires : tie.Need-pass-step-requires Inv-loop μ-loop
 pass-step-requires c κs = (c .before .before .loop .inv .1, (omega (arith, c .before .before .before .steps .ensures .1), omega (arith, c .before .before .before .before .before .before .pre .1, c .before .before .loop .inv .2)))
 
--- src/build/parents.rt:158:9
 add-i : tie.Need-add-i Inv-loop μ-loop
 add-i c = omega arith
 
--- src/build/parents.rt:156:5
 loop-less : tie.Need-loop-less Inv-loop μ-loop
 loop-less c = omega arith
 
--- src/build/parents.rt:156:5
 loop-again : tie.Need-loop-again Inv-loop μ-loop
 loop-again c = let l = c .before .before .before .before .before .loop in
     let r = c .before .before .pass-step in
@@ -68,11 +56,9 @@ loop-again c = let l = c .before .before .before .before .before .loop in
       next n (l .i) (l .at) (r .result) (l .part) (r .last .0) (omega arith) (r .ensures .0) (r .ensures .1 .0) ∙ l .inv .3,
     )
 
--- src/build/parents.rt:145:1
 same-length : tie.Need-same-length Inv-loop μ-loop
 same-length c = c .before .loop .inv .2
 
--- src/build/parents.rt:145:1
 returns : tie.Need-returns Inv-loop μ-loop
 returns c = let l = c .before .loop in
     none-left (c .before .before .steps .result) (l .i) (l .at) (l .part) (omega arith)

@@ -1,22 +1,16 @@
 -- `build::parents::pass_step`: the step's axis, then its test.
 use Prim.Native.Nat.{ℕ, _+_, _≤_, _<_}
-use mathlib.Core.Path.{_≡_, refl, sym, ap, ap₂, _∙_}
+use mathlib.Core.Path.{_≡_, sym, ap, ap₂, _∙_}
 use mathlib.Core.Bool.{Bool, true, false}
 use mathlib.Core.List.{List}
 use native.Mathlib.Omega.{arith}
 use Rattle.notation.specs.Reads.{pathAt, stepAt}
 use Rattle.notation.specs.declared.reads.StepAt.{StepAt}
-use Rattle.machine.specs.Parents.{Passed, startsAt, entered, emptied, labelled, passedBy, passed, Sound}
+use Rattle.machine.specs.Parents.{Passed, startsAt, entered, emptied, labelled, passedBy, passed}
 use Rattle.machine.specs.declared.build.parents.Place.{Place}
 use borrow.Author.Needs.{needs}
 use Rattle.machine.proofs.build.parents.pass_step.Statement.{statement}
 use Rattle.machine.proofs.build.parents.pass_step.Tie as tie
-use Rattle.machine.proofs.build.parents.pass_step.Reads as reads
-use Rattle.machine.proofs.build.parents.pass_step.Lts as lts
-use Rattle.machine.proofs.build.parents.enter.Reads as enter-reads
-use Rattle.machine.proofs.build.parents.put_word.Reads as put-word-reads
-use Rattle.machine.proofs.build.parents.starts_path.Reads as starts-path-reads
-use Rattle.notation.proofs.reads.step_at.Reads as step-at-reads
 
 -- what a step does, by what is stored of it
 module _ (i : ℕ) (at : Place) (a : List ℕ) (first : Bool) (e : first ≡ startsAt (pathAt a (record { 0 = at .paths })) i) where
@@ -40,33 +34,27 @@ entered-paths true deep at = omega arith
 entered-paths false true at = omega arith
 entered-paths false false at = omega arith
 
-entered-state : (first deep : Bool) (at : Place) → at .state ≤ 65536 → entered first deep at .state ≤ 65536
+entered-state : (first deep : Bool) (at : Place) → at .state < 65536 → entered first deep at .state < 65536
 entered-state true true at h = omega arith
 entered-state true false at h = omega arith
 entered-state false true at h = omega arith
 entered-state false false at h = h
 
--- src/build/parents.rt:126:9
 starts-path-requires : tie.Need-starts-path-requires
 starts-path-requires c κs = search needs
 
--- src/build/parents.rt:127:9
 step-at-requires : tie.Need-step-at-requires
 step-at-requires c κs = search needs
 
--- src/build/parents.rt:129:24
 enum-known-x : tie.Need-enum-known-x
 enum-known-x c = search needs
 
--- src/build/parents.rt:130:17
 enter-requires : tie.Need-enter-requires
 enter-requires c κs = search needs
 
--- src/build/parents.rt:132:17
 same-length : tie.Need-same-length
 same-length c = search needs
 
--- src/build/parents.rt:132:17
 returns : tie.Need-returns
 returns c = let i = c .before .before .before .before .before .before .before .before .before .before .args .i in
     let at = c .before .before .before .before .before .before .before .before .before .before .args .at in
@@ -81,22 +69,18 @@ returns c = let i = c .before .before .before .before .before .before .before .b
       (sym (ap (λ (r : Passed). r .place) e), record { searchable = c .before .before .before .before .before .before .before .before .before .before .pre .0 .searchable; paths = omega (arith, low, c .before .before .before .before .before .before .before .before .before .before .pre .0 .paths); state = omega arith }),
     )
 
--- src/build/parents.rt:138:13
 put-word-requires : tie.Need-put-word-requires
 put-word-requires c κs = let x = c .before .before .before .before .x .given in (
   c .before .before .before .before .before .before .before .before .before .before .before .pre .0 .searchable,
   (rw (c .before .before .enter .ensures) (entered-state (c .before .before .before .before .before .before .before .before .starts-path .result) (x .0 .0) (c .before .before .before .before .before .before .before .before .before .before .before .args .at) (c .before .before .before .before .before .before .before .before .before .before .before .pre .0 .state)), c .before .before .before .before .before .before .before .before .before .before .before .pre .1 .1),
 )
 
--- src/build/parents.rt:140:28
 enum-told : tie.Need-enum-told
 enum-told c = search needs
 
--- src/build/parents.rt:122:1
 same-length-2 : tie.Need-same-length-2
 same-length-2 c = search needs
 
--- src/build/parents.rt:122:1
 returns-2 : tie.Need-returns-2
 returns-2 c = let i = c .before .before .before .before .before .before .before .before .before .before .before .before .before .before .args .i in
     let at = c .before .before .before .before .before .before .before .before .before .before .before .before .before .before .args .at in
@@ -115,11 +99,9 @@ returns-2 c = let i = c .before .before .before .before .before .before .before 
       ),
     )
 
--- src/build/parents.rt:122:1
 same-length-3 : tie.Need-same-length-3
 same-length-3 c = search needs
 
--- src/build/parents.rt:122:1
 returns-3 : tie.Need-returns-3
 returns-3 c = let i = c .before .before .before .before .before .before .before .args .i in
     let at = c .before .before .before .before .before .before .before .args .at in

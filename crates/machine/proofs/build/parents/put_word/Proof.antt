@@ -1,24 +1,19 @@
 -- `build::parents::put_word`: past the last label nothing is done; else the stores and the search are those of `labelled`.
 use Prim.Native.Nat.{ℕ, suc, _+_, _≤_, _<_}
-use mathlib.Core.Path.{_≡_, refl, sym, ap, _∙_, subst}
+use mathlib.Core.Path.{_≡_, sym, ap, subst}
 use mathlib.Core.List.{List}
 use native.Mathlib.Omega.{arith}
 use borrow.Author.Tests.{lt-ltb, le-ltb}
 use Rattle.notation.specs.Limits.{maxLabels}
 use Rattle.notation.specs.Reads.{labelName, labelCount}
-use Rattle.machine.specs.Automaton.{automatonSize}
 use Rattle.machine.specs.Tables.{goto}
 use Rattle.machine.specs.Walkable.{Searchable}
-use Rattle.machine.specs.Parents.{Passed, wordStored, followed, labelled, Sound}
+use Rattle.machine.specs.Parents.{Passed, wordStored, labelled}
 use Rattle.machine.specs.declared.build.parents.Place.{Place}
 use Rattle.machine.proofs.Laws.Elsewhere.{searchable-stored}
 use borrow.Author.Needs.{needs}
 use Rattle.machine.proofs.build.parents.put_word.Statement.{statement}
 use Rattle.machine.proofs.build.parents.put_word.Tie as tie
-use Rattle.machine.proofs.build.parents.put_word.Reads as reads
-use Rattle.machine.proofs.build.parents.put_word.Lts as lts
-use Rattle.machine.proofs.build.parents.follow.Reads as follow-reads
-use Rattle.machine.proofs.build.parents.store_word.Reads as store-word-reads
 
 full : (at : Place) (a : List ℕ) → maxLabels ≤ at .labels → labelled at a ≡ record { bytes = a; place = at }
 unfolding labelled
@@ -29,11 +24,10 @@ roomy : (at : Place) (a b : List ℕ) (r : ℕ) → at .labels < maxLabels → b
 unfolding labelled
 roomy at a b r h e f = rw (lt-ltb (at .labels) maxLabels h, ← e, f)
 
-small : (a : List ℕ) (r : ℕ) → Searchable a → r ≤ suc (labelCount a) → r ≤ 65536
+small : (a : List ℕ) (r : ℕ) → Searchable a → r ≤ suc (labelCount a) → r < 65536
 unfolding maxLabels
 small a r s h = omega (arith, s .few)
 
--- src/build/parents.rt:111:9
 returns : tie.Need-returns
 unfolding maxLabels
 returns c = let at = c .before .before .args .at in
@@ -41,24 +35,19 @@ returns c = let at = c .before .before .args .at in
     let e = full at a (c .if1 .taken) in
     (sym (ap (λ (r : Passed). r .bytes) e), (sym (ap (λ (r : Passed). r .place) e), record { searchable = c .before .before .pre .0; paths = omega arith; state = c .before .before .pre .1 .0 }))
 
--- src/build/parents.rt:113:5
 store-word-requires : tie.Need-store-word-requires
 unfolding maxLabels
 store-word-requires c κs = (c .before .if1 .left, c .before .before .before .pre .1 .0, c .before .before .before .pre .1 .1)
 
--- src/build/parents.rt:115:17
 add-t9 : tie.Need-add-t9
 add-t9 c = search needs
 
--- src/build/parents.rt:117:16
 follow-requires : tie.Need-follow-requires
 follow-requires c κs = subst Searchable (sym (c .before .before .before .store-word .ensures)) (searchable-stored (c .before .before .before .before .before .before .before .args .at .labels) (c .before .before .before .before .before .before .before .args .at .state) (c .before .before .before .before .before .before .before .args .part .now) (c .before .before .before .before .before .before .before .pre .0))
 
--- src/build/parents.rt:104:1
 same-length : tie.Need-same-length
 same-length c = search needs
 
--- src/build/parents.rt:104:1
 returns-2 : tie.Need-returns-2
 unfolding maxLabels
 returns-2 c = let at = c .before .before .before .before .before .before .before .before .args .at in

@@ -2,27 +2,19 @@ use mathlib.Core.Path.{sym, _∙_}
 use borrow.Author.Needs.{needs}
 use Rattle.machine.proofs.build.parents.starts_path.Statement.{statement}
 use Rattle.machine.proofs.build.parents.starts_path.Tie as tie
-use Rattle.machine.proofs.build.parents.starts_path.Reads as reads
-use Rattle.machine.proofs.build.parents.starts_path.Lts as lts
-use Rattle.notation.proofs.reads.path_at.Reads as path-at-reads
 
--- src/build/parents.rt:33:11
 path-at-requires : tie.Need-path-at-requires
 path-at-requires c κs = search needs
 
--- src/build/parents.rt:35:13
 enum-known-first : tie.Need-enum-known-first
 enum-known-first c = search needs
 
--- src/build/parents.rt:40:28
 enum-told : tie.Need-enum-told
 enum-told c = search needs
 
--- src/build/parents.rt:30:1
 returns : tie.Need-returns
 returns c = rw (sym (c .before .before .before .path-at .ensures .0) ∙ c .before .first .given .1)
 
--- src/build/parents.rt:30:1
 returns-2 : tie.Need-returns-2
 returns-2 c = rw (sym (c .before .before .path-at .ensures .0) ∙ c .enum-told .given .1)
 

@@ -1,6 +1,6 @@
 -- `build::parents::store_word`: the two stores are those of `wordStored`.
 use Prim.Native.Nat.{ℕ, _+_, _*_}
-use mathlib.Core.Path.{_≡_, ap}
+use mathlib.Core.Path.{_≡_}
 use mathlib.Core.List.{List}
 use native.Mathlib.Omega.{arith}
 use lib.Seq.{sets}
@@ -12,58 +12,44 @@ use Rattle.machine.specs.Parents.{wordStored}
 use borrow.Author.Needs.{needs}
 use Rattle.machine.proofs.build.parents.store_word.Statement.{statement}
 use Rattle.machine.proofs.build.parents.store_word.Tie as tie
-use Rattle.machine.proofs.build.parents.store_word.Reads as reads
-use Rattle.machine.proofs.build.parents.store_word.Lts as lts
-use Rattle.machine.proofs.build.parents.size_of.Reads as size-of-reads
-use Rattle.notation.proofs.put.put16.Reads as put16-reads
 
 done : (a b : List ℕ) {d : List ℕ} (l q size : ℕ) → size ≡ sizeOf a q → b ≡ sets a (linksAt + linkSize * l + 2) (le16 q)
     → d ≡ sets b (linksAt + linkSize * l + 6) (le16 (size + 1)) → d ≡ wordStored l q a
 done a b l q size e f g = rw (← e, ← f) g
 
--- src/build/parents.rt:88:16
 size-of-requires : tie.Need-size-of-requires
 size-of-requires c κs = search needs
 
--- src/build/parents.rt:88:16
 add-size : tie.Need-add-size
 add-size c = search needs
 
--- src/build/parents.rt:89:27
 mul-from : tie.Need-mul-from
 unfolding maxLabels
 mul-from c = omega arith
 
--- src/build/parents.rt:89:16
 add-from : tie.Need-add-from
 unfolding maxLabels
 add-from c = omega arith
 
--- src/build/parents.rt:90:17
 add-put16 : tie.Need-add-put16
 unfolding maxLabels
 add-put16 c = omega arith
 
--- src/build/parents.rt:90:5
 put16-requires : tie.Need-put16-requires
 unfolding maxLabels automatonSize
 put16-requires c κs = omega arith
 
--- src/build/parents.rt:91:17
 add-put16-2 : tie.Need-add-put16-2
 unfolding maxLabels
 add-put16-2 c = omega arith
 
--- src/build/parents.rt:91:5
 put16-requires-2 : tie.Need-put16-requires-2
 unfolding maxLabels automatonSize
 put16-requires-2 c κs = omega arith
 
--- src/build/parents.rt:84:1
 same-length : tie.Need-same-length
 same-length c = search needs
 
--- src/build/parents.rt:84:1
 returns : tie.Need-returns
 unfolding linksAt linkSize
 returns c =
