@@ -26,7 +26,7 @@ use Rattle.machine.specs.declared.walk.Walk.{Walk}
 use Rattle.machine.proofs.Laws.Prefix.{current-prefix}
 use Rattle.machine.proofs.Laws.Walk.{walk-current}
 use Rattle.machine.specs.Compiled.{storedWalk}
-use Rattle.machine.proofs.Laws.Bits.{tabulate-length}
+use Rattle.machine.proofs.Laws.Tabulate.{tabulate-length}
 use Rattle.machine.proofs.Laws.MaskRows.{bits-same, bits-none}
 use Rattle.machine.proofs.Laws.Stores.{sets-left, past}
 use Rattle.machine.proofs.Laws.PathSteps.{bit-past, match-past}

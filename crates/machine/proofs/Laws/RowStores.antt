@@ -10,7 +10,7 @@ use lib.Seq.{sets, take-at, drop-at, drop-drop}
 use Rattle.notation.proofs.Laws.Padded.{sets-front}
 use Rattle.machine.specs.Automaton.{maskSize, byteOf, bitBytes}
 use Rattle.machine.specs.Run.{activeIn, seenIn, rowSize, runSize}
-use Rattle.machine.proofs.Laws.Bits.{tabulate-length}
+use Rattle.machine.proofs.Laws.Tabulate.{tabulate-length}
 use Rattle.machine.proofs.Laws.MaskRows.{bits-same, bits-none, bits-split}
 use Rattle.machine.proofs.Laws.Stores.{sets-left, past, zeros}
 use Rattle.machine.proofs.Laws.RunBytes.{zerosFrom, bits-length}

@@ -23,7 +23,8 @@ use Rattle.machine.specs.Automaton.{maskSize, stateOf, bitBytes, byteOf}
 use Rattle.machine.specs.Bits.{bitIn}
 use Rattle.machine.specs.Run.{matchesAt, rowsAt, nameIn, stateIn, activeIn, seenIn, rowSize, rowAt, runSize, matchBit, activeBits, seenBits, rowOf, rowsFrom, runWith}
 use Rattle.machine.specs.RunCalls.{depthOf, nameLength, storedName, stateAt, activeAt, seenAt, matchedAt}
-use Rattle.machine.proofs.Laws.Bits.{tabulate-length, bits-bit}
+use Rattle.machine.proofs.Laws.Tabulate.{tabulate-length}
+use Rattle.machine.proofs.Laws.Bits.{bits-bit}
 use Rattle.machine.proofs.Laws.Prefix.{current-prefix}
 use Rattle.machine.proofs.Laws.States.{state-within}
 
