@@ -9,7 +9,7 @@ use borrow.Author.Tests.{not-true}
 use Rattle.notation.specs.Names.{Name}
 use Rattle.notation.specs.Form.{every}
 use Rattle.notation.specs.Activity.{sameName}
-use Rattle.notation.proofs.Laws.Fit.{sameName-is}
+use Rattle.notation.proofs.Laws.Meaning.Fit.{sameName-is}
 use Rattle.filing.specs.Tree.{Node, element, text, comment, Nodes, none, _then_}
 use Rattle.filing.specs.Tokens.{Token, blank}
 use Rattle.filing.specs.Document.{Event, opening, closing, textHere, commentHere, eventsOf, eventsAt, eventsIn, elementsAmong, blankAmong, TreeOf, balanced}

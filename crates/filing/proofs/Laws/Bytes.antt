@@ -9,7 +9,7 @@ use borrow.Author.Tests.{eqb-true, ne-eqb, not-true}
 use Rattle.notation.specs.Names.{Name, letter, digit, beginsName, inName, allInName}
 use Rattle.notation.specs.Form.{every}
 use Rattle.notation.proofs.Laws.Tests.{cases}
-use Rattle.notation.proofs.Laws.Fit.{sameName-is}
+use Rattle.notation.proofs.Laws.Meaning.Fit.{sameName-is}
 use Rattle.filing.specs.Tokens.{blank, listed, amp, lt, gt, quot, apos, isEntity, inText, inValue}
 use Rattle.filing.specs.Reading.{front, back}
 

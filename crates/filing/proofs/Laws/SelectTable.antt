@@ -7,7 +7,7 @@ use Rattle.notation.specs.Names.{Name}
 use Rattle.notation.specs.Sets.{Path}
 use Rattle.notation.specs.Activity.{sameName, here, activeIn, seenIn, fits}
 use Rattle.notation.proofs.Laws.Tests.{cases}
-use Rattle.notation.proofs.Laws.Fit.{fits-is}
+use Rattle.notation.proofs.Laws.Meaning.Fit.{fits-is}
 use Rattle.filing.specs.Tree.{Document, Place, kindAt, kindIn, childrenAt, childrenIn}
 use Rattle.filing.specs.XPath.{IsElement, selected}
 use Rattle.filing.specs.NameList.{namesTo, listsOf, listsIn, nameLists}

@@ -12,12 +12,12 @@ use Rattle.notation.specs.Sets.{FolderSet}
 use Rattle.notation.specs.Print.{print}
 use Rattle.notation.specs.Layout.{setSize, setPart, tablesOf, le16, joined, padded}
 use Rattle.notation.specs.Reads.{word16}
-use Rattle.notation.proofs.Laws.Stands.{Stands, left, right, read}
-use Rattle.notation.proofs.Laws.Sections.{layout-length}
-use Rattle.notation.proofs.Laws.Padded.{length-padded}
-use Rattle.notation.proofs.Laws.Entries.{map-width, map-at, joined-length, entry}
-use Rattle.notation.proofs.Laws.Fitting.{Fitting, roomy}
-use Rattle.notation.proofs.Laws.Words.{word-read, words-read, words-head}
+use Rattle.notation.proofs.Laws.Stored.Stands.{Stands, left, right, read}
+use Rattle.notation.proofs.Laws.Stored.Sections.{layout-length}
+use Rattle.notation.proofs.Laws.Fill.Padded.{length-padded}
+use Rattle.notation.proofs.Laws.Stored.Entries.{map-width, map-at, joined-length, entry}
+use Rattle.notation.proofs.Laws.Refused.Fitting.{Fitting, roomy}
+use Rattle.notation.proofs.Laws.Stored.Words.{word-read, words-read, words-head}
 use Rattle.machine.specs.Automaton.{hashes, linkSize, maskSize, headsAt, linksAt, masksAt, startAt, automatonSize, Link, link, linkEntry, headBytes, linkBytes, assembled}
 use Rattle.machine.specs.Tables.{headAt, nextAt, parentAt, failAt, sizeAt, startOf}
 use Rattle.machine.proofs.Laws.Stores.{sets-left, past, sets-whole, sets-table, set-map, zeros, zero-entries, zeros-padded}

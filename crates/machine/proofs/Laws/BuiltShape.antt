@@ -13,9 +13,9 @@ use Rattle.notation.specs.Form.{any, formed, pathsOf, pathLong, pathsLong, name
 use Rattle.notation.specs.Accepted.{Accepted}
 use Rattle.notation.specs.Layout.{stepsAt}
 use Rattle.notation.specs.Reads.{textLen, folderCount, pathCount, stepCount, labelCount}
-use Rattle.notation.proofs.Laws.Fitting.{Fitting}
-use Rattle.notation.proofs.Laws.AcceptedSet.{accepted-fits}
-use Rattle.notation.proofs.Laws.Reads.{text-len, folders-read, paths-read, steps-read}
+use Rattle.notation.proofs.Laws.Refused.Fitting.{Fitting}
+use Rattle.notation.proofs.Laws.Refused.AcceptedSet.{accepted-fits}
+use Rattle.notation.proofs.Laws.Stored.Reads.{text-len, folders-read, paths-read, steps-read}
 use Rattle.machine.specs.Words.{name, Word, before, labelWords, begins, document}
 use Rattle.machine.specs.Walk.{followedBy}
 use Rattle.machine.specs.Automaton.{maskSize, masks, allLabels, heads, links, startState, automatonOf}

@@ -12,7 +12,7 @@ use Rattle.notation.specs.Names.{Name}
 use Rattle.notation.specs.Limits.{maxLabels}
 use Rattle.notation.specs.Sets.{FolderSet}
 use Rattle.notation.specs.Layout.{le16}
-use Rattle.notation.proofs.Laws.Fitting.{Fitting}
+use Rattle.notation.proofs.Laws.Refused.Fitting.{Fitting}
 use Rattle.machine.specs.Automaton.{hashes, maskSize, headsAt, linksAt, linkSize, hash, find, allLabels, hasHash, tabulate, heads, nexts, Link, assembled}
 use Rattle.machine.specs.Chains.{linkedBy, linked, chained}
 use Rattle.machine.proofs.Laws.Tabulate.{find-below, tabulate-length, tabulate-at, tabulate-set, tabulate-constant}

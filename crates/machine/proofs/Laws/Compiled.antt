@@ -13,10 +13,10 @@ use Rattle.notation.specs.Layout.{setPart}
 use Rattle.notation.specs.Reads.{word16, labelEntryAt, labelAt}
 use Rattle.notation.specs.Accepted.{Accepted}
 use Rattle.notation.specs.declared.reads.LabelAt.{LabelAt}
-use Rattle.notation.proofs.Laws.Fitting.{Fitting}
-use Rattle.notation.proofs.Laws.Reads.{paths-read, steps-read, labels-read, there}
-use Rattle.notation.proofs.Laws.ReadPaths.{label-read}
-use Rattle.notation.proofs.Laws.AcceptedSet.{accepted-fits}
+use Rattle.notation.proofs.Laws.Refused.Fitting.{Fitting}
+use Rattle.notation.proofs.Laws.Stored.Reads.{paths-read, steps-read, labels-read, there}
+use Rattle.notation.proofs.Laws.Stored.ReadPaths.{label-read}
+use Rattle.notation.proofs.Laws.Refused.AcceptedSet.{accepted-fits}
 use Rattle.machine.specs.Words.{document, name, Word, before, labelWords, begins}
 use Rattle.machine.specs.Prefix.{IsPrefix, failure}
 use Rattle.machine.specs.Walk.{followedBy}

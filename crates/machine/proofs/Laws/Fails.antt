@@ -14,7 +14,7 @@ use Rattle.notation.specs.Limits.{maxSteps}
 use Rattle.notation.specs.Sets.{FolderSet}
 use Rattle.notation.specs.Layout.{le16}
 use Rattle.notation.specs.Reads.{labelCount, labelName}
-use Rattle.notation.proofs.Laws.Fitting.{Fitting}
+use Rattle.notation.proofs.Laws.Refused.Fitting.{Fitting}
 use Rattle.machine.specs.Words.{Symbol, name, Word}
 use Rattle.machine.specs.Prefix.{IsPrefix, failure}
 use Rattle.machine.specs.Walk.{followedBy}

@@ -6,7 +6,7 @@ use mathlib.Core.List.{List, _++_}
 use lib.ListN.{length, replicate}
 use Rattle.notation.specs.Sets.{FolderSet}
 use Rattle.notation.specs.Form.{formed}
-use Rattle.notation.proofs.Laws.Fitting.{Fitting}
+use Rattle.notation.proofs.Laws.Refused.Fitting.{Fitting}
 use Rattle.machine.specs.Automaton.{maskSize, allLabels, heads, links, masks, assembled, automatonOf}
 use Rattle.machine.specs.Masks.{withMasks, withStart}
 use Rattle.machine.proofs.Laws.Assembled.{Sized}

@@ -8,8 +8,8 @@ use Rattle.notation.specs.Names.{Name}
 use Rattle.notation.specs.Limits.{maxLabels}
 use Rattle.notation.specs.Sets.{FolderSet}
 use Rattle.notation.specs.Reads.{labelName}
-use Rattle.notation.proofs.Laws.Fitting.{Fitting}
-use Rattle.notation.proofs.Laws.ReadPaths.{label-read}
+use Rattle.notation.proofs.Laws.Refused.Fitting.{Fitting}
+use Rattle.notation.proofs.Laws.Stored.ReadPaths.{label-read}
 use Rattle.machine.specs.Automaton.{hashes, hash, allLabels, allWords, stateOf, shortened, hasHash, headOf, heads, nexts, Link, assembled}
 use Rattle.machine.specs.Tables.{parentAt}
 use Rattle.machine.proofs.Laws.Assembled.{Sized, noLink, nextOf, parentOf, after-set, head-read, next-read, parent-read}

@@ -16,11 +16,11 @@ use Rattle.notation.specs.Form.{pathsOf, stepsOf}
 use Rattle.notation.specs.Reads.{isDescendant, isStar, stepAt, pathAt, pathCount}
 use Rattle.notation.specs.declared.reads.PathAt.{PathAt}
 use Rattle.notation.specs.declared.reads.StepAt.{StepAt}
-use Rattle.notation.proofs.Laws.Fitting.{Fitting}
-use Rattle.notation.proofs.Laws.Reads.{paths-read}
-use Rattle.notation.proofs.Laws.LabelTable.{noStep, steps-append}
-use Rattle.notation.proofs.Laws.ReadSteps.{step-read}
-use Rattle.notation.proofs.Laws.ReadPaths.{path-read}
+use Rattle.notation.proofs.Laws.Refused.Fitting.{Fitting}
+use Rattle.notation.proofs.Laws.Stored.Reads.{paths-read}
+use Rattle.notation.proofs.Laws.Stored.LabelTable.{noStep, steps-append}
+use Rattle.notation.proofs.Laws.Stored.ReadSteps.{step-read}
+use Rattle.notation.proofs.Laws.Stored.ReadPaths.{path-read}
 use Rattle.machine.specs.Automaton.{maskSize, allSteps, Link, Role, role, rolesFrom, rolesIn, roles, masks, bitBytes, byteOf, assembled}
 use Rattle.machine.specs.Masks.{withBit, marked, axisMask, markRole, markStep, markSteps, markPath, markPaths, withMasks}
 use Rattle.machine.proofs.Laws.Tabulate.{tabulate-length}

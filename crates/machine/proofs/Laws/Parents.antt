@@ -16,10 +16,10 @@ use Rattle.notation.specs.Form.{pathsOf, stepsOf, nonEmpty, every}
 use Rattle.notation.specs.Layout.{le16}
 use Rattle.notation.specs.Reads.{labelName, pathAt, stepAt, stepCount, isDescendant, isStar}
 use Rattle.notation.specs.declared.reads.StepAt.{StepAt}
-use Rattle.notation.proofs.Laws.LabelTable.{noStep}
-use Rattle.notation.proofs.Laws.PathTable.{stepsBefore}
-use Rattle.notation.proofs.Laws.Fitting.{Fitting}
-use Rattle.notation.proofs.Laws.ReadPaths.{path-read, path-missing}
+use Rattle.notation.proofs.Laws.Stored.LabelTable.{noStep}
+use Rattle.notation.proofs.Laws.Stored.PathTable.{stepsBefore}
+use Rattle.notation.proofs.Laws.Refused.Fitting.{Fitting}
+use Rattle.notation.proofs.Laws.Stored.ReadPaths.{path-read, path-missing}
 use Rattle.machine.specs.Words.{document, name, Word, labelWords}
 use Rattle.machine.specs.Walk.{followedBy}
 use Rattle.machine.specs.Prefix.{IsPrefix}

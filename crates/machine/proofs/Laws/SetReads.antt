@@ -8,11 +8,11 @@ use Rattle.notation.specs.Sets.{FolderSet, axisOf, testOf}
 use Rattle.notation.specs.Layout.{setPart}
 use Rattle.notation.specs.Reads.{stepCount, labelCount, labelName, stepAt, isDescendant, isStar}
 use Rattle.notation.specs.declared.reads.StepAt.{StepAt}
-use Rattle.notation.proofs.Laws.LabelTable.{noStep}
-use Rattle.notation.proofs.Laws.Fitting.{Fitting}
-use Rattle.notation.proofs.Laws.Reads.{steps-read, labels-read}
-use Rattle.notation.proofs.Laws.ReadSteps.{step-read}
-use Rattle.notation.proofs.Laws.ReadPaths.{LabelRead, label-read}
+use Rattle.notation.proofs.Laws.Stored.LabelTable.{noStep}
+use Rattle.notation.proofs.Laws.Refused.Fitting.{Fitting}
+use Rattle.notation.proofs.Laws.Stored.Reads.{steps-read, labels-read}
+use Rattle.notation.proofs.Laws.Stored.ReadSteps.{step-read}
+use Rattle.notation.proofs.Laws.Stored.ReadPaths.{LabelRead, label-read}
 use Rattle.machine.specs.Automaton.{Link, allSteps, allLabels, assembled}
 use Rattle.machine.proofs.Laws.Assembled.{after-set}
 

@@ -18,16 +18,16 @@ use Rattle.notation.specs.Reads.{folderCount, pathCount, stepCount, labelCount,
 use Rattle.notation.specs.declared.reads.FolderAt.{FolderAt}
 use Rattle.notation.specs.declared.reads.PathAt.{PathAt}
 use Rattle.notation.specs.declared.reads.LabelAt.{LabelAt}
-use Rattle.notation.proofs.Laws.Stands.{Stands, read, fits}
-use Rattle.notation.proofs.Laws.Entries.{entry, map-at}
-use Rattle.notation.proofs.Laws.Sections.{steps-stand}
-use Rattle.notation.proofs.Laws.LabelTable.{noStep}
-use Rattle.notation.proofs.Laws.FolderTable.{noFolder, pathsBefore, paths-before-most}
-use Rattle.notation.proofs.Laws.PathTable.{steps-through}
-use Rattle.notation.proofs.Laws.Fitting.{Fitting, roomy, one-byte}
-use Rattle.notation.proofs.Laws.Reads.{text-len, folders-read, paths-read, steps-read, labels-read, there}
-use Rattle.notation.proofs.Laws.ReadFolders.{folder-read}
-use Rattle.notation.proofs.Laws.ReadPaths.{path-read, label-read}
+use Rattle.notation.proofs.Laws.Stored.Stands.{Stands, read, fits}
+use Rattle.notation.proofs.Laws.Stored.Entries.{entry, map-at}
+use Rattle.notation.proofs.Laws.Stored.Sections.{steps-stand}
+use Rattle.notation.proofs.Laws.Stored.LabelTable.{noStep}
+use Rattle.notation.proofs.Laws.Stored.FolderTable.{noFolder, pathsBefore, paths-before-most}
+use Rattle.notation.proofs.Laws.Stored.PathTable.{steps-through}
+use Rattle.notation.proofs.Laws.Refused.Fitting.{Fitting, roomy, one-byte}
+use Rattle.notation.proofs.Laws.Stored.Reads.{text-len, folders-read, paths-read, steps-read, labels-read, there}
+use Rattle.notation.proofs.Laws.Stored.ReadFolders.{folder-read}
+use Rattle.notation.proofs.Laws.Stored.ReadPaths.{path-read, label-read}
 use Rattle.machine.specs.Automaton.{allSteps, allLabels}
 use Rattle.machine.proofs.Laws.Basics.{both, both-true}
 use Rattle.machine.proofs.Laws.Shaped.{FolderFacts, PathFacts, LabelFacts}

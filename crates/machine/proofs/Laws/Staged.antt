@@ -8,7 +8,7 @@ use lib.ListN.{length, getD, length-append}
 use Rattle.notation.specs.Limits.{maxSteps, maxLabels}
 use Rattle.notation.specs.Sets.{FolderSet}
 use Rattle.notation.specs.Reads.{labelCount}
-use Rattle.notation.proofs.Laws.Fitting.{Fitting}
+use Rattle.notation.proofs.Laws.Refused.Fitting.{Fitting}
 use Rattle.machine.specs.Words.{name, Word}
 use Rattle.machine.specs.Prefix.{IsPrefix, failure}
 use Rattle.machine.specs.Automaton.{hashes, maskSize, automatonSize, allLabels, allWords, stateOf, shortened, heads, nexts, Link, assembled}

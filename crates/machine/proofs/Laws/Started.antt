@@ -14,10 +14,10 @@ use Rattle.notation.specs.Form.{every, nonEmpty, formedStep, formedPath, formed
 use Rattle.notation.specs.Layout.{setPart}
 use Rattle.notation.specs.Reads.{isDescendant, isStar, stepAt, pathCount}
 use Rattle.notation.specs.declared.reads.StepAt.{StepAt}
-use Rattle.notation.proofs.Laws.Fitting.{Fitting}
-use Rattle.notation.proofs.Laws.Reads.{paths-read}
-use Rattle.notation.proofs.Laws.LabelTable.{noStep}
-use Rattle.notation.proofs.Laws.ReadSteps.{step-read}
+use Rattle.notation.proofs.Laws.Refused.Fitting.{Fitting}
+use Rattle.notation.proofs.Laws.Stored.Reads.{paths-read}
+use Rattle.notation.proofs.Laws.Stored.LabelTable.{noStep}
+use Rattle.notation.proofs.Laws.Stored.ReadSteps.{step-read}
 use Rattle.machine.specs.Words.{document, before, any, begins}
 use Rattle.machine.specs.Automaton.{allSteps, Link, startState, assembled}
 use Rattle.machine.specs.Masks.{rooted, anyRooted, withStart}

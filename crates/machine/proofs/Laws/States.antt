@@ -9,7 +9,7 @@ use lib.ListN.{length, getD, length-append}
 use Rattle.notation.specs.Names.{Name}
 use Rattle.notation.specs.Sets.{child, descendant, label, star, step, Path, FolderSet}
 use Rattle.notation.specs.Form.{pathsOf, stepsOf, labelsOf}
-use Rattle.notation.proofs.Laws.TableSizes.{labels-append}
+use Rattle.notation.proofs.Laws.Scan.TableSizes.{labels-append}
 use Rattle.machine.specs.Words.{document, name, Word, sameSymbol, before, labelWords, Begins, begins}
 use Rattle.machine.specs.Prefix.{IsPrefix}
 use Rattle.machine.specs.Walk.{followedBy}

@@ -7,8 +7,8 @@ use mathlib.Core.List.{List, [], _∷_, _++_, map, append-assoc}
 use lib.ListN.{length, getD, set, replicate, length-set, length-replicate, replicate-append-replicate}
 use lib.Seq.{sets, length-sets, set-append-left}
 use Rattle.notation.specs.Layout.{joined, padded}
-use Rattle.notation.proofs.Laws.Padded.{sets-past, sets-front}
-use Rattle.notation.proofs.Laws.Entries.{OfWidth, none, more, joined-length}
+use Rattle.notation.proofs.Laws.Fill.Padded.{sets-past, sets-front}
+use Rattle.notation.proofs.Laws.Stored.Entries.{OfWidth, none, more, joined-length}
 
 -- a run of stores within the front leaves what follows it
 pub sets-left : (vs xs ys : List ℕ) (i : ℕ) → i + length vs ≤ length xs → sets (xs ++ ys) i vs ≡ sets xs i vs ++ ys
