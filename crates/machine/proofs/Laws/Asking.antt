@@ -20,10 +20,10 @@ use Rattle.notation.specs.declared.PathPlace.{PathPlace}
 use Rattle.notation.specs.declared.FolderNumber.{FolderNumber}
 use Rattle.notation.specs.declared.reads.PathAt.{PathAt}
 use Rattle.notation.specs.declared.reads.FolderAt.{FolderAt}
-use Rattle.notation.proofs.Laws.PathTable.{stepsBefore, steps-through}
-use Rattle.notation.proofs.Laws.FolderTable.{noFolder, pathsBefore, paths-between, paths-before-most}
-use Rattle.notation.proofs.Laws.ReadPaths.{PathRead, path-read, path-missing}
-use Rattle.notation.proofs.Laws.ReadFolders.{folder-read, folder-of-read}
+use Rattle.notation.proofs.Laws.Stored.PathTable.{stepsBefore, steps-through}
+use Rattle.notation.proofs.Laws.Stored.FolderTable.{noFolder, pathsBefore, paths-between, paths-before-most}
+use Rattle.notation.proofs.Laws.Stored.ReadPaths.{PathRead, path-read, path-missing}
+use Rattle.notation.proofs.Laws.Stored.ReadFolders.{folder-read, folder-of-read}
 use Rattle.machine.specs.Prefix.{prefixOf}
 use Rattle.machine.specs.Words.{any}
 use Rattle.machine.specs.Folders.{countFrom, placesFrom, folderMatched}

@@ -12,7 +12,7 @@ use Rattle.notation.specs.Sets.{folder, FolderSet, folderNumber, folderPaths}
 use Rattle.notation.specs.Form.{pathsOf, numbersFallAfter}
 use Rattle.notation.specs.Reads.{folderIndex}
 use Rattle.notation.specs.declared.reads.FolderIndex.{FolderIndex}
-use Rattle.notation.proofs.Laws.FolderTable.{noFolder, pathsBefore}
+use Rattle.notation.proofs.Laws.Stored.FolderTable.{noFolder, pathsBefore}
 use Rattle.machine.specs.Words.{any}
 use Rattle.machine.specs.Folders.{countFrom, placesFrom}
 use Rattle.machine.proofs.Laws.Basics.{cases}

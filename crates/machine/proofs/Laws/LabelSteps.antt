@@ -15,8 +15,8 @@ use Rattle.notation.specs.Sets.{Test, label, star, Step, step, Path, FolderSet,
 use Rattle.notation.specs.Form.{pathsOf, stepsOf, labelOf, labelsOf}
 use Rattle.notation.specs.Activity.{sameName}
 use Rattle.notation.specs.Reads.{word16, labelEntryAt}
-use Rattle.notation.proofs.Laws.PathTable.{stepsBefore}
-use Rattle.notation.proofs.Laws.LabelTable.{noStep}
+use Rattle.notation.proofs.Laws.Stored.PathTable.{stepsBefore}
+use Rattle.notation.proofs.Laws.Stored.LabelTable.{noStep}
 use Rattle.machine.specs.Words.{any}
 use Rattle.machine.specs.Automaton.{allSteps, allLabels, Role, role, roles, rolesIn, roleAt}
 use Rattle.machine.specs.Chain.{chainLabels}

@@ -9,8 +9,8 @@ use Rattle.notation.specs.Sets.{FolderSet}
 use Rattle.notation.specs.Form.{pathsOf, numbersFall}
 use Rattle.notation.specs.Accepted.{Accepted}
 use Rattle.notation.specs.Layout.{setPart}
-use Rattle.notation.proofs.Laws.Fitting.{Fitting}
-use Rattle.notation.proofs.Laws.AcceptedSet.{accepted-fits}
+use Rattle.notation.proofs.Laws.Refused.Fitting.{Fitting}
+use Rattle.notation.proofs.Laws.Refused.AcceptedSet.{accepted-fits}
 use Rattle.machine.specs.Automaton.{automatonSize, heads, allLabels, links, masks, startState, automatonOf}
 use Rattle.machine.specs.Shape.{automatonShaped}
 use Rattle.machine.specs.Compiled.{Compiled}

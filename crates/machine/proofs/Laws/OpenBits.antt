@@ -15,8 +15,8 @@ use Rattle.notation.specs.Form.{pathsOf, stepsOf}
 use Rattle.notation.specs.Reads.{isDescendant, isStar}
 use Rattle.notation.specs.Fit.{stepAt}
 use Rattle.notation.specs.Activity.{takes, byAxis, allowed, here, isEmpty, active, seen, fits}
-use Rattle.notation.proofs.Laws.Innermost.{active-more, seen-more}
-use Rattle.notation.proofs.Laws.PathTable.{stepsBefore}
+use Rattle.notation.proofs.Laws.Meaning.Innermost.{active-more, seen-more}
+use Rattle.notation.proofs.Laws.Stored.PathTable.{stepsBefore}
 use Rattle.machine.specs.Limits.{maxDepth}
 use Rattle.machine.specs.Automaton.{maskSize, Role, role, roles, roleAt, isStarRole, isChildRole, isDescendantRole, isAnywhereRole, isRootRole, isLastRole}
 use Rattle.machine.specs.Run.{stepBit, matchBit, activeBits, seenBits, runWith}

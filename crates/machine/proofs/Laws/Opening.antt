@@ -15,7 +15,7 @@ use Rattle.notation.specs.Form.{pathsOf, stepsOf}
 use Rattle.notation.specs.Layout.{le16, joined, padded}
 use Rattle.notation.specs.Reads.{stepCount}
 use Rattle.notation.specs.Activity.{active, seen, fits}
-use Rattle.notation.proofs.Laws.Padded.{sets-front, length-padded, joined-snoc}
+use Rattle.notation.proofs.Laws.Fill.Padded.{sets-front, length-padded, joined-snoc}
 use Rattle.machine.specs.Limits.{maxDepth}
 use Rattle.machine.specs.Prefix.{prefixOf}
 use Rattle.machine.specs.Walk.{walk}

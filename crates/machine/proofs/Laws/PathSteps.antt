@@ -10,7 +10,7 @@ use lib.Dec.{ltb, eqb}
 use lib.ListN.{length, getD, take, length-append}
 use Rattle.notation.specs.Sets.{child, star, Step, step, Path}
 use Rattle.notation.specs.Form.{stepsOf}
-use Rattle.notation.proofs.Laws.PathTable.{stepsBefore}
+use Rattle.notation.proofs.Laws.Stored.PathTable.{stepsBefore}
 use Rattle.machine.specs.Automaton.{Role, role, rolesFrom, rolesIn, roleAt}
 use Rattle.machine.specs.Run.{stepBit, matchBit}
 use Rattle.machine.proofs.Laws.Basics.{cases}

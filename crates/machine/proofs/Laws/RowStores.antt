@@ -7,7 +7,7 @@ use native.Mathlib.Omega.{arith}
 use native.Mathlib.Nat.{add-zero}
 use lib.ListN.{length, take, drop, replicate}
 use lib.Seq.{sets, take-at, drop-at, drop-drop}
-use Rattle.notation.proofs.Laws.Padded.{sets-front}
+use Rattle.notation.proofs.Laws.Fill.Padded.{sets-front}
 use Rattle.machine.specs.Automaton.{maskSize, byteOf, bitBytes}
 use Rattle.machine.specs.Run.{activeIn, seenIn, rowSize, runSize}
 use Rattle.machine.proofs.Laws.Tabulate.{tabulate-length}

@@ -12,11 +12,11 @@ use Rattle.notation.specs.Sets.{FolderSet}
 use Rattle.notation.specs.Form.{pathsOf}
 use Rattle.notation.specs.Layout.{le16, joined, padded}
 use Rattle.notation.specs.Reads.{word16}
-use Rattle.notation.proofs.Laws.Stands.{Stands, left, right, read, slice}
-use Rattle.notation.proofs.Laws.Padded.{length-padded}
-use Rattle.notation.proofs.Laws.Entries.{OfWidth, none, more, joined-length, entry}
-use Rattle.notation.proofs.Laws.Fitting.{Fitting}
-use Rattle.notation.proofs.Laws.Words.{word-read}
+use Rattle.notation.proofs.Laws.Stored.Stands.{Stands, left, right, read, slice}
+use Rattle.notation.proofs.Laws.Fill.Padded.{length-padded}
+use Rattle.notation.proofs.Laws.Stored.Entries.{OfWidth, none, more, joined-length, entry}
+use Rattle.notation.proofs.Laws.Refused.Fitting.{Fitting}
+use Rattle.notation.proofs.Laws.Stored.Words.{word-read}
 use Rattle.machine.specs.Limits.{maxDepth}
 use Rattle.machine.specs.Prefix.{prefixOf}
 use Rattle.machine.specs.Automaton.{maskSize, stateOf, bitBytes, byteOf}

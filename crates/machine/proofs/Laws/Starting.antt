@@ -13,8 +13,8 @@ use Rattle.notation.specs.Sets.{Path, FolderSet}
 use Rattle.notation.specs.Form.{pathsOf}
 use Rattle.notation.specs.Layout.{le16, joined, padded}
 use Rattle.notation.specs.Activity.{active, seen}
-use Rattle.notation.proofs.Laws.Padded.{sets-front, padded-none}
-use Rattle.notation.proofs.Laws.Innermost.{active-none, seen-none}
+use Rattle.notation.proofs.Laws.Fill.Padded.{sets-front, padded-none}
+use Rattle.notation.proofs.Laws.Meaning.Innermost.{active-none, seen-none}
 use Rattle.machine.specs.Words.{document, begins}
 use Rattle.machine.specs.Prefix.{longestEnd, prefixOf}
 use Rattle.machine.specs.Automaton.{maskSize, stateIn, stateOf, startState, bitBytes}
