@@ -1,17 +1,17 @@
 -- No path of a well-formed set is empty.
-use Prim.Native.Nat.{ℕ, zero, suc, _≤_, _<_}
+use Prim.Native.Nat.{ℕ, _≤_, _<_}
 use mathlib.Core.Path.{_≡_, refl}
 use mathlib.Core.Bool.{Bool, true, _&&_}
-use mathlib.Core.List.{List, [], _∷_, List·Memᴰ, List·Memᴰ·head, List·Memᴰ·tail, List·Memᴰ·not-nil, List·Memᴰ·cases-cons, List·Memᴰ·append-cases}
+use mathlib.Core.List.{List, [], _∷_, List·Memᴰ, List·Memᴰ·not-nil, List·Memᴰ·cases-cons, List·Memᴰ·append-cases}
 use mathlib.Core.Logic.{_⊎_, inl, inr}
 use native.Mathlib.Omega.{arith}
-use native.Mathlib.Nat.{not-suc-le-zero, le-of-suc-le-suc}
 use lib.ListN.{length, getD}
 use Rattle.notation.specs.Limits.{maxNumber}
 use Rattle.notation.specs.Names.{within}
 use Rattle.notation.specs.Sets.{Path, Folder, folder, FolderSet, folderPaths}
 use Rattle.notation.specs.Form.{every, nonEmpty, formedStep, formedPath, formedFolder, formed, pathsOf}
 use Rattle.machine.proofs.Laws.Basics.{both, clash}
+use Rattle.machine.proofs.Laws.States.{at-among}
 
 every-at : {A : Type 0} (f : A → Bool) (l : List A) (a : A) → every f l ≡ true → List·Memᴰ a l → f a ≡ true
 unfolding every
@@ -31,11 +31,6 @@ paths-formed (f ∷ fs) h p m = go (both (formedFolder f) (every formedFolder fs
     go b ih (inl x) = every-at formedPath (folderPaths f) p (folder-paths f (b .0)) x
     go b ih (inr x) = ih (b .1) x
 
-member-at : (ps : List Path) (i : ℕ) → i < length ps → List·Memᴰ (getD ps i []) ps
-member-at [] i h = absurd (not-suc-le-zero h)
-member-at (p ∷ ps) zero h = List·Memᴰ·head refl
-member-at (p ∷ ps) (suc i) h = List·Memᴰ·tail (member-at ps i (le-of-suc-le-suc h))
-
 some-step : (p : Path) → nonEmpty p ≡ true → 1 ≤ length p
 some-step [] h = clash h refl
 some-step (x ∷ p) h = omega arith
@@ -44,4 +39,4 @@ pub full-paths : (s : FolderSet) → formed s ≡ true → (i : ℕ) → i < len
 unfolding formedPath
 full-paths s h i k =
     let p = getD (pathsOf s) i [] in
-    some-step p (both (nonEmpty p) (every formedStep p) (paths-formed s h p (member-at (pathsOf s) i k)) .0)
+    some-step p (both (nonEmpty p) (every formedStep p) (paths-formed s h p (at-among (pathsOf s) [] i k)) .0)

@@ -1,5 +1,5 @@
 -- Everything that the calls make passes the shape test, and on it an open and a close are refused as the machine says.
-use Prim.Native.Nat.{ℕ, zero, suc, _+_, _*_, _≤_, _<_}
+use Prim.Native.Nat.{ℕ, zero, suc, _+_, _*_, _≤_}
 use mathlib.Core.Path.{_≡_, refl, sym, _∙_, ap}
 use mathlib.Core.Bool.{Bool, true, false, not, _&&_}
 use mathlib.Core.List.{List, [], _∷_, _++_, map, reverse, reverse-cons}
@@ -20,12 +20,12 @@ use Rattle.machine.specs.Prefix.{prefixOf}
 use Rattle.machine.specs.Order.{Condition, gives, first, numberIn}
 use Rattle.machine.specs.Calls.{Lent, openCall, closeCall, Level, level, nameOf, State, namesOf, openNames, depth, isInnermost, openOrder, refusal}
 use Rattle.machine.specs.Automaton.{automatonSize, stateOf, allLabels}
-use Rattle.machine.specs.Shape.{allBelow}
 use Rattle.machine.specs.Run.{runSize, runOf}
 use Rattle.machine.specs.RunCalls.{depthOf, storedName, rowShaped, runShaped, countersShaped, shaped, given, tooShort, rootShut, openRefusal, closeRefusal}
 use Rattle.machine.specs.declared.counters.Counters.{Counters}
 use Rattle.machine.proofs.Laws.Basics.{both-true}
 use Rattle.machine.proofs.Laws.Prefix.{current-prefix}
+use Rattle.machine.proofs.Laws.AllBelow.{is-all}
 use Rattle.machine.proofs.Laws.States.{state-within}
 use Rattle.machine.proofs.Laws.Sound.{Sound, sound-names}
 use Rattle.machine.proofs.Laws.Moves.{Few}
@@ -41,11 +41,6 @@ unfolding given first
 given-first [] = refl
 given-first (gives true r ∷ later) = refl
 given-first (gives false r ∷ later) = given-first later
-
-pub all-below : (n : ℕ) (f : ℕ → Bool) → ((i : ℕ) → i < n → f i ≡ true) → allBelow n f ≡ true
-unfolding allBelow
-all-below zero f h = refl
-all-below (suc n) f h = both-true (all-below n f (λ i k. h i (omega arith))) (h n (omega arith))
 
 module _ (s : FolderSet) (st : State) (g : Sound s st) where
   pub names-length : length (openNames st) ≡ depth st
@@ -105,7 +100,7 @@ module _ (s : FolderSet) (a : List ℕ) (m : Means s a) (st : State) (few : Few 
   unfolding runShaped
   run-shaped =
       rw stored-depth
-      (both-true (le-leb (depth st) maxDepth (g .shallow)) (all-below (suc (depth st)) (rowShaped a run) (λ d h. row-shaped d (omega (arith, names-length s st g)))))
+      (both-true (le-leb (depth st) maxDepth (g .shallow)) (is-all (suc (depth st)) (rowShaped a run) (λ d h. row-shaped d (omega (arith, names-length s st g)))))
 
   -- and so do its counters
   pub counters-shaped : countersShaped run (countersOf st) ≡ true

@@ -14,6 +14,7 @@ use Rattle.notation.proofs.Laws.Stored.PathTable.{stepsBefore}
 use Rattle.machine.specs.Automaton.{Role, role, rolesFrom, rolesIn, roleAt}
 use Rattle.machine.specs.Run.{stepBit, matchBit}
 use Rattle.machine.proofs.Laws.Basics.{cases}
+use Rattle.machine.proofs.Laws.Masked.{all-roles-length}
 
 abbrev pub anyStep : Step
 anyStep = step child star
@@ -141,11 +142,6 @@ first-is : (k : ℕ) → first-or true k ≡ eqb k 0
 first-is zero = refl
 first-is (suc k) = sym (ne-eqb (suc k) 0 (λ e. omega arith))
 
-pub all-roles : (ps : List Path) → length (rolesIn ps) ≡ length (stepsOf ps)
-unfolding rolesIn stepsOf
-all-roles [] = refl
-all-roles (p ∷ ps) = omega (arith, length-append (rolesFrom true p) (rolesIn ps), length-append p (stepsOf ps), roles-length true p, all-roles ps)
-
 module _ (f : Role → Bool) where
   pub role-at : (ps : List Path) (place k : ℕ) → place < length ps → k < length (getD ps place [])
       → roleAt f (rolesIn ps) (stepsBefore ps place + k) ≡ f (roleOf (getD ps place []) k)
@@ -167,4 +163,4 @@ module _ (f : Role → Bool) where
   role-past-from (r ∷ rs) (suc i) h = role-past-from rs i (le-of-suc-le-suc h)
 
   pub role-past : (ps : List Path) (i : ℕ) → length (stepsOf ps) ≤ i → roleAt f (rolesIn ps) i ≡ false
-  role-past ps i h = role-past-from (rolesIn ps) i (omega (arith, all-roles ps))
+  role-past ps i h = role-past-from (rolesIn ps) i (omega (arith, all-roles-length ps))

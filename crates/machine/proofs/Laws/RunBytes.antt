@@ -4,7 +4,7 @@ use mathlib.Core.Path.{_≡_, refl, sym, _∙_, ap, subst}
 use mathlib.Core.Bool.{Bool}
 use mathlib.Core.List.{List, [], _∷_, _++_, append-assoc, append-nil, List·Memᴰ, List·Memᴰ·head, List·Memᴰ·tail}
 use native.Mathlib.Omega.{arith}
-use native.Mathlib.Nat.{not-suc-le-zero, le-of-suc-le-suc, add-zero}
+use native.Mathlib.Nat.{le-of-suc-le-suc, add-zero}
 use lib.ListN.{length, getD, take, drop, replicate, length-append}
 use Rattle.notation.specs.Limits.{maxName, maxLabels}
 use Rattle.notation.specs.Names.{Name}
@@ -26,7 +26,7 @@ use Rattle.machine.specs.RunCalls.{depthOf, nameLength, storedName, stat
 use Rattle.machine.proofs.Laws.Tabulate.{tabulate-length}
 use Rattle.machine.proofs.Laws.Bits.{bits-bit}
 use Rattle.machine.proofs.Laws.Prefix.{current-prefix}
-use Rattle.machine.proofs.Laws.States.{state-within}
+use Rattle.machine.proofs.Laws.States.{at-among, state-within}
 
 -- names that a row has room for
 abbrev pub Short : List Name → Type 0
@@ -142,14 +142,9 @@ bits-length f = tabulate-length (byteOf f) maskSize
 regroup : (h m r z rest : List ℕ) → ((h ++ (m ++ r)) ++ z) ++ rest ≡ h ++ (m ++ (r ++ (z ++ rest)))
 regroup h m r z rest = simp append-assoc
 
-member-at : (names : List Name) (d : ℕ) → d < length names → List·Memᴰ (getD names d []) names
-member-at [] d h = absurd (not-suc-le-zero h)
-member-at (n ∷ names) zero h = List·Memᴰ·head refl
-member-at (n ∷ names) (suc d) h = List·Memᴰ·tail (member-at names d (le-of-suc-le-suc h))
-
 pub short-at : (names : List Name) (d : ℕ) → d ≤ length names → Short names → length (getD ([] ∷ names) d []) ≤ maxName
 short-at names zero h t = omega arith
-short-at names (suc d) h t = t (getD names d []) (member-at names d h)
+short-at names (suc d) h t = t (getD names d []) (at-among names [] d h)
 
 module _ (s : FolderSet) (names : List Name) (matched : ℕ → Bool) (deep : length names ≤ maxDepth) (short : Short names) where
   width : OfWidth rowSize (rowsFrom s [] [] names)
