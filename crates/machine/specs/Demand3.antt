@@ -117,24 +117,24 @@ pub record Holds (s : FolderSet) (a buffer : List ℕ) (made : List Made) (calls
       → let u = leftBy a buffer before in openRefusal a (u .bytes) (u .counters) e ≡ numberIn (refusal (run s (callsOf before)) (openCall asLeft e))
   pub closeRefusals : (before later : List Made) (e : Name) → before ++ (closeAsLeft e ∷ later) ≡ made
       → let u = leftBy a buffer before in closeRefusal a (u .bytes) (u .counters) e ≡ numberIn (refusal (run s (callsOf before)) (closeCall asLeft e))
-  -- "The marked paths are exactly those that fitted right after some accepted open"
+  -- a path is matched exactly if it fitted right after some accepted open
   pub paths : (place : PathPlace) → Answers (place .0 < length (pathsOf s)) (FittedAfterOpen s calls (place .0)) (askPath a (t .bytes) place)
-  -- "and the marked folders exactly those with a marked path"
+  -- a folder is matched exactly if one of its paths is
   pub folders : (number : FolderNumber) → Answers (HasFolder s (number .0)) (HasMatchedPath s a (t .bytes) (number .0)) (askFolder a (t .bytes) number)
-  -- "Open names, standing steps and held word are exactly those that document 01 defines for the names opened and not yet closed"
+  -- open names, active steps and current prefix are those defined for the names opened and not yet closed
   pub names : (d : ℕ) → 1 ≤ d → d ≤ length still → (askName a (t .bytes) d ≡ nameAt still d) × (nameRefusal a (t .bytes) d ≡ 0)
   pub noNames : (d : ℕ) → ((1 ≤ d) × (d ≤ length still) → ⊥) → (askName a (t .bytes) d ≡ []) × (nameRefusal a (t .bytes) d ≡ 13)
   pub steps : (place : PathPlace) (k : ℕ) → Answers (StepThere s (place .0) k) (Active (pathAt s (place .0)) k still) (askStep a (t .bytes) place k)
   pub prefix : PrefixAnswered s still (askPrefix a (t .bytes))
-  -- "Asked for these, the run gives the same answers as a fresh run on the same set that was given only the opens of those names, in order"
+  -- a fresh run on the same set, given only the opens of those names in order, answers the same
   pub replayed : (other : List ℕ) → SameAsked a (t .bytes) (leftBy a other (map openAsLeft still) .bytes)
-  -- "Accepted opens = accepted closes + elements open": the counters', which are the machine's and how many such calls the list has
+  -- opens are closes and open elements; both counters are the machine's, and how many such calls the list has
   pub balance : t .counters .opens ≡ t .counters .closes + length still
   pub opens : t .counters .opens ≡ run s calls .opens
   pub closes : t .counters .closes ≡ run s calls .closes
   pub opensTold : t .counters .opens ≡ opensIn (acceptedCalls s calls)
   pub closesTold : t .counters .closes ≡ closesIn (acceptedCalls s calls)
-  -- "Last, the fall-backs counted equal the shared machine's and are at most the depths of all childless elements added up"
+  -- the failure moves counted are the machine's, and at most the depths of all childless elements together
   pub moves : t .counters .moves ≡ run s calls .moves
   pub movesMost : t .counters .moves ≤ childlessDepths (elementsOf (acceptedCalls s calls))
 
