@@ -22,4 +22,5 @@ pub mod RunCalls
 pub mod Asking
 pub mod Build
 pub mod Masks
+pub mod Passes
 pub mod Compiled
