@@ -65,3 +65,6 @@ pub mod Parents
 pub mod Elsewhere
 pub mod Linking
 pub mod Accepting
+pub mod Build
+pub mod Built
+pub mod WriteSet

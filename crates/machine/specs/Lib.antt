@@ -23,4 +23,5 @@ pub mod Asking
 pub mod Demand3
 pub mod Build
 pub mod Masks
+pub mod Passes
 pub mod Compiled

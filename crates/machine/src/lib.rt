@@ -5,3 +5,4 @@ pub mod counters;
 pub mod layout;
 pub mod shape;
 pub mod walk;
+pub mod write;

@@ -1,0 +1,88 @@
+-- `write::write_set`: the four answers, by what is known at each.
+use Prim.Native.Nat.{ℕ, _<_, _≤_}
+use native.Mathlib.Omega.{arith}
+use mathlib.Core.Path.{_≡_, sym, _∙_}
+use mathlib.Core.Bool.{true, false}
+use mathlib.Core.List.{List}
+use lib.ListN.{length}
+use lib.Seq.{sets}
+use borrow.Author.Tests.{lt-ltb, le-ltb}
+use Rattle.notation.specs.Limits.{maxSetBytes}
+use Rattle.notation.specs.Reads.{textLen, textOf}
+use Rattle.notation.proofs.Laws.WriteBack.{text-within}
+use Rattle.machine.specs.Automaton.{automatonSize}
+use Rattle.machine.specs.RunCalls.{given}
+use Rattle.machine.specs.Shape.{automatonShaped}
+use Rattle.machine.specs.Build.{SetWritten, writeRefusal}
+use Rattle.machine.specs.declared.answers.Written.{Written}
+use borrow.Author.Needs.{needs}
+use Rattle.machine.proofs.write.write_set.Statement.{statement}
+use Rattle.machine.proofs.write.write_set.Tie as tie
+
+short : (a out : List ℕ) → length a < 65536 → SetWritten a out (Written.Refused 1) out
+unfolding writeRefusal given automatonSize
+short a out h = let t = lt-ltb (length a) 65536 h in record { answers = rw t; leaves = rw t }
+
+short-out : (a out : List ℕ) → 65536 ≤ length a → length out < 16384 → SetWritten a out (Written.Refused 1) out
+unfolding writeRefusal given automatonSize maxSetBytes
+short-out a out k h =
+    let t = le-ltb (length a) 65536 k in
+    let u = lt-ltb (length out) 16384 h in
+    record { answers = rw (t, u); leaves = rw (t, u) }
+
+strange : (a out : List ℕ) → 65536 ≤ length a → 16384 ≤ length out → automatonShaped a ≡ false → SetWritten a out (Written.Refused 14) out
+unfolding writeRefusal given automatonSize maxSetBytes
+strange a out k h s =
+    let t = le-ltb (length a) 65536 k in
+    let u = le-ltb (length out) 16384 h in
+    record { answers = rw (t, u, s); leaves = rw (t, u, s) }
+
+written : (a out text after : List ℕ) (n : ℕ) → 65536 ≤ length a → 16384 ≤ length out → automatonShaped a ≡ true → text ≡ textOf a → n ≡ textLen a
+    → after ≡ sets out 0 text → SetWritten a out (Written.Bytes n) after
+unfolding writeRefusal given automatonSize maxSetBytes
+written a out text after n k h s e l f =
+    let t = le-ltb (length a) 65536 k in
+    let u = le-ltb (length out) 16384 h in
+    record { answers = rw (t, u, s, l); leaves = rw (t, u, s) (rw e at f) }
+
+returns : tie.Need-returns
+returns c = short _ _ (c .if1 .taken)
+
+returns-2 : tie.Need-returns-2
+returns-2 c = short-out _ _ (c .before .if1 .left) (c .if2 .taken)
+
+automaton-shaped-requires : tie.Need-automaton-shaped-requires
+automaton-shaped-requires c κs = search needs
+
+text-requires : tie.Need-text-requires
+text-requires c κs = search needs
+
+copy-requires : tie.Need-copy-requires
+unfolding maxSetBytes
+copy-requires c κs = rw (c .text .ensures) (omega (arith, text-within (c .before .before .before .before .before .before .before .before .args .automaton .now), c .before .before .before .before .if2 .left))
+
+text-len-requires : tie.Need-text-len-requires
+text-len-requires c κs = search needs
+
+same-length : tie.Need-same-length
+same-length c = search needs
+
+returns-3 : tie.Need-returns-3
+returns-3 c = written _ _ _ _ _ (c .before .before .before .before .before .before .before .before .before .if1 .left) (c .before .before .before .before .before .before .before .before .if2 .left) (sym (c .before .before .before .before .before .before .before .automaton-shaped .ensures) ∙ c .before .before .before .before .before .before .if3 .taken) (c .before .before .before .before .text .ensures) (c .text-len .ensures .0) (c .before .before .before .copy .ensures)
+
+returns-4 : tie.Need-returns-4
+returns-4 c = strange _ _ (c .before .before .before .if1 .left) (c .before .before .if2 .left) (sym (c .before .automaton-shaped .ensures) ∙ c .if3 .left)
+
+pub write-set-spec : {M : Type 1} → statement M
+write-set-spec =
+    tie.close
+    (tie.spec
+    returns
+    returns-2
+    automaton-shaped-requires
+    text-requires
+    copy-requires
+    text-len-requires
+    same-length
+    returns-3
+    returns-4)

@@ -1,0 +1,26 @@
+// Writing an automaton's set back.
+use crate::answers::Written;
+use crate::layout::AUTOMATON_SIZE;
+use crate::shape::automaton_shaped;
+use notation::limits::MAX_SET_BYTES;
+use notation::put;
+use notation::reads;
+ghost use Rattle.machine.specs.Build.{SetWritten};
+
+// Writes the text of an automaton's set and answers its length, or the number of the refusal: 1 for a short automaton or buffer, 14 for
+// bytes that are no automaton. Bytes past the text stay.
+pub fn write_set(automaton: &[u8], out: &mut [u8]) -> Written
+    ensures { λ r. ⌜ SetWritten (now (automaton .entry)) (now (out .entry)) r (now (out .exit)) ⌝ }
+{
+    if automaton.len() < AUTOMATON_SIZE {
+        return Written::Refused(1);
+    }
+    if out.len() < MAX_SET_BYTES {
+        return Written::Refused(1);
+    }
+    if automaton_shaped(automaton) {
+        put::copy(out, 0, reads::text(automaton));
+        return Written::Bytes(reads::text_len(automaton));
+    }
+    Written::Refused(14)
+}
