@@ -9,9 +9,9 @@ use Rattle.notation.specs.Sets.{FolderSet}
 use Rattle.notation.specs.Print.{print}
 use Rattle.notation.specs.Accepted.{Accepted}
 use Rattle.notation.specs.Layout.{setSize, setPart, tablesOf}
-use Rattle.notation.proofs.Laws.Sections.{layout-length}
-use Rattle.notation.proofs.Laws.Fitting.{Fitting, roomy}
-use Rattle.notation.proofs.Laws.AcceptedSet.{accepted-fits}
+use Rattle.notation.proofs.Laws.Stored.Sections.{layout-length}
+use Rattle.notation.proofs.Laws.Refused.Fitting.{Fitting, roomy}
+use Rattle.notation.proofs.Laws.Refused.AcceptedSet.{accepted-fits}
 use Rattle.machine.specs.Automaton.{hashes, maskSize, automatonSize, allLabels, heads, Link, assembled, automatonOf}
 use Rattle.machine.specs.Walkable.{Searchable}
 use Rattle.machine.specs.Fails.{Growing}

@@ -12,9 +12,9 @@ use Rattle.notation.specs.Accepted.{Accepted}
 use Rattle.notation.specs.Layout.{setSize}
 use Rattle.notation.specs.Scan.{refusalOf}
 use Rattle.notation.specs.ReadSet.{ReadSet, readAnswer}
-use Rattle.notation.proofs.Laws.Refusals.{refusal-not-1}
-use Rattle.notation.proofs.Laws.AcceptedSet.{accepted-set, accepted-is}
-use Rattle.notation.proofs.Laws.ReadAnswer.{answer-refusal, buffer-refused, buffer-accepted}
+use Rattle.notation.proofs.Laws.Refused.Refusals.{refusal-not-1}
+use Rattle.notation.proofs.Laws.Refused.AcceptedSet.{accepted-set, accepted-is}
+use Rattle.notation.proofs.Laws.Refused.ReadAnswer.{answer-refusal, buffer-refused, buffer-accepted}
 use Rattle.machine.specs.Automaton.{automatonSize, automatonOf}
 use Rattle.machine.specs.Build.{Built, buildAnswer}
 use Rattle.machine.specs.Passes.{ReadIn, made}

@@ -12,9 +12,9 @@ use Rattle.notation.specs.Limits.{maxSetBytes}
 use Rattle.notation.specs.Sets.{FolderSet}
 use Rattle.notation.specs.Accepted.{Accepted}
 use Rattle.notation.specs.Reads.{textLen, textOf}
-use Rattle.notation.proofs.Laws.Fitting.{Fitting}
-use Rattle.notation.proofs.Laws.AcceptedSet.{accepted-fits}
-use Rattle.notation.proofs.Laws.Reads.{text-len, text-read}
+use Rattle.notation.proofs.Laws.Refused.Fitting.{Fitting}
+use Rattle.notation.proofs.Laws.Refused.AcceptedSet.{accepted-fits}
+use Rattle.notation.proofs.Laws.Stored.Reads.{text-len, text-read}
 use Rattle.machine.specs.Automaton.{automatonSize, allLabels, heads, links, masks, startState, automatonOf}
 use Rattle.machine.specs.RunCalls.{given}
 use Rattle.machine.specs.Build.{Built, buildAnswer, SetWritten, writeRefusal, writeAnswer, writeBuffer}

@@ -9,7 +9,7 @@ use lib.Seq.{sets}
 use borrow.Author.Tests.{lt-ltb, le-ltb}
 use Rattle.notation.specs.Limits.{maxSetBytes}
 use Rattle.notation.specs.Reads.{textLen, textOf}
-use Rattle.notation.proofs.Laws.WriteBack.{text-within}
+use Rattle.notation.proofs.Laws.Refused.WriteBack.{text-within}
 use Rattle.machine.specs.Automaton.{automatonSize}
 use Rattle.machine.specs.RunCalls.{given}
 use Rattle.machine.specs.Shape.{automatonShaped}
