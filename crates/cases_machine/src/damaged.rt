@@ -10,15 +10,19 @@ pub fn all() {
     kept();
 }
 
+fn put(a: &mut [u8], at: usize, value: u8) {
+    if at < a.len() {
+        a[at] = value;
+    }
+}
+
 // A byte of the example is changed, and its set is written back.
 fn change(name: &[u8], at: usize, value: u8) {
     let mut a = [0u8; 65536];
     let mut out = [b'.'; 16384];
     let set = b"(folders\n(folder 3 (//clock/drift) (/lock/*/drift))\n(folder 8 (//*/lock))\n)\n";
     build(set, &mut a);
-    if at < 65536 {
-        a[at] = value;
-    }
+    put(&mut a, at, value);
     say::written(name, write_set(&a, &mut out));
 }
 

@@ -56,16 +56,31 @@ fn ends(a: &[u8]) {
     say::byte(a, 65536);
 }
 
-// The text, the bytes past it as they were, and a build of it.
+// The text, and two bytes past it as they were.
 fn back(a: &[u8]) {
     let mut out = [b'.'; 16384];
-    let mut again = [7u8; 65536];
-    let size = 76;
-    let more = 78;
     say::written(b"written back", write_set(a, &mut out));
-    say::bytes(&out[..more]);
+    front(&out, 78);
+    again(&out, 76);
+}
+
+fn front(out: &[u8], size: usize) {
+    if out.len() < size {
+        return;
+    }
+    let from = 0;
+    say::bytes(&out[from..size]);
     say::bytes(b"\n");
-    say::case(b"built again", build(&out[..size], &mut again));
-    heads(&again);
-    links(&again);
+}
+
+// A build of what was written.
+fn again(out: &[u8], size: usize) {
+    let mut a = [7u8; 65536];
+    if out.len() < size {
+        return;
+    }
+    let from = 0;
+    say::case(b"built again", build(&out[from..size], &mut a));
+    heads(&a);
+    links(&a);
 }
