@@ -1,0 +1,61 @@
+// Printing.
+use machine::answers::Written;
+use notation::reads;
+
+pub fn bytes(s: &[u8]) {
+    io::write_all(1, s);
+}
+
+pub fn number(n: usize) {
+    io::print_decimal(1, n as u64);
+}
+
+// A word and a number after it.
+pub fn count(word: &[u8], n: usize) {
+    bytes(word);
+    number(n);
+}
+
+// A case: its name and the number answered.
+pub fn case(name: &[u8], answer: u8) {
+    bytes(name);
+    count(b": ", answer as usize);
+    bytes(b"\n");
+}
+
+// What writing a set back answered.
+pub fn written(name: &[u8], w: Written) {
+    bytes(name);
+    match w {
+        Written::Bytes(n) => count(b": bytes ", n),
+        Written::Refused(r) => count(b": refused ", r as usize),
+    }
+    bytes(b"\n");
+}
+
+// The byte of an automaton at `at`.
+pub fn byte(a: &[u8], at: usize) {
+    count(b"byte ", at);
+    count(b": ", reads::byte_at(a, at));
+    bytes(b"\n");
+}
+
+// The number of two bytes at `at`.
+pub fn word(a: &[u8], at: usize) {
+    count(b"at ", at);
+    count(b": ", reads::word_at(a, at));
+    bytes(b"\n");
+}
+
+// Four of them.
+pub fn four(a: &[u8], at: usize) {
+    if 65536 < at {
+        return;
+    }
+    count(b"at ", at);
+    count(b": ", reads::word_at(a, at));
+    count(b" ", reads::word_at(a, at + 2));
+    count(b" ", reads::word_at(a, at + 4));
+    count(b" ", reads::word_at(a, at + 6));
+    bytes(b"\n");
+}
