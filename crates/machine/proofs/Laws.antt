@@ -17,3 +17,4 @@ pub mod Alike
 pub mod Adding
 pub mod Whole
 pub mod Examples
+pub mod ByteBits

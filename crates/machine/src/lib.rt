@@ -1,5 +1,7 @@
 // The shared machine of a folder set: its automaton, its run and the calls on them.
 pub mod answers;
+pub mod bits;
 pub mod counters;
 pub mod layout;
+pub mod run;
 pub mod walk;

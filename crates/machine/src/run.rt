@@ -1,0 +1,5 @@
+// The calls on a run (paper 01: the tray).
+pub mod asking;
+pub mod close;
+pub mod layout;
+pub mod shape;
