@@ -18,3 +18,5 @@ pub mod Adding
 pub mod Whole
 pub mod Examples
 pub mod ByteBits
+pub mod Below
+pub mod RunShape

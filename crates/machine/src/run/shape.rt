@@ -10,7 +10,7 @@ use notation::reads;
 ghost use mathlib.Core.Path.{_≡_};
 ghost use Prim.Native.Nat.{_<_, _≤_, _+_, _*_};
 ghost use Rattle.machine.specs.Limits.{maxDepth};
-ghost use Rattle.machine.specs.Run.{rowAt, rowsAt, rowSize};
+ghost use Rattle.machine.specs.Run.{rowAt, rowsAt, rowSize, runSize};
 ghost use Rattle.machine.specs.RunCalls.{depthOf, nameLength, stateAt, rowShaped, runShaped, countersShaped};
 
 // The count of open elements.
@@ -23,7 +23,7 @@ pub fn depth(run: &[u8]) -> usize
 // Where the row of a depth stands.
 pub fn row_at(d: usize) -> usize
     requires { ⌜ d ≤ maxDepth ⌝ }
-    ensures { λ r. ⌜ (r ≡ rowAt d) × (r + 547 ≤ 65536) ⌝ }
+    ensures { λ r. ⌜ (r ≡ rowAt d) × (r + rowSize ≤ runSize) ⌝ }
 {
     ROWS_AT + ROW_SIZE * d
 }

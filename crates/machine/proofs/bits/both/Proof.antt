@@ -3,10 +3,7 @@ use lib.Bits.{and-lt, or-lt}
 use native.Mathlib.Omega.{arith}
 use Rattle.machine.proofs.bits.both.Statement.{statement}
 use Rattle.machine.proofs.bits.both.Tie as tie
-use Rattle.machine.proofs.bits.both.Reads as reads
-use Rattle.machine.proofs.bits.both.Lts as lts
 
--- src/bits.rt:41:1
 returns : tie.Need-returns
 returns c = (and-lt 8 (c .args .a) (c .args .b) (omega arith) (omega arith), λ k. and-bit (c .args .a) (c .args .b) k)
 

@@ -3,10 +3,7 @@ use lib.Bits.{and-lt, or-lt}
 use native.Mathlib.Omega.{arith}
 use Rattle.machine.proofs.bits.either.Statement.{statement}
 use Rattle.machine.proofs.bits.either.Tie as tie
-use Rattle.machine.proofs.bits.either.Reads as reads
-use Rattle.machine.proofs.bits.either.Lts as lts
 
--- src/bits.rt:48:1
 returns : tie.Need-returns
 returns c = (or-lt 8 (c .args .a) (c .args .b) (omega arith) (omega arith), λ k. or-bit (c .args .a) (c .args .b) k)
 

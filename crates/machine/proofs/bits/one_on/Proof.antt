@@ -4,18 +4,13 @@ use native.Mathlib.Omega.{arith}
 use borrow.Author.Needs.{needs}
 use Rattle.machine.proofs.bits.one_on.Statement.{statement}
 use Rattle.machine.proofs.bits.one_on.Tie as tie
-use Rattle.machine.proofs.bits.one_on.Reads as reads
-use Rattle.machine.proofs.bits.one_on.Lts as lts
 
--- src/bits.rt:30:5
 mul-result : tie.Need-mul-result
 mul-result c = search needs
 
--- src/bits.rt:30:5
 add-result : tie.Need-add-result
 add-result c = search needs
 
--- src/bits.rt:26:1
 returns : tie.Need-returns
 returns c = (omega arith, λ k h. one-on (c .args .b) (c .args .before) k (omega arith) (omega arith) h)
 

@@ -8,14 +8,10 @@ use native.Mathlib.Omega.{arith}
 use borrow.Author.Needs.{needs}
 use Rattle.machine.proofs.bits.with_bit.Statement.{statement}
 use Rattle.machine.proofs.bits.with_bit.Tie as tie
-use Rattle.machine.proofs.bits.with_bit.Reads as reads
-use Rattle.machine.proofs.bits.with_bit.Lts as lts
 
--- src/bits.rt:38:10
 shl-result : tie.Need-shl-result
 shl-result c = search needs
 
--- src/bits.rt:34:1
 returns : tie.Need-returns
 returns c = let b = c .args .b in
     let k = c .args .k in

@@ -1,51 +1,59 @@
+use native.Mathlib.Omega.{arith}
+use mathlib.Core.Path.{_≡_, refl, sym, ap, _∙_}
+use mathlib.Core.Bool.{true, false}
+use Prim.Native.Nat.{_+_, _-_, _≤_, _<_}
+use borrow.Author.Tests.{not-true, not-false}
+use borrow.Author.Needs.{needs}
+use Rattle.machine.specs.Limits.{maxDepth}
+use Rattle.machine.specs.Shape.{allBelow}
+use Rattle.machine.specs.RunCalls.{depthOf, rowShaped}
+use Rattle.machine.proofs.Laws.Below.{below-none, below-more}
+use Rattle.machine.proofs.Laws.RunShape.{too-deep, bad-row, all-rows}
 use Rattle.machine.proofs.run.shape.run_shaped.Statement.{statement}
 use Rattle.machine.proofs.run.shape.run_shaped.Tie as tie
-use Rattle.machine.proofs.run.shape.run_shaped.Reads as reads
-use Rattle.machine.proofs.run.shape.run_shaped.Lts as lts
-use Rattle.machine.proofs.run.shape.depth.Reads as depth-reads
-use Rattle.machine.proofs.run.shape.row_shaped.Reads as row-shaped-reads
 
 abbrev Inv-loop : tie.InvT-loop
-Inv-loop a run deepest d₀ d = ?
+Inv-loop a run deepest d₀ d = (d ≤ deepest + 1) × (allBelow d (rowShaped a run) ≡ true)
 
 abbrev μ-loop : tie.MeasureT-loop
-μ-loop a run deepest d₀ d = ?
+μ-loop a run deepest d₀ d = deepest + 1 - d
 
--- src/run/shape.rt:61:9
 depth-requires : tie.Need-depth-requires Inv-loop μ-loop
-depth-requires c κs = ?
+depth-requires c κs = search needs
 
--- src/run/shape.rt:63:9
 returns : tie.Need-returns Inv-loop μ-loop
-returns c = ?
+unfolding maxDepth
+returns c = let a = c .before .before .before .before .args in
+    sym (too-deep (a .a .now) (a .run .now) (omega arith))
 
--- src/run/shape.rt:66:5
 loop-holds : tie.Need-loop-holds Inv-loop μ-loop
-loop-holds c = ?
+loop-holds c = (omega arith, below-none _)
 
--- src/run/shape.rt:67:13
 row-shaped-requires : tie.Need-row-shaped-requires Inv-loop μ-loop
-row-shaped-requires c κs = ?
+unfolding maxDepth
+row-shaped-requires c κs = omega arith
 
--- src/run/shape.rt:68:13
 returns-2 : tie.Need-returns-2 Inv-loop μ-loop
-returns-2 c = ?
+unfolding maxDepth
+returns-2 c = let a = c .before .before .before .before .before .before .before .before .args in
+    sym (bad-row (a .a .now) (a .run .now) (c .before .before .before .loop .d) (omega arith) (omega arith) (sym (c .before .row-shaped .ensures) ∙ not-true _ (c .if2 .taken)))
 
--- src/run/shape.rt:70:9
 add-d : tie.Need-add-d Inv-loop μ-loop
-add-d c = ?
+unfolding maxDepth
+add-d c = omega arith
 
--- src/run/shape.rt:66:5
 loop-less : tie.Need-loop-less Inv-loop μ-loop
-loop-less c = ?
+loop-less c = omega arith
 
--- src/run/shape.rt:66:5
 loop-again : tie.Need-loop-again Inv-loop μ-loop
-loop-again c = ?
+loop-again c = let a = c .before .before .before .before .before .before .before .before .args in
+    (omega arith, below-more (c .before .before .before .loop .d) (rowShaped (a .a .now) (a .run .now)) (c .before .before .before .loop .inv .1) (sym (c .before .row-shaped .ensures) ∙ not-false _ (c .if2 .left)))
 
--- src/run/shape.rt:58:1
 returns-3 : tie.Need-returns-3 Inv-loop μ-loop
-returns-3 c = ?
+unfolding maxDepth
+returns-3 c = let a = c .before .before .before .before .before .before .args in
+    let e : depthOf (a .run .now) + 1 ≡ c .before .loop .d = omega arith in
+    sym (all-rows (a .a .now) (a .run .now) (omega arith) (rw e (c .before .loop .inv .1)))
 
 pub run-shaped-spec : {M : Type 1} → statement M
 run-shaped-spec =
