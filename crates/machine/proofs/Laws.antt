@@ -3,6 +3,10 @@ pub mod Words
 pub mod Prefix
 pub mod Walk
 pub mod Labels
+pub mod Bits
+pub mod Find
+pub mod States
+pub mod Goto
 pub mod Order
 pub mod Calls
 pub mod Steps
@@ -20,3 +24,6 @@ pub mod Examples
 pub mod ByteBits
 pub mod Below
 pub mod RunShape
+pub mod Fuel
+pub mod Stores
+pub mod Assembled

@@ -17,6 +17,10 @@ pub record EndOf (whole end : Word) : Type 0 where
   pub front : Word
   pub joined : front ++ end ≡ whole
 
+-- a word that can be a current prefix: it begins a keyword or is empty
+abbrev pub IsPrefix : FolderSet → Word → Type 0
+IsPrefix set w = Begins set w ⊎ (w ≡ [])
+
 -- the longest end of a word that begins a keyword; it may be empty, and is so where there are no keywords
 pub record LongestEnd (set : FolderSet) (whole end : Word) : Type 0 where
   pub isEnd : EndOf whole end

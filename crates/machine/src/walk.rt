@@ -1,7 +1,79 @@
 // The walk of an open over the automaton's tables.
+ghost use mathlib.Core.Path.{_≡_};
+ghost use Prim.Native.Nat.{suc, _≤_, _<_};
+ghost use Rattle.notation.specs.Reads.{labelCount};
+ghost use Rattle.machine.specs.Automaton.{hash};
+ghost use Rattle.machine.specs.Tables.{sizeOf, failOf, follows, goto, walkOver};
+ghost use Rattle.machine.specs.Walkable.{Searchable, Walkable};
+use crate::layout::HEADS_AT;
+use crate::layout::LINK_SIZE;
+use crate::layout::LINKS_AT;
+use notation::names::same_name;
+use notation::reads::label_name;
+use notation::reads::word_at;
 
 // Where a walk arrived, and by how many failure moves.
 pub struct Walk {
     pub moves: usize,
     pub state: usize,
+}
+
+// Whether label `l` ends the word of state `q` followed by `e`.
+fn follows_label(a: &[u8], q: usize, e: &[u8], l: usize) -> bool
+    requires { ⌜ l < 65536 ⌝ }
+    ensures { λ r. ⌜ r ≡ follows (now (a .entry)) q (now (e .entry)) l ⌝ }
+{
+    if word_at(a, LINKS_AT + LINK_SIZE * l + 2) != q {
+        return false;
+    }
+    same_name(label_name(a, l), e)
+}
+
+// The state of the word of state `q` followed by `e`, 0 for none. `h` is the hash of `e`.
+pub fn goto_state(a: &[u8], q: usize, e: &[u8], h: usize) -> usize
+    requires { ⌜ Searchable (now a) × (h ≡ hash (now e)) ⌝ }
+    ensures { λ r. ⌜ (r ≡ goto (now (a .entry)) q (now (e .entry))) × (r ≤ suc (labelCount (now (a .entry)))) ⌝ }
+{
+    let mut k = word_at(a, HEADS_AT + 2 * h);
+    while k != 0 {
+        if follows_label(a, q, e, k - 1) {
+            return k + 1;
+        }
+        k = word_at(a, LINKS_AT + LINK_SIZE * (k - 1));
+    }
+    0
+}
+
+// The state of the failure move from state `q`, a label's.
+fn fail_of(a: &[u8], q: usize) -> usize
+    requires { ⌜ q ≤ 65536 ⌝ }
+    ensures { λ r. ⌜ r ≡ failOf (now (a .entry)) q ⌝ }
+{
+    if q < 2 {
+        0
+    } else {
+        word_at(a, LINKS_AT + LINK_SIZE * (q - 2) + 4)
+    }
+}
+
+// The walk of an open of `e` from state `q` (paper 01: the walk with its fall-backs).
+pub fn walk_from(a: &[u8], q: usize, e: &[u8], h: usize) -> Walk
+    requires { ⌜ Walkable (now a) × ((q ≤ suc (labelCount (now a))) × (h ≡ hash (now e))) ⌝ }
+    ensures { λ r. ⌜ (r ≡ walkOver (now (a .entry)) q (now (e .entry))) × ((r .state ≤ suc (labelCount (now (a .entry)))) × (r .moves ≤ sizeOf (now (a .entry)) q)) ⌝ }
+{
+    let to = goto_state(a, q, e, h);
+    if to != 0 {
+        return Walk {
+            moves: 0,
+            state: to,
+        };
+    }
+    if q == 0 {
+        return Walk { moves: 0, state: 0 };
+    }
+    let rest = walk_from(a, fail_of(a, q), e, h);
+    Walk {
+        moves: rest.moves + 1,
+        state: rest.state,
+    }
 }

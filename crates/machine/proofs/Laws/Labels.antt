@@ -206,3 +206,28 @@ begins-document set = (
     there b (infront f) = rooted-front (b .path) f
     there b (none h) = absurd (cons≢nil h)
     there b (atlabel m) = absurd (label-named (b .path) (before (b .path)) m)
+
+-- what begins a keyword is empty, `#`, or the run that ends at some label
+pub data Kind (set : FolderSet) (u : Word) : Type 0 where
+  empty : u ≡ [] → Kind set u
+  root : u ≡ document ∷ [] → Kind set u
+  labelled : LabelWord set u → Kind set u
+
+front-root : (set : FolderSet) (u : Word) → Front u (document ∷ []) → Kind set u
+front-root set [] f = empty refl
+front-root set (s ∷ []) f = root (ap (λ (x : Symbol). x ∷ []) (head-eq-of-cons-eq (f .joined)))
+front-root set (s ∷ t ∷ u) f = absurd (cons≢nil (tail-eq-of-cons-eq (f .joined)))
+
+front-before : (set : FolderSet) (p : Path) (u : Word) → Front u (before p) → Kind set u
+front-before set [] u f = empty (front-empty u f)
+front-before set (step child t ∷ p) u f = front-root set u f
+front-before set (step descendant t ∷ p) u f = empty (front-empty u f)
+
+pub begins-kind : (set : FolderSet) (u : Word) → Begins set u → Kind set u
+unfolding keywords
+begins-kind set u b = go (fronts (b .path) (before (b .path)) u (b .keyword) (b .ofPath) (record { rest = b .rest; joined = b .joined }))
+  where
+    go : Found u (before (b .path)) (b .path) → Kind set u
+    go (infront f) = front-before set (b .path) u f
+    go (none h) = empty h
+    go (atlabel m) = labelled (record { path = b .path; ofSet = b .ofSet; atLabel = m })

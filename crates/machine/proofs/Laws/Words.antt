@@ -10,19 +10,19 @@ use Rattle.notation.proofs.Laws.Fit.{sameName-is}
 use Rattle.machine.specs.Words.{Symbol, document, name, Word, keywords, Begins, sameSymbol, startsWith, any, begins}
 use Rattle.machine.proofs.Laws.Basics.{both, both-true, any-is, is-any, clash}
 
-same-name : (a b : Name) → sameName a b ≡ true → a ≡ b
+pub same-name : (a b : Name) → sameName a b ≡ true → a ≡ b
 same-name a b = sameName-is a b .0
 
-name-same : (a : Name) → sameName a a ≡ true
+pub name-same : (a : Name) → sameName a a ≡ true
 name-same a = sameName-is a a .1 refl
 
-same-symbol : (s t : Symbol) → sameSymbol s t ≡ true → s ≡ t
+pub same-symbol : (s t : Symbol) → sameSymbol s t ≡ true → s ≡ t
 same-symbol document document h = refl
 same-symbol document (name b) h = clash h refl
 same-symbol (name a) document h = clash h refl
 same-symbol (name a) (name b) h = ap name (same-name a b h)
 
-symbol-same : (s : Symbol) → sameSymbol s s ≡ true
+pub symbol-same : (s : Symbol) → sameSymbol s s ≡ true
 symbol-same document = refl
 symbol-same (name a) = name-same a
 

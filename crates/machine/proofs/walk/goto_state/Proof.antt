@@ -1,0 +1,148 @@
+-- `walk::goto_state`: the search from the head is the search from the place that the loop has come to.
+use Rattle.machine.proofs.Laws.Fuel.{hash-below, goto-none, goto-turn, goto-state}
+use Rattle.machine.specs.Walkable.{Searchable}
+use Rattle.machine.specs.Tables.{headAt, nextAt, follows, gotoFrom, goto}
+use Rattle.machine.specs.Automaton.{hashes, hash, headsAt, linksAt, linkSize}
+use Rattle.notation.specs.Reads.{labelCount}
+use Rattle.notation.specs.Limits.{maxLabels}
+use Rattle.notation.specs.Names.{Name}
+use native.Mathlib.Omega.{arith}
+use mathlib.Core.List.{List}
+use mathlib.Core.Bool.{true, false}
+use mathlib.Core.Path.{_≡_, refl, sym, _∙_, ap}
+use Prim.Native.Nat.{ℕ, zero, suc, _+_, _-_, _≤_, _<_}
+use borrow.Author.Needs.{needs}
+use Rattle.machine.proofs.walk.goto_state.Statement.{statement}
+use Rattle.machine.proofs.walk.goto_state.Tie as tie
+
+-- how far a chain can still go
+unfoldable left : ℕ → ℕ → ℕ
+left n zero = 0
+left n (suc l) = n - l
+
+rises : (n k m : ℕ) → (k ≡ 0 → ⊥) → k ≤ n → m ≤ n → ((j : ℕ) → m ≡ suc j → k - 1 < j) → left n m < left n k
+unfolding left
+rises n zero m z h i f = absurd (z refl)
+rises n (suc l) zero z h i f = omega arith
+rises n (suc l) (suc j) z h i f = omega (arith, f j refl)
+
+low : (k n : ℕ) → (k ≡ 0 → ⊥) → k ≤ n → k - 1 < n
+low zero n z h = absurd (z refl)
+low (suc l) n z h = omega arith
+
+found : (a : List ℕ) (q : ℕ) (e : Name) (k : ℕ) → Searchable a → (k ≡ 0 → ⊥) → k ≤ labelCount a → true ≡ follows a q e (k - 1) → suc k ≡ gotoFrom maxLabels a q e k
+found a q e zero c z h t = absurd (z refl)
+found a q e (suc l) c z h t =
+    let s : suc l - 1 ≡ l = omega arith in
+    let u : true ≡ follows a q e l = rw s at t in
+    sym (goto-turn a c q e l h ∙ rw (sym u))
+
+further : (a : List ℕ) (q : ℕ) (e : Name) (k : ℕ) → Searchable a → (k ≡ 0 → ⊥) → k ≤ labelCount a → false ≡ follows a q e (k - 1) → gotoFrom maxLabels a q e k ≡ gotoFrom maxLabels a q e (nextAt a (k - 1))
+further a q e zero c z h t = absurd (z refl)
+further a q e (suc l) c z h t =
+    let s : suc l - 1 ≡ l = omega arith in
+    let u : false ≡ follows a q e l = rw s at t in
+    rw s (goto-turn a c q e l h ∙ rw (sym u))
+
+abbrev Inv-loop : tie.InvT-loop
+Inv-loop a q e h k₀ k = (k ≤ labelCount a) × (goto a q e ≡ gotoFrom maxLabels a q e k)
+
+abbrev μ-loop : tie.MeasureT-loop
+μ-loop a q e h k₀ k = left (labelCount a) k
+
+mul-word-at : tie.Need-mul-word-at Inv-loop μ-loop
+unfolding hashes
+mul-word-at c = omega (arith, hash-below (c .before .before .args .e .now), c .before .before .pre .1)
+
+add-word-at : tie.Need-add-word-at Inv-loop μ-loop
+unfolding hashes
+add-word-at c = omega (arith, hash-below (c .before .before .args .e .now), c .before .before .pre .1)
+
+word-at-requires : tie.Need-word-at-requires Inv-loop μ-loop
+word-at-requires c κs = search needs
+
+loop-holds : tie.Need-loop-holds Inv-loop μ-loop
+unfolding goto headsAt
+loop-holds c = let a = c .before .before .before .args .a .now in let q = c .before .before .before .args .q in let e = c .before .before .before .args .e .now in let ch : Searchable a = c .before .before .before .pre .0 in
+    let hh : c .before .before .before .args .h ≡ hash e = c .before .before .before .pre .1 in
+    let r : c .word-at .result ≡ headAt a (hash e) = rw hh at (c .word-at .ensures .0) in
+    (rw r (ch .head (hash e) (hash-below e)), sym (ap (gotoFrom maxLabels a q e) r))
+
+sub-follows-label : tie.Need-sub-follows-label Inv-loop μ-loop
+sub-follows-label c = omega arith
+
+follows-label-requires : tie.Need-follows-label-requires Inv-loop μ-loop
+unfolding maxLabels
+follows-label-requires c κs = omega arith
+
+add-result : tie.Need-add-result Inv-loop μ-loop
+unfolding maxLabels
+add-result c = omega (arith, c .before .before .before .before .before .before .before .pre .0 .few)
+
+returns : tie.Need-returns Inv-loop μ-loop
+returns c = let a = c .before .before .before .before .before .before .before .args .a .now in let q = c .before .before .before .before .before .before .before .args .q in let e = c .before .before .before .before .before .before .before .args .e .now in let ch : Searchable a = c .before .before .before .before .before .before .before .pre .0 in
+    let k = c .before .before .before .loop .k in
+    let t : true ≡ follows a q e (k - 1) = sym (c .if1 .taken) ∙ c .before .follows-label .ensures in
+    let n : k + 1 ≡ suc k = omega arith in
+    (n ∙ (found a q e k ch (c .before .before .loop-test .taken) (c .before .before .before .loop .inv .0) t ∙ sym (c .before .before .before .loop .inv .1)), omega (arith, c .before .before .before .loop .inv .0))
+
+sub-word-at : tie.Need-sub-word-at Inv-loop μ-loop
+sub-word-at c = omega arith
+
+mul-word-at-2 : tie.Need-mul-word-at-2 Inv-loop μ-loop
+unfolding maxLabels
+mul-word-at-2 c = omega arith
+
+add-word-at-2 : tie.Need-add-word-at-2 Inv-loop μ-loop
+unfolding maxLabels
+add-word-at-2 c = omega arith
+
+word-at-requires-2 : tie.Need-word-at-requires-2 Inv-loop μ-loop
+word-at-requires-2 c κs = search needs
+
+loop-less : tie.Need-loop-less Inv-loop μ-loop
+unfolding linksAt linkSize
+loop-less c = let a = c .before .before .before .before .before .before .before .before .args .a .now in let q = c .before .before .before .before .before .before .before .before .args .q in let e = c .before .before .before .before .before .before .before .before .args .e .now in let ch : Searchable a = c .before .before .before .before .before .before .before .before .pre .0 in
+    let k = c .before .before .before .before .loop .k in
+    let z = c .before .before .before .loop-test .taken in
+    let i : k ≤ labelCount a = c .before .before .before .before .loop .inv .0 in
+    let l : k - 1 < labelCount a = low k (labelCount a) z i in
+    let r : c .word-at2 .result ≡ nextAt a (k - 1) = c .word-at2 .ensures .0 in
+    rises (labelCount a) k (c .word-at2 .result) z i (rw r (ch .next (k - 1) l)) (λ j p. ch .later (k - 1) j l (sym r ∙ p))
+
+loop-again : tie.Need-loop-again Inv-loop μ-loop
+unfolding linksAt linkSize
+loop-again c = let a = c .before .before .before .before .before .before .before .before .args .a .now in let q = c .before .before .before .before .before .before .before .before .args .q in let e = c .before .before .before .before .before .before .before .before .args .e .now in let ch : Searchable a = c .before .before .before .before .before .before .before .before .pre .0 in
+    let k = c .before .before .before .before .loop .k in
+    let z = c .before .before .before .loop-test .taken in
+    let i : k ≤ labelCount a = c .before .before .before .before .loop .inv .0 in
+    let l : k - 1 < labelCount a = low k (labelCount a) z i in
+    let r : c .word-at2 .result ≡ nextAt a (k - 1) = c .word-at2 .ensures .0 in
+    let t : false ≡ follows a q e (k - 1) = sym (c .before .if1 .left) ∙ c .before .before .follows-label .ensures in
+    (rw r (ch .next (k - 1) l), c .before .before .before .before .loop .inv .1 ∙ (further a q e k ch z i t ∙ sym (ap (gotoFrom maxLabels a q e) r)))
+
+returns-2 : tie.Need-returns-2 Inv-loop μ-loop
+returns-2 c = let a = c .before .before .before .before .before .args .a .now in let q = c .before .before .before .before .before .args .q in let e = c .before .before .before .before .before .args .e .now in let ch : Searchable a = c .before .before .before .before .before .pre .0 in
+    (sym (c .before .loop .inv .1 ∙ (ap (gotoFrom maxLabels a q e) (c .loop-test .left) ∙ goto-none maxLabels a q e)), omega arith)
+
+pub goto-state-spec : {M : Type 1} → statement M
+goto-state-spec =
+    tie.close
+    (tie.spec
+    Inv-loop
+    μ-loop
+    mul-word-at
+    add-word-at
+    word-at-requires
+    loop-holds
+    sub-follows-label
+    follows-label-requires
+    add-result
+    returns
+    sub-word-at
+    mul-word-at-2
+    add-word-at-2
+    word-at-requires-2
+    loop-less
+    loop-again
+    returns-2)
