@@ -2,4 +2,5 @@
 pub mod asking;
 pub mod close;
 pub mod layout;
+pub mod row;
 pub mod shape;

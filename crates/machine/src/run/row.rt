@@ -1,0 +1,43 @@
+// The row of a depth, as a part of the run that is lent to the function that writes it.
+use crate::run::layout::ACTIVE_IN;
+use crate::run::layout::SEEN_IN;
+use notation::reads;
+ghost use mathlib.Core.Path.{_≡_};
+ghost use Prim.Native.Nat.{_+_, _*_, _≤_};
+ghost use lib.ListN.{length, replicate};
+ghost use lib.Seq.{sets};
+ghost use Rattle.notation.specs.Limits.{maxPaths, maxSteps};
+ghost use Rattle.notation.specs.Reads.{stepCount};
+ghost use Rattle.machine.specs.Automaton.{maskSize};
+ghost use Rattle.machine.specs.Run.{rowSize};
+ghost use Rattle.machine.specs.RunCalls.{usedBytes, rowCleared};
+
+// Bytes of a row of bits that the automaton's steps use.
+pub fn used_bytes(a: &[u8]) -> usize
+    ensures { λ r. ⌜ r ≡ usedBytes (now (a .entry)) ⌝ }
+{
+    (reads::steps(a) + 7) / 8
+}
+
+// Zeros from `at` on.
+fn clear_from(row: &mut [u8], at: usize, n: usize)
+    requires { ⌜ at + n ≤ length (now row) ⌝ }
+    ensures { λ _. ⌜ now (row .exit) ≡ sets (now (row .entry)) at (replicate n 0) ⌝ }
+{
+    let mut i = 0;
+    while i < n {
+        row[at + i] = 0;
+        i += 1;
+    }
+}
+
+// Zeros in the used part of a row.
+pub fn clear_row(a: &[u8], row: &mut [u8])
+    requires { ⌜ (stepCount (now a) ≤ maxPaths * maxSteps) × (rowSize ≤ length (now row)) ⌝ }
+    ensures { λ _. ⌜ now (row .exit) ≡ rowCleared (now (a .entry)) (now (row .entry)) ⌝ }
+{
+    let used = used_bytes(a);
+    clear_from(row, 0, ACTIVE_IN);
+    clear_from(row, ACTIVE_IN, used);
+    clear_from(row, SEEN_IN, used);
+}
