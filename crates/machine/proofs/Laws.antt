@@ -4,9 +4,11 @@ pub mod Prefix
 pub mod Walk
 pub mod Labels
 pub mod Bits
-pub mod Find
+pub mod Finding
 pub mod States
 pub mod Goto
+pub mod Linked
+pub mod Walked
 pub mod Order
 pub mod Calls
 pub mod Steps
@@ -27,3 +29,6 @@ pub mod RunShape
 pub mod Fuel
 pub mod Stores
 pub mod Assembled
+pub mod Tabulate
+pub mod SetReads
+pub mod Chains

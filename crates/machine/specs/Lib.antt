@@ -11,6 +11,7 @@ pub mod Examples
 pub mod Automaton
 pub mod Tables
 pub mod Shape
+pub mod Chains
 pub mod Walkable
 pub mod Bits
 pub mod Chain

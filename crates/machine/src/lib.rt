@@ -1,4 +1,5 @@
 // The shared machine of a folder set: its automaton, its run and the calls on them.
+pub mod build;
 pub mod answers;
 pub mod bits;
 pub mod counters;

@@ -23,7 +23,7 @@ use Rattle.machine.specs.Automaton.{hashes, hashFrom, hash, find, allLab
 use Rattle.machine.specs.Tables.{headAt, nextAt, parentAt, follows, gotoFrom, goto}
 use Rattle.machine.proofs.Laws.Basics.{cases, clash, both, both-true}
 use Rattle.machine.proofs.Laws.Words.{same-name, name-same}
-use Rattle.machine.proofs.Laws.Find.{find-here, find-later, find-empty}
+use Rattle.machine.proofs.Laws.Finding.{find-here, find-later, find-empty}
 use Rattle.machine.proofs.Laws.States.{same-word, word-same, shortened-followed, followed-last, words-count, word-ends, label-parent, state-followed, state-one}
 
 hash-from-small : (h : ℕ) (n : Name) → h < 256 → hashFrom h n < 256
@@ -52,7 +52,7 @@ pub record Linked (s : FolderSet) (a : List ℕ) : Type 0 where
   pub parent : (l : ℕ) → l < length (allLabels s) → ParentAt s a l
 
 -- the next label of a label's hash
-next-at : (k : ℕ) (names : List Name) (l : ℕ) → l < length names → getD (nexts k names) l 0 ≡ find (hasHash (hash (getD names l []))) (suc (suc (k + l))) (drop (suc l) names)
+pub next-at : (k : ℕ) (names : List Name) (l : ℕ) → l < length names → getD (nexts k names) l 0 ≡ find (hasHash (hash (getD names l []))) (suc (suc (k + l))) (drop (suc l) names)
 unfolding nexts
 next-at k [] l h = absurd (omega arith)
 next-at k (n ∷ names) zero h = ap (λ (j : ℕ). find (hasHash (hash n)) (suc (suc j)) names) (sym (add-zero k))

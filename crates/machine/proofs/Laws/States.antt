@@ -17,7 +17,7 @@ use Rattle.machine.specs.Automaton.{find, allSteps, allLabels, wordsIn, 
 use Rattle.machine.proofs.Laws.Basics.{both, both-true, cases, clash}
 use Rattle.machine.proofs.Laws.Words.{same-symbol, symbol-same, begins-is, is-begins, begins-shorter}
 use Rattle.machine.proofs.Laws.Labels.{LabelWord, begins-label, Kind, empty, root, labelled, begins-kind}
-use Rattle.machine.proofs.Laws.Find.{find-none, FoundAt, find-some}
+use Rattle.machine.proofs.Laws.Finding.{find-none, FoundAt, find-some}
 
 pub same-word : (u v : Word) → sameWord u v ≡ true → u ≡ v
 unfolding sameWord
@@ -168,11 +168,11 @@ label-state s u l =
     found : (u v : Word) (n : Name) → u ≡ followedBy v n → stateOf s u ≡ find (sameWord u) 2 (allWords s)
     found u v n e = rw e (state-followed (allWords s) v n)
 
-state-empty : (s : FolderSet) (u : Word) → u ≡ [] → stateOf s u ≡ 0
+pub state-empty : (s : FolderSet) (u : Word) → u ≡ [] → stateOf s u ≡ 0
 unfolding stateIn
 state-empty s u e = rw e
 
-state-root : (s : FolderSet) (u : Word) → u ≡ document ∷ [] → stateOf s u ≡ 1
+pub state-root : (s : FolderSet) (u : Word) → u ≡ document ∷ [] → stateOf s u ≡ 1
 unfolding stateIn
 state-root s u e = rw e
 

@@ -26,6 +26,29 @@ module _ {A : Type 0} (test : A → Bool) where
   find-none k [] h = find-empty k
   find-none k (a ∷ l) h = find-later k a l (h a (List·Memᴰ·head refl)) ∙ find-none (suc k) l (λ x m. h x (List·Memᴰ·tail m))
 
+-- what is found is 0 or one of the places
+pub data Ranged (k n p : ℕ) : Type 0 where
+  nowhere : p ≡ 0 → Ranged k n p
+  somewhere : k ≤ p → p < k + n → Ranged k n p
+
+pub find-range : {A : Type 0} (test : A → Bool) (k : ℕ) (l : List A) → Ranged k (length l) (find test k l)
+find-range test k [] = nowhere (find-empty test k)
+find-range test k (a ∷ l) = cases (test a) here (later (find-range test (suc k) l))
+  where
+    here : test a ≡ true → Ranged k (length (a ∷ l)) (find test k (a ∷ l))
+    here h = rw (find-here test k a l h) (somewhere (omega arith) (omega arith))
+
+    wider : Ranged (suc k) (length l) (find test (suc k) l) → Ranged k (length (a ∷ l)) (find test (suc k) l)
+    wider (nowhere e) = nowhere e
+    wider (somewhere p q) = somewhere (omega arith) (omega arith)
+
+    later : Ranged (suc k) (length l) (find test (suc k) l) → test a ≡ false → Ranged k (length (a ∷ l)) (find test k (a ∷ l))
+    later r h = rw (find-later test k a l h) (wider r)
+
+pub range-below : (k n p : ℕ) → Ranged k n p → p ≤ k + n
+range-below k n p (nowhere e) = omega arith
+range-below k n p (somewhere a b) = omega arith
+
 -- the element of a place passes, and p is that place counted from k
 pub record FoundAt {A : Type 0} (test : A → Bool) (d : A) (l : List A) (k p : ℕ) : Type 0 where
   pub index : ℕ

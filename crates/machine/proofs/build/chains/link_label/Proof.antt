@@ -1,0 +1,96 @@
+-- `build::chains::link_label`: the two stores are those of `linked`.
+use Prim.Native.Nat.{ℕ, _+_, _*_}
+use mathlib.Core.Path.{_≡_, _∙_, ap}
+use mathlib.Core.List.{List}
+use native.Mathlib.Omega.{arith}
+use Rattle.notation.specs.Layout.{le16}
+use Rattle.notation.specs.Reads.{labelName}
+use Rattle.machine.specs.Tables.{headAt}
+use Rattle.machine.specs.Chains.{linked}
+use lib.Seq.{sets}
+use Rattle.notation.specs.Limits.{maxLabels}
+use Rattle.machine.specs.Automaton.{automatonSize, headsAt, linksAt, linkSize, hash}
+use borrow.Author.Needs.{needs}
+use Rattle.machine.proofs.build.chains.link_label.Statement.{statement}
+use Rattle.machine.proofs.build.chains.link_label.Tie as tie
+
+done : (a b : List ℕ) {d : List ℕ} (l h head : ℕ) → h ≡ hash (labelName a l) → head ≡ headAt a h → b ≡ sets a (linksAt + linkSize * l) (le16 head)
+    → d ≡ sets b (headsAt + 2 * h) (le16 (l + 1)) → d ≡ linked l a
+done a b l h head e f g k = rw (← e, ← f, ← g) k
+
+label-name-requires : tie.Need-label-name-requires
+label-name-requires c κs = search needs
+
+hash-of-requires : tie.Need-hash-of-requires
+hash-of-requires c κs = search needs
+
+mul-word-at : tie.Need-mul-word-at
+mul-word-at c = search needs
+
+add-word-at : tie.Need-add-word-at
+add-word-at c = search needs
+
+word-at-requires : tie.Need-word-at-requires
+word-at-requires c κs = search needs
+
+mul-put16 : tie.Need-mul-put16
+unfolding maxLabels
+mul-put16 c = omega arith
+
+add-put16 : tie.Need-add-put16
+unfolding maxLabels
+add-put16 c = omega arith
+
+put16-requires : tie.Need-put16-requires
+unfolding maxLabels automatonSize
+put16-requires c κs = omega arith
+
+mul-put16-2 : tie.Need-mul-put16-2
+mul-put16-2 c = search needs
+
+add-put16-2 : tie.Need-add-put16-2
+add-put16-2 c = search needs
+
+add-put16-3 : tie.Need-add-put16-3
+unfolding maxLabels
+add-put16-3 c = omega arith
+
+put16-requires-2 : tie.Need-put16-requires-2
+unfolding maxLabels automatonSize
+put16-requires-2 c κs = omega arith
+
+same-length : tie.Need-same-length
+same-length c = search needs
+
+returns : tie.Need-returns
+unfolding headsAt linksAt linkSize
+returns c =
+    done
+    (c .before .before .before .before .before .before .before .before .before .before .before .before .before .before .args .part .now)
+    (c .before .before .before .before .before .before .put16 .last .0)
+    (c .before .before .before .before .before .before .before .before .before .before .before .before .before .before .args .l)
+    (c .before .before .before .before .before .before .before .before .before .before .hash-of .result)
+    (c .before .before .before .before .before .before .before .before .word-at .result)
+    (c .before .before .before .before .before .before .before .before .before .before .hash-of .ensures .0 ∙ ap hash (c .before .before .before .before .before .before .before .before .before .before .before .label-name .ensures))
+    (c .before .before .before .before .before .before .before .before .word-at .ensures .0)
+    (c .before .before .before .before .before .before .put16 .ensures)
+    (c .before .before .put162 .ensures)
+
+pub link-label-spec : {M : Type 1} → statement M
+link-label-spec =
+    tie.close
+    (tie.spec
+    label-name-requires
+    hash-of-requires
+    mul-word-at
+    add-word-at
+    word-at-requires
+    mul-put16
+    add-put16
+    put16-requires
+    mul-put16-2
+    add-put16-2
+    add-put16-3
+    put16-requires-2
+    same-length
+    returns)

@@ -1,0 +1,2 @@
+// Building an automaton behind a read set: a pass for each of its tables.
+pub mod chains;
