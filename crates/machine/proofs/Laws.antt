@@ -32,3 +32,4 @@ pub mod Assembled
 pub mod Tabulate
 pub mod SetReads
 pub mod Chains
+pub mod Rows

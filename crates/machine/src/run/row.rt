@@ -9,7 +9,7 @@ ghost use lib.Seq.{sets};
 ghost use Rattle.notation.specs.Limits.{maxPaths, maxSteps};
 ghost use Rattle.notation.specs.Reads.{stepCount};
 ghost use Rattle.machine.specs.Automaton.{maskSize};
-ghost use Rattle.machine.specs.Run.{rowSize};
+ghost use Rattle.machine.specs.Run.{activeIn, rowSize};
 ghost use Rattle.machine.specs.RunCalls.{usedBytes, rowCleared};
 
 // Bytes of a row of bits that the automaton's steps use.
@@ -31,13 +31,21 @@ fn clear_from(row: &mut [u8], at: usize, n: usize)
     }
 }
 
+// Zeros for the name and the state of a row.
+fn clear_head(row: &mut [u8])
+    requires { ⌜ rowSize ≤ length (now row) ⌝ }
+    ensures { λ _. ⌜ now (row .exit) ≡ sets (now (row .entry)) 0 (replicate activeIn 0) ⌝ }
+{
+    clear_from(row, 0, ACTIVE_IN);
+}
+
 // Zeros in the used part of a row.
 pub fn clear_row(a: &[u8], row: &mut [u8])
     requires { ⌜ (stepCount (now a) ≤ maxPaths * maxSteps) × (rowSize ≤ length (now row)) ⌝ }
     ensures { λ _. ⌜ now (row .exit) ≡ rowCleared (now (a .entry)) (now (row .entry)) ⌝ }
 {
     let used = used_bytes(a);
-    clear_from(row, 0, ACTIVE_IN);
+    clear_head(row);
     clear_from(row, ACTIVE_IN, used);
     clear_from(row, SEEN_IN, used);
 }

@@ -35,7 +35,7 @@ walk-from-goto-state-requires : (t : ℕ) → walk-from-lts.Need-goto-state-requ
   walk-from-below t,
   walk-from.Post,
 ) (walk-from-at t) walk-from.Post
-walk-from-goto-state-requires t c κs = (c .before .before .pre .1 .0 .chained, c .before .before .pre .1 .1 .1)
+walk-from-goto-state-requires t c κs = (c .before .before .pre .1 .0 .searchable, c .before .before .pre .1 .1 .1)
 
 walk-from-returns : (t : ℕ) → walk-from-lts.Need-returns (
   goto-state-reads.Asked,
@@ -84,7 +84,7 @@ walk-from-fail-of-requires : (t : ℕ) → walk-from-lts.Need-fail-of-requires (
 unfolding maxLabels
 walk-from-fail-of-requires t c κs = let a = c .before .before .before .before .before .args .a .now in
     let i : c .before .before .before .before .before .args .q ≤ suc (labelCount a) = c .before .before .before .before .before .pre .1 .1 .0 in
-    let n : labelCount a ≤ maxLabels = c .before .before .before .before .before .pre .1 .0 .chained .few in
+    let n : labelCount a ≤ maxLabels = c .before .before .before .before .before .pre .1 .0 .searchable .few in
     omega arith
 
 walk-from-walk-from-requires : (t : ℕ) → walk-from-lts.Need-walk-from-requires (

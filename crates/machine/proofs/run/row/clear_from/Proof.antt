@@ -7,8 +7,6 @@ use Prim.Native.Nat.{ℕ, _+_, _≤_, _<_, _-_}
 use native.Mathlib.Omega.{arith}
 use Rattle.machine.proofs.run.row.clear_from.Statement.{statement}
 use Rattle.machine.proofs.run.row.clear_from.Tie as tie
-use Rattle.machine.proofs.run.row.clear_from.Reads as reads
-use Rattle.machine.proofs.run.row.clear_from.Lts as lts
 
 abbrev Inv-loop : tie.InvT-loop
 Inv-loop row₀ at n i₀ row i = (i ≤ n) × (row ≡ paste row₀ at (replicate n 0) i) × (length row ≡ length row₀)
@@ -16,27 +14,21 @@ Inv-loop row₀ at n i₀ row i = (i ≤ n) × (row ≡ paste row₀ at (replica
 abbrev μ-loop : tie.MeasureT-loop
 μ-loop row₀ at n i₀ row i = n - i
 
--- src/run/row.rt:28:5
 loop-holds : tie.Need-loop-holds Inv-loop μ-loop
 loop-holds c = (omega arith, paste-zero (c .args .row .now) (c .args .at) (replicate (c .args .n) 0), refl)
 
--- src/run/row.rt:29:13
 add-row : tie.Need-add-row Inv-loop μ-loop
 add-row c = omega arith
 
--- src/run/row.rt:29:9
 slice-write-row : tie.Need-slice-write-row Inv-loop μ-loop
 slice-write-row c = omega arith
 
--- src/run/row.rt:30:9
 add-i : tie.Need-add-i Inv-loop μ-loop
 add-i c = omega arith
 
--- src/run/row.rt:28:5
 loop-less : tie.Need-loop-less Inv-loop μ-loop
 loop-less c = omega arith
 
--- src/run/row.rt:28:5
 loop-again : tie.Need-loop-again Inv-loop μ-loop
 loop-again c = let a = c .before .before .args in
     let l = c .before .loop in
@@ -51,11 +43,9 @@ loop-again c = let a = c .before .before .args in
       simp length-set (l .inv .2),
     )
 
--- src/run/row.rt:23:1
 same-length : tie.Need-same-length Inv-loop μ-loop
 same-length c = c .before .loop .inv .2
 
--- src/run/row.rt:23:1
 returns : tie.Need-returns Inv-loop μ-loop
 returns c = let a = c .before .before .args in
     let zeros : List ℕ = replicate (a .n) 0 in
