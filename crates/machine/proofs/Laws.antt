@@ -26,7 +26,9 @@ pub mod Examples
 pub mod ByteBits
 pub mod Below
 pub mod RunShape
+pub mod AllBelow
 pub mod Fuel
+pub mod Shaped
 pub mod Stores
 pub mod Assembled
 pub mod Tabulate

@@ -5,4 +5,8 @@ pub mod build;
 pub mod counters;
 pub mod layout;
 pub mod run;
+pub mod build;
+pub mod counters;
+pub mod layout;
+pub mod shape;
 pub mod walk;

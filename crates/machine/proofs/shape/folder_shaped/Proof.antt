@@ -1,0 +1,48 @@
+-- `shape::folder_shaped`: the numbers of a folder.
+use Rattle.notation.specs.Limits.{maxName, maxSetBytes, maxNumber, maxPaths, maxSteps, maxLabels}
+use Rattle.notation.specs.Layout.{folderSize, pathSize, labelSize, foldersAt, pathsAt, stepsAt, labelsAt}
+use borrow.Author.Needs.{needs}
+use Rattle.machine.proofs.shape.folder_shaped.Statement.{statement}
+use Rattle.machine.proofs.shape.folder_shaped.Tie as tie
+
+mul-at : tie.Need-mul-at
+mul-at c = search needs
+
+add-at : tie.Need-add-at
+add-at c = search needs
+
+word-at-requires : tie.Need-word-at-requires
+word-at-requires c κs = search needs
+
+between-requires : tie.Need-between-requires
+between-requires c κs = search needs
+
+add-word-at : tie.Need-add-word-at
+add-word-at c = search needs
+
+word-at-requires-2 : tie.Need-word-at-requires-2
+word-at-requires-2 c κs = search needs
+
+paths-requires : tie.Need-paths-requires
+paths-requires c κs = search needs
+
+both-requires : tie.Need-both-requires
+both-requires c κs = search needs
+
+returns : tie.Need-returns
+unfolding foldersAt folderSize maxNumber
+returns c = cc
+
+pub folder-shaped-spec : {M : Type 1} → statement M
+folder-shaped-spec =
+    tie.close
+    (tie.spec
+    mul-at
+    add-at
+    word-at-requires
+    between-requires
+    add-word-at
+    word-at-requires-2
+    paths-requires
+    both-requires
+    returns)

@@ -1,0 +1,101 @@
+-- `shape::link_shaped`: the links of a label.
+use native.Mathlib.Numerals.{add-one}
+use Rattle.notation.specs.Limits.{maxName, maxSetBytes, maxNumber, maxPaths, maxSteps, maxLabels}
+use Rattle.machine.specs.Automaton.{hashes, linkSize, headsAt, linksAt, startAt}
+use borrow.Author.Needs.{needs}
+use Rattle.machine.proofs.shape.link_shaped.Statement.{statement}
+use Rattle.machine.proofs.shape.link_shaped.Tie as tie
+
+mul-at : tie.Need-mul-at
+mul-at c = search needs
+
+add-at : tie.Need-add-at
+add-at c = search needs
+
+labels-requires : tie.Need-labels-requires
+labels-requires c κs = search needs
+
+word-at-requires : tie.Need-word-at-requires
+word-at-requires c κs = search needs
+
+add-word-at : tie.Need-add-word-at
+add-word-at c = search needs
+
+word-at-requires-2 : tie.Need-word-at-requires-2
+word-at-requires-2 c κs = search needs
+
+add-word-at-2 : tie.Need-add-word-at-2
+add-word-at-2 c = search needs
+
+word-at-requires-3 : tie.Need-word-at-requires-3
+word-at-requires-3 c κs = search needs
+
+add-both : tie.Need-add-both
+add-both c = search needs
+
+both-requires : tie.Need-both-requires
+both-requires c κs = search needs
+
+either-requires : tie.Need-either-requires
+either-requires c κs = search needs
+
+add-both-2 : tie.Need-add-both-2
+add-both-2 c = search needs
+
+size-of-requires : tie.Need-size-of-requires
+size-of-requires c κs = search needs
+
+both-requires-2 : tie.Need-both-requires-2
+both-requires-2 c κs = search needs
+
+add-word-at-3 : tie.Need-add-word-at-3
+add-word-at-3 c = search needs
+
+word-at-requires-4 : tie.Need-word-at-requires-4
+word-at-requires-4 c κs = search needs
+
+add-both-3 : tie.Need-add-both-3
+add-both-3 c = search needs
+
+add-both-4 : tie.Need-add-both-4
+add-both-4 c = search needs
+
+both-requires-3 : tie.Need-both-requires-3
+both-requires-3 c κs = search needs
+
+both-requires-4 : tie.Need-both-requires-4
+both-requires-4 c κs = search needs
+
+both-requires-5 : tie.Need-both-requires-5
+both-requires-5 c κs = search needs
+
+returns : tie.Need-returns
+unfolding linksAt linkSize maxSteps
+returns c = cc (add-one (c .before .before .before .before .before .before .before .before .before .before .before .before .before .args .l), add-one (c .before .before .before .before .before .before .before .before .before .before .before .labels .result))
+
+pub link-shaped-spec : {M : Type 1} → statement M
+link-shaped-spec =
+    tie.close
+    (tie.spec
+    mul-at
+    add-at
+    labels-requires
+    word-at-requires
+    add-word-at
+    word-at-requires-2
+    add-word-at-2
+    word-at-requires-3
+    add-both
+    both-requires
+    either-requires
+    add-both-2
+    size-of-requires
+    both-requires-2
+    add-word-at-3
+    word-at-requires-4
+    add-both-3
+    add-both-4
+    both-requires-3
+    both-requires-4
+    both-requires-5
+    returns)

@@ -1,0 +1,80 @@
+-- `shape::path_shaped`: the numbers of a path.
+use Rattle.notation.specs.Limits.{maxName, maxSetBytes, maxNumber, maxPaths, maxSteps, maxLabels}
+use Rattle.notation.specs.Layout.{folderSize, pathSize, labelSize, foldersAt, pathsAt, stepsAt, labelsAt}
+use borrow.Author.Needs.{needs}
+use Rattle.machine.proofs.shape.path_shaped.Statement.{statement}
+use Rattle.machine.proofs.shape.path_shaped.Tie as tie
+
+mul-at : tie.Need-mul-at
+mul-at c = search needs
+
+add-at : tie.Need-add-at
+add-at c = search needs
+
+add-word-at : tie.Need-add-word-at
+add-word-at c = search needs
+
+word-at-requires : tie.Need-word-at-requires
+word-at-requires c κs = search needs
+
+add-word-at-2 : tie.Need-add-word-at-2
+add-word-at-2 c = search needs
+
+word-at-requires-2 : tie.Need-word-at-requires-2
+word-at-requires-2 c κs = search needs
+
+add-word-at-3 : tie.Need-add-word-at-3
+add-word-at-3 c = search needs
+
+word-at-requires-3 : tie.Need-word-at-requires-3
+word-at-requires-3 c κs = search needs
+
+add-inside : tie.Need-add-inside
+add-inside c = search needs
+
+text-len-requires : tie.Need-text-len-requires
+text-len-requires c κs = search needs
+
+between-requires : tie.Need-between-requires
+between-requires c κs = search needs
+
+word-at-requires-4 : tie.Need-word-at-requires-4
+word-at-requires-4 c κs = search needs
+
+add-both : tie.Need-add-both
+add-both c = search needs
+
+steps-requires : tie.Need-steps-requires
+steps-requires c κs = search needs
+
+both-requires : tie.Need-both-requires
+both-requires c κs = search needs
+
+both-requires-2 : tie.Need-both-requires-2
+both-requires-2 c κs = search needs
+
+returns : tie.Need-returns
+unfolding pathsAt pathSize maxSteps
+returns c = cc
+
+pub path-shaped-spec : {M : Type 1} → statement M
+path-shaped-spec =
+    tie.close
+    (tie.spec
+    mul-at
+    add-at
+    add-word-at
+    word-at-requires
+    add-word-at-2
+    word-at-requires-2
+    add-word-at-3
+    word-at-requires-3
+    add-inside
+    text-len-requires
+    between-requires
+    word-at-requires-4
+    add-both
+    steps-requires
+    both-requires
+    both-requires-2
+    returns)

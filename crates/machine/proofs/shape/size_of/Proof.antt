@@ -1,0 +1,46 @@
+-- `shape::size_of`: the length of a label's word; the empty word has 0, `#` 1.
+use Rattle.machine.specs.Tables.{sizeAt, sizeOf}
+use Rattle.machine.specs.Automaton.{hashes, linkSize, headsAt, linksAt, startAt}
+use native.Mathlib.Omega.{arith}
+use mathlib.Core.List.{List}
+use mathlib.Core.Path.{_≡_, refl, sym, _∙_, ap}
+use Prim.Native.Nat.{ℕ, zero, suc, _-_, _≤_, _<_}
+use borrow.Author.Needs.{needs}
+use Rattle.machine.proofs.shape.size_of.Statement.{statement}
+use Rattle.machine.proofs.shape.size_of.Tie as tie
+
+small : (a : List ℕ) (q : ℕ) → q < 2 → q ≡ sizeOf a q
+unfolding sizeOf
+small a zero h = refl
+small a (suc zero) h = refl
+small a (suc (suc l)) h = absurd (omega arith)
+
+of-label : (a : List ℕ) (q : ℕ) → 2 ≤ q → sizeOf a q ≡ sizeAt a (q - 2)
+unfolding sizeOf
+of-label a zero h = absurd (omega arith)
+of-label a (suc zero) h = absurd (omega arith)
+of-label a (suc (suc l)) h = let s : suc (suc l) - 2 ≡ l = omega arith in rw s
+
+mul-word-at : tie.Need-mul-word-at
+mul-word-at c = search needs
+
+add-word-at : tie.Need-add-word-at
+add-word-at c = search needs
+
+add-word-at-2 : tie.Need-add-word-at-2
+add-word-at-2 c = search needs
+
+word-at-requires : tie.Need-word-at-requires
+word-at-requires c κs = search needs
+
+returns : tie.Need-returns
+unfolding sizeOf
+returns c = (small (c .before .before .args .a .now) (c .before .before .args .q) (c .if1 .taken), omega arith)
+
+returns-2 : tie.Need-returns-2
+unfolding linksAt linkSize
+returns-2 c = (c .word-at .ensures .0 ∙ sym (of-label (c .before .before .before .args .a .now) (c .before .before .before .args .q) (c .before .if1 .left)), c .word-at .ensures .1)
+
+pub size-of-spec : {M : Type 1} → statement M
+size-of-spec =
+    tie.close (tie.spec mul-word-at add-word-at add-word-at-2 word-at-requires returns returns-2)

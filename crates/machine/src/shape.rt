@@ -1,0 +1,245 @@
+// The shape test of an automaton: each stored number in its range (paper 01: the shape test). Any bytes are tested.
+ghost use mathlib.Core.Path.{_≡_};
+ghost use mathlib.Core.Bool.{_&&_, _||_};
+ghost use Prim.Native.Nat.{_≤_, _<_};
+ghost use Rattle.notation.specs.Names.{within};
+ghost use Rattle.notation.specs.Reads.{folderCount, pathCount, stepCount, labelCount};
+ghost use Rattle.machine.specs.Automaton.{hashes};
+ghost use Rattle.machine.specs.Tables.{sizeOf};
+ghost use Rattle.machine.specs.Shape.{allBelow, countsShaped, folderShaped, pathShaped, stepShaped, labelShaped, headShaped, linkShaped, automatonShaped};
+use crate::layout::HASHES;
+use crate::layout::HEADS_AT;
+use crate::layout::LINK_SIZE;
+use crate::layout::LINKS_AT;
+use crate::layout::START_AT;
+use notation::layout::FOLDER_SIZE;
+use notation::layout::FOLDERS_AT;
+use notation::layout::LABEL_SIZE;
+use notation::layout::LABELS_AT;
+use notation::layout::MAX_ALL_STEPS;
+use notation::layout::PATH_SIZE;
+use notation::layout::PATHS_AT;
+use notation::layout::STEPS_AT;
+use notation::limits::MAX_LABELS;
+use notation::limits::MAX_NAME;
+use notation::limits::MAX_PATHS;
+use notation::limits::MAX_SET_BYTES;
+use notation::limits::MAX_STEPS;
+use notation::reads::byte_at;
+use notation::reads::folders;
+use notation::reads::labels;
+use notation::reads::paths;
+use notation::reads::steps;
+use notation::reads::text_len;
+use notation::reads::word_at;
+
+// The highest folder number.
+const MAX_NUMBER: usize = 9999;
+
+fn both(a: bool, b: bool) -> bool
+    ensures { λ r. ⌜ r ≡ (a && b) ⌝ }
+{
+    if a { b } else { false }
+}
+
+fn either(a: bool, b: bool) -> bool
+    ensures { λ r. ⌜ r ≡ (a || b) ⌝ }
+{
+    if a { true } else { b }
+}
+
+fn between(low: usize, high: usize, x: usize) -> bool
+    ensures { λ r. ⌜ r ≡ within low high x ⌝ }
+{
+    both(low <= x, x <= high)
+}
+
+// The length of the word of state `q`.
+pub fn size_of(a: &[u8], q: usize) -> usize
+    requires { ⌜ q < 65536 ⌝ }
+    ensures { λ r. ⌜ (r ≡ sizeOf (now (a .entry)) q) × (r < 65536) ⌝ }
+{
+    if q < 2 {
+        q
+    } else {
+        word_at(a, LINKS_AT + LINK_SIZE * (q - 2) + 6)
+    }
+}
+
+fn counts_shaped(a: &[u8]) -> bool
+    ensures { λ r. ⌜ r ≡ countsShaped (now (a .entry)) ⌝ }
+{
+    let tables = both(
+        steps(a) <= MAX_ALL_STEPS,
+        both(labels(a) <= MAX_LABELS, word_at(a, START_AT) <= 1),
+    );
+    both(
+        text_len(a) <= MAX_SET_BYTES,
+        both(folders(a) <= MAX_PATHS, both(paths(a) <= MAX_PATHS, tables)),
+    )
+}
+
+fn folder_shaped(a: &[u8], i: usize) -> bool
+    requires { ⌜ i < 65536 ⌝ }
+    ensures { λ r. ⌜ r ≡ folderShaped (now (a .entry)) i ⌝ }
+{
+    let at = FOLDERS_AT + FOLDER_SIZE * i;
+    both(
+        between(1, MAX_NUMBER, word_at(a, at)),
+        word_at(a, at + 2) <= paths(a),
+    )
+}
+
+fn path_shaped(a: &[u8], i: usize) -> bool
+    requires { ⌜ i < 65536 ⌝ }
+    ensures { λ r. ⌜ r ≡ pathShaped (now (a .entry)) i ⌝ }
+{
+    let at = PATHS_AT + PATH_SIZE * i;
+    let count = word_at(a, at + 2);
+    let inside = word_at(a, at + 4) + word_at(a, at + 6) <= text_len(a);
+    both(
+        between(1, MAX_STEPS, count),
+        both(word_at(a, at) + count <= steps(a), inside),
+    )
+}
+
+fn step_shaped(a: &[u8], i: usize) -> bool
+    requires { ⌜ i < 65536 ⌝ }
+    ensures { λ r. ⌜ r ≡ stepShaped (now (a .entry)) i ⌝ }
+{
+    byte_at(a, STEPS_AT + i) < 4
+}
+
+fn label_shaped(a: &[u8], i: usize) -> bool
+    requires { ⌜ i < 65536 ⌝ }
+    ensures { λ r. ⌜ r ≡ labelShaped (now (a .entry)) i ⌝ }
+{
+    let at = LABELS_AT + LABEL_SIZE * i;
+    let size = word_at(a, at + 2);
+    let inside = word_at(a, at) + size <= text_len(a);
+    both(
+        inside,
+        both(size <= MAX_NAME, word_at(a, at + 4) < steps(a)),
+    )
+}
+
+fn head_shaped(a: &[u8], h: usize) -> bool
+    requires { ⌜ h < hashes ⌝ }
+    ensures { λ r. ⌜ r ≡ headShaped (now (a .entry)) h ⌝ }
+{
+    word_at(a, HEADS_AT + 2 * h) <= labels(a)
+}
+
+fn link_shaped(a: &[u8], l: usize) -> bool
+    requires { ⌜ l < 65536 ⌝ }
+    ensures { λ r. ⌜ r ≡ linkShaped (now (a .entry)) l ⌝ }
+{
+    let at = LINKS_AT + LINK_SIZE * l;
+    let top = labels(a);
+    let next = word_at(a, at);
+    let fail = word_at(a, at + 4);
+    let size = word_at(a, at + 6);
+    let onward = either(next == 0, both(l + 1 < next, next <= top));
+    let short = both(size <= MAX_STEPS + 1, size_of(a, fail) < size);
+    both(
+        onward,
+        both(word_at(a, at + 2) <= top + 1, both(fail <= top + 1, short)),
+    )
+}
+
+fn folders_shaped(a: &[u8]) -> bool
+    ensures { λ r. ⌜ r ≡ allBelow (folderCount (now (a .entry))) (folderShaped (now (a .entry))) ⌝ }
+{
+    let n = folders(a);
+    let mut i = 0;
+    while i < n {
+        if !folder_shaped(a, i) {
+            return false;
+        }
+        i += 1;
+    }
+    true
+}
+
+fn paths_shaped(a: &[u8]) -> bool
+    ensures { λ r. ⌜ r ≡ allBelow (pathCount (now (a .entry))) (pathShaped (now (a .entry))) ⌝ }
+{
+    let n = paths(a);
+    let mut i = 0;
+    while i < n {
+        if !path_shaped(a, i) {
+            return false;
+        }
+        i += 1;
+    }
+    true
+}
+
+fn steps_shaped(a: &[u8]) -> bool
+    ensures { λ r. ⌜ r ≡ allBelow (stepCount (now (a .entry))) (stepShaped (now (a .entry))) ⌝ }
+{
+    let n = steps(a);
+    let mut i = 0;
+    while i < n {
+        if !step_shaped(a, i) {
+            return false;
+        }
+        i += 1;
+    }
+    true
+}
+
+fn labels_shaped(a: &[u8]) -> bool
+    ensures { λ r. ⌜ r ≡ allBelow (labelCount (now (a .entry))) (labelShaped (now (a .entry))) ⌝ }
+{
+    let n = labels(a);
+    let mut i = 0;
+    while i < n {
+        if !label_shaped(a, i) {
+            return false;
+        }
+        i += 1;
+    }
+    true
+}
+
+fn heads_shaped(a: &[u8]) -> bool
+    ensures { λ r. ⌜ r ≡ allBelow hashes (headShaped (now (a .entry))) ⌝ }
+{
+    let mut i = 0;
+    while i < HASHES {
+        if !head_shaped(a, i) {
+            return false;
+        }
+        i += 1;
+    }
+    true
+}
+
+fn links_shaped(a: &[u8]) -> bool
+    ensures { λ r. ⌜ r ≡ allBelow (labelCount (now (a .entry))) (linkShaped (now (a .entry))) ⌝ }
+{
+    let n = labels(a);
+    let mut i = 0;
+    while i < n {
+        if !link_shaped(a, i) {
+            return false;
+        }
+        i += 1;
+    }
+    true
+}
+
+// The shape test.
+pub fn automaton_shaped(a: &[u8]) -> bool
+    ensures { λ r. ⌜ r ≡ automatonShaped (now (a .entry)) ⌝ }
+{
+    let tables = both(labels_shaped(a), both(heads_shaped(a), links_shaped(a)));
+    both(
+        counts_shaped(a),
+        both(
+            folders_shaped(a),
+            both(paths_shaped(a), both(steps_shaped(a), tables)),
+        ),
+    )
+}
