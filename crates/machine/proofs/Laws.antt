@@ -35,3 +35,6 @@ pub mod Tabulate
 pub mod SetReads
 pub mod Chains
 pub mod Rows
+pub mod ChainTurns
+pub mod BitRows
+pub mod ByteSteps

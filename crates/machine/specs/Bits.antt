@@ -17,3 +17,7 @@ bitIn bytes base i = bitOf (getD bytes (base + i / 8) 0) (i % 8)
 abbrev pub bitBefore : ℕ → ℕ → ℕ → Bool
 bitBefore byte before zero = bitOf before 7
 bitBefore byte before (suc k) = bitOf byte k
+
+-- bit i of the bytes
+abbrev pub bitAt : List ℕ → ℕ → Bool
+bitAt bytes i = bitOf (getD bytes (i / 8) 0) (i % 8)

@@ -18,3 +18,4 @@ pub mod Chain
 pub mod Run
 pub mod RunCalls
 pub mod Asking
+pub mod Openable

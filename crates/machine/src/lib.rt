@@ -5,8 +5,5 @@ pub mod build;
 pub mod counters;
 pub mod layout;
 pub mod run;
-pub mod build;
-pub mod counters;
-pub mod layout;
 pub mod shape;
 pub mod walk;

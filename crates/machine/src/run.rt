@@ -1,6 +1,8 @@
 // The calls on a run (paper 01: the tray).
 pub mod asking;
+pub mod candidates;
 pub mod close;
 pub mod layout;
 pub mod row;
 pub mod shape;
+pub mod steps;
