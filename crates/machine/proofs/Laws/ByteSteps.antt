@@ -1,7 +1,7 @@
 -- Steps 8 j to 8 j + 7 are byte j of a row; a row that is filled byte by byte.
 use Prim.Native.Nat.{ℕ, zero, suc, _+_, _*_, _-_, _/_, _%_, _≤_, _<_}
 use mathlib.Core.Path.{_≡_, refl, sym, _∙_, ap}
-use mathlib.Core.Bool.{Bool, true, false}
+use mathlib.Core.Bool.{Bool, true, false, _&&_, _||_}
 use mathlib.Core.List.{List, [], _∷_, _++_}
 use native.Mathlib.Numerals.{add-one}
 use native.Mathlib.Omega.{arith}
@@ -54,3 +54,10 @@ pub row-more : (f : ℕ → Bool) (out : List ℕ) (j b : ℕ) → j < length ou
 unfolding tabulate
 row-more f out j b h s e t =
     rw (add-one j) (take-suc-set out j b h ∙ ap (λ (l : List ℕ). l ++ (b ∷ [])) t ∙ ap (λ (n : ℕ). tabulate (byteOf f) j ++ (n ∷ [])) (sym (packed-from b (λ k. f (8 * j + k)) s e)))
+
+-- a bit that is joined of two others
+pub join-and : (b x y x' y' : Bool) → b ≡ (x && y) → x ≡ x' → y ≡ y' → b ≡ (x' && y')
+join-and b x y x' y' p q r = rw (← q, ← r) p
+
+pub join-or : (b x y x' y' : Bool) → b ≡ (x || y) → x ≡ x' → y ≡ y' → b ≡ (x' || y')
+join-or b x y x' y' p q r = rw (← q, ← r) p

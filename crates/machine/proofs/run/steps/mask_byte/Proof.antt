@@ -1,3 +1,9 @@
+use native.Mathlib.Omega.{arith}
+use mathlib.Core.Path.{_∙_, ap}
+use Prim.Native.Nat.{ℕ, _+_, _*_}
+use Rattle.machine.specs.Automaton.{maskSize, masksAt}
+use Rattle.machine.specs.Bits.{bitOf}
+use Rattle.machine.proofs.Laws.ByteSteps.{byte-bit}
 use borrow.Author.Needs.{needs}
 use Rattle.machine.proofs.run.steps.mask_byte.Statement.{statement}
 use Rattle.machine.proofs.run.steps.mask_byte.Tie as tie
@@ -15,7 +21,8 @@ add-byte-at c = search needs
 
 -- src/run/steps.rt:32:23
 add-byte-at-2 : tie.Need-add-byte-at-2
-add-byte-at-2 c = ?
+unfolding maskSize
+add-byte-at-2 c = omega arith
 
 -- src/run/steps.rt:32:5
 byte-at-requires : tie.Need-byte-at-requires
@@ -23,7 +30,9 @@ byte-at-requires c κs = search needs
 
 -- src/run/steps.rt:28:1
 returns : tie.Need-returns
-returns c = ?
+unfolding maskSize masksAt
+returns c = let a = c .before .before .args in
+    (c .byte-at .ensures .1, λ k h. ap (λ (b : ℕ). bitOf b k) (c .byte-at .ensures .0) ∙ byte-bit (a .a .now) (masksAt + maskSize * a .m) (a .j) k h)
 
 pub mask-byte-spec : {M : Type 1} → statement M
 mask-byte-spec =

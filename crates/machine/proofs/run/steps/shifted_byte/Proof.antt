@@ -1,3 +1,9 @@
+use native.Mathlib.Omega.{arith}
+use mathlib.Core.Path.{_∙_, ap}
+use Prim.Native.Nat.{ℕ, _+_, _*_}
+use Rattle.machine.specs.Automaton.{maskSize}
+use Rattle.machine.specs.Bits.{bitBefore}
+use Rattle.machine.proofs.Laws.ByteSteps.{shifted-bit}
 use borrow.Author.Needs.{needs}
 use Rattle.machine.proofs.run.steps.shifted_byte.Statement.{statement}
 use Rattle.machine.proofs.run.steps.shifted_byte.Tie as tie
@@ -9,7 +15,8 @@ use Rattle.notation.proofs.reads.byte_at.Reads as byte-at-reads
 
 -- src/run/steps.rt:55:38
 add-byte-at : tie.Need-add-byte-at
-add-byte-at c = ?
+unfolding maskSize
+add-byte-at c = omega arith
 
 -- src/run/steps.rt:55:18
 byte-at-requires : tie.Need-byte-at-requires
@@ -25,7 +32,9 @@ one-on-requires c κs = search needs
 
 -- src/run/steps.rt:51:1
 returns : tie.Need-returns
-returns c = ?
+returns c = let a = c .before .before .before .before .args in
+    let b = c .before .byte-before in
+    (c .one-on .ensures .0, λ k h. c .one-on .ensures .1 k h ∙ ap (λ (n : ℕ). bitBefore n (b .result) k) (c .before .before .byte-at .ensures .0) ∙ shifted-bit (a .run .now) (a .base) (a .j) (b .result) k h (b .ensures .1))
 
 pub shifted-byte-spec : {M : Type 1} → statement M
 shifted-byte-spec =
