@@ -38,3 +38,4 @@ pub mod Rows
 pub mod ChainTurns
 pub mod BitRows
 pub mod ByteSteps
+pub mod Written

@@ -167,6 +167,15 @@ openRun a run e =
     matchesAt (usedBits a (nowMatched a run e)))
     0 (le16 (suc (depthOf run)))
 
+-- the same from the new row's parts (follows the code; a law ties them)
+unfoldable pub rowFrom : Name → ℕ → List ℕ → List ℕ → List ℕ → List ℕ
+rowFrom e state active seen row = sets (sets (sets row 0 (length e ∷ (padded maxName e ++ le16 state))) activeIn active) seenIn seen
+
+unfoldable pub storedOpen : List ℕ → ℕ → Name → ℕ → List ℕ → List ℕ → List ℕ → List ℕ
+storedOpen run d e state active seen matched =
+    let at = rowAt (suc d) in
+    sets (sets (take at run ++ (rowFrom e state active seen (take rowSize (drop at run)) ++ drop (at + rowSize) run)) matchesAt matched) 0 (le16 (suc d))
+
 unfoldable pub openCounters : List ℕ → List ℕ → Counters → Name → Counters
 openCounters a run c e = record { opens = c .opens + 1; closes = c .closes; moves = c .moves + openWalk a run e .moves }
 

@@ -3,6 +3,7 @@ pub mod asking;
 pub mod candidates;
 pub mod close;
 pub mod layout;
+pub mod open;
 pub mod row;
 pub mod shape;
 pub mod steps;

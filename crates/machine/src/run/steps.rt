@@ -44,7 +44,11 @@ fn byte_before(run: &[u8], base: usize, j: usize) -> usize
     requires { ⌜ (base ≤ 65536) × (j < maskSize) ⌝ }
     ensures { λ r. ⌜ (r < 256) × (bitOf r 7 ≡ shifted (bitIn (now (run .entry)) base) (8 * j)) ⌝ }
 {
-    if j == 0 { 0 } else { reads::byte_at(run, base + (j - 1)) }
+    if j == 0 {
+        0
+    } else {
+        reads::byte_at(run, base + (j - 1))
+    }
 }
 
 // Byte j of the bits from `base` on, each one step on.

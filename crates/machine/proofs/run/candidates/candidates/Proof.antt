@@ -1,12 +1,10 @@
-use lib.ListN.{take, drop, length-take}
-use Prim.Native.Nat.{_-_}
+use lib.ListN.{take, drop, length-take, length}
+use Prim.Native.Nat.{_-_, ℕ, _+_, _*_, _≤_, _<_}
 use native.Mathlib.Omega.{arith}
 use mathlib.Core.Path.{_≡_, refl, sym, _∙_, ap}
 use mathlib.Core.Bool.{Bool, _||_}
 use mathlib.Core.List.{List}
-use Prim.Native.Nat.{ℕ, _+_, _*_, _≤_, _<_}
 use lib.Dec.{eqb}
-use lib.ListN.{length}
 use borrow.Author.Needs.{needs}
 use Rattle.notation.specs.Limits.{maxPaths, maxSteps}
 use Rattle.notation.specs.Reads.{word16, labelEntryAt}
@@ -18,50 +16,36 @@ use Rattle.machine.specs.RunCalls.{candidate}
 use Rattle.machine.proofs.Laws.BitRows.{bit-copied}
 use Rattle.machine.proofs.run.candidates.candidates.Statement.{statement}
 use Rattle.machine.proofs.run.candidates.candidates.Tie as tie
-use Rattle.machine.proofs.run.candidates.candidates.Reads as reads
-use Rattle.machine.proofs.run.candidates.candidates.Lts as lts
-use Rattle.machine.proofs.run.candidates.mark_labels.Reads as mark-labels-reads
-use Rattle.machine.proofs.run.row.used_bytes.Reads as used-bytes-reads
-use Rattle.notation.proofs.put.copy.Reads as copy-reads
 
--- src/run/candidates.rt:62:22
 used-bytes-requires : tie.Need-used-bytes-requires
 used-bytes-requires c κs = search needs
 
--- src/run/candidates.rt:62:15
 add-end : tie.Need-add-end
 unfolding maxPaths maxSteps
 add-end c = omega (arith, c .before .before .before .before .pre .1 .0 .steps)
 
--- src/run/candidates.rt:63:23
 sub-copy : tie.Need-sub-copy
 sub-copy c = omega arith
 
--- src/run/candidates.rt:63:23
 part-copy-start : tie.Need-part-copy-start
 part-copy-start c = omega arith
 
--- src/run/candidates.rt:63:23
 part-copy-end : tie.Need-part-copy-end
 unfolding maxPaths maxSteps automatonSize
 part-copy-end c = omega (arith, c .before .before .before .before .before .pre .1 .0 .steps, c .before .before .before .before .before .pre .1 .0 .size)
 
--- src/run/candidates.rt:63:5
 copy-requires : tie.Need-copy-requires
 unfolding maxPaths maxSteps automatonSize maskSize
 copy-requires c κs = let b = c .before .before .before .before .before .before in
     omega (arith, length-take (34826 + c .before .before .used-bytes .result - 34826) (drop 34826 (b .args .a .now)), b .pre .0, b .pre .1 .0 .steps)
 
--- src/run/candidates.rt:64:5
 mark-labels-requires : tie.Need-mark-labels-requires
 mark-labels-requires c κs = let b = c .before .before .before .before .before .before .before .before .before .before in
     (omega (arith, c .before .before .before .copy .kept .0, b .pre .0), (b .pre .1 .0, b .pre .1 .1))
 
--- src/run/candidates.rt:57:1
 same-length : tie.Need-same-length
 same-length c = search needs
 
--- src/run/candidates.rt:57:1
 returns : tie.Need-returns
 unfolding candidate maxPaths maxSteps automatonSize maskSize masksAt
 returns c = let d = c .before .before .before .before .before .before .before .before .before in

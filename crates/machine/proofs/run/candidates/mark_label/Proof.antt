@@ -14,58 +14,42 @@ use Rattle.machine.proofs.Laws.BitRows.{any-one, or-none}
 use borrow.Author.Needs.{needs}
 use Rattle.machine.proofs.run.candidates.mark_label.Statement.{statement}
 use Rattle.machine.proofs.run.candidates.mark_label.Tie as tie
-use Rattle.machine.proofs.run.candidates.mark_label.Reads as reads
-use Rattle.machine.proofs.run.candidates.mark_label.Lts as lts
-use Rattle.machine.proofs.run.candidates.set_bit.Reads as set-bit-reads
-use Rattle.notation.proofs.names.same_name.Reads as same-name-reads
-use Rattle.notation.proofs.reads.label_name.Reads as label-name-reads
-use Rattle.notation.proofs.reads.word_at.Reads as word-at-reads
 
--- src/run/candidates.rt:39:25
 label-name-requires : tie.Need-label-name-requires
 label-name-requires c κs = search needs
 
--- src/run/candidates.rt:39:8
 same-name-requires : tie.Need-same-name-requires
 same-name-requires c κs = search needs
 
--- src/run/candidates.rt:40:52
 mul-word-at : tie.Need-mul-word-at
 unfolding maxLabels
 mul-word-at c = omega (arith, c .before .before .before .before .before .before .before .pre .1 .0 .walkable .searchable .few)
 
--- src/run/candidates.rt:40:40
 add-word-at : tie.Need-add-word-at
 unfolding maxLabels
 add-word-at c = omega (arith, c .before .before .before .before .before .before .before .pre .1 .0 .walkable .searchable .few)
 
--- src/run/candidates.rt:40:40
 add-word-at-2 : tie.Need-add-word-at-2
 unfolding maxLabels
 add-word-at-2 c = omega (arith, c .before .before .before .before .before .before .before .pre .1 .0 .walkable .searchable .few)
 
--- src/run/candidates.rt:40:22
 word-at-requires : tie.Need-word-at-requires
 word-at-requires c κs = search needs
 
--- src/run/candidates.rt:40:9
 set-bit-requires : tie.Need-set-bit-requires
 unfolding labelsAt labelSize maskSize maxPaths maxSteps
 set-bit-requires c κs = let a = c .before .before .before .before .before .before .before .before in
     omega (arith, a .pre .1 .0 .step (a .args .l) (a .pre .1 .1), a .pre .1 .0 .steps, c .word-at .ensures .0)
 
--- src/run/candidates.rt:35:1
 same-length : tie.Need-same-length
 same-length c = search needs
 
--- src/run/candidates.rt:35:1
 returns : tie.Need-returns
 unfolding labelsAt labelSize
 returns c = let a = c .before .before .before .before .before .before .before .before .before .before .before .args in
     let t : sameName (labelName (a .a .now) (a .l)) (a .e .now) ≡ true = ap (λ (n : List ℕ). sameName n (a .e .now)) (sym (c .before .before .before .before .before .before .before .label-name .ensures)) ∙ sym (c .before .before .before .before .before .before .same-name .ensures) ∙ c .before .before .before .before .before .if1 .taken in
     λ j. rw (t, any-one) (c .before .before .set-bit .ensures j ∙ ap (λ (n : ℕ). bitAt (a .out .now) j || eqb n j) (c .before .before .before .word-at .ensures .0))
 
--- src/run/candidates.rt:35:1
 returns-2 : tie.Need-returns-2
 returns-2 c = let a = c .before .before .before .before .before .before .args in
     let t : sameName (labelName (a .a .now) (a .l)) (a .e .now) ≡ false = ap (λ (n : List ℕ). sameName n (a .e .now)) (sym (c .before .before .label-name .ensures)) ∙ sym (c .before .same-name .ensures) ∙ c .if1 .left in

@@ -18,10 +18,6 @@ use Rattle.machine.proofs.Laws.BitRows.{or-none}
 use Rattle.machine.proofs.Laws.ChainTurns.{chain-none, left, low, rises, marked}
 use Rattle.machine.proofs.run.candidates.mark_labels.Statement.{statement}
 use Rattle.machine.proofs.run.candidates.mark_labels.Tie as tie
-use Rattle.machine.proofs.run.candidates.mark_labels.Reads as reads
-use Rattle.machine.proofs.run.candidates.mark_labels.Lts as lts
-use Rattle.machine.proofs.run.candidates.mark_label.Reads as mark-label-reads
-use Rattle.notation.proofs.reads.word_at.Reads as word-at-reads
 
 abbrev Inv-loop : tie.InvT-loop
 Inv-loop out₀ a e h k₀ out k = (k ≤ labelCount a) × ((length out ≡ length out₀) × ((j : ℕ) → (bitAt out j || any (λ m. eqb (word16 a (labelEntryAt m + 4)) j) (chainFrom maxLabels a e k)) ≡ (bitAt out₀ j || any (λ m. eqb (word16 a (labelEntryAt m + 4)) j) (chainLabels a e))))
@@ -29,21 +25,17 @@ Inv-loop out₀ a e h k₀ out k = (k ≤ labelCount a) × ((length out ≡ leng
 abbrev μ-loop : tie.MeasureT-loop
 μ-loop out₀ a e h k₀ out k = left (labelCount a) k
 
--- src/run/candidates.rt:49:46
 mul-word-at : tie.Need-mul-word-at Inv-loop μ-loop
 unfolding hashes
 mul-word-at c = omega (arith, hash-below (c .before .before .before .args .e .now), c .before .before .before .pre .1 .1)
 
--- src/run/candidates.rt:49:35
 add-word-at : tie.Need-add-word-at Inv-loop μ-loop
 unfolding hashes
 add-word-at c = omega (arith, hash-below (c .before .before .before .args .e .now), c .before .before .before .pre .1 .1)
 
--- src/run/candidates.rt:49:9
 word-at-requires : tie.Need-word-at-requires Inv-loop μ-loop
 word-at-requires c κs = search needs
 
--- src/run/candidates.rt:50:5
 loop-holds : tie.Need-loop-holds Inv-loop μ-loop
 unfolding chainLabels headsAt
 loop-holds c = let b = c .before .before .before .before in
@@ -53,35 +45,28 @@ loop-holds c = let b = c .before .before .before .before in
     let r : c .word-at .result ≡ headAt a (hash e) = rw hh at (c .word-at .ensures .0) in
     (rw r (b .pre .1 .0 .walkable .searchable .head (hash e) (hash-below e)), (refl, λ j. rw r))
 
--- src/run/candidates.rt:51:31
 sub-mark-label : tie.Need-sub-mark-label Inv-loop μ-loop
 sub-mark-label c = omega arith
 
--- src/run/candidates.rt:51:9
 mark-label-requires : tie.Need-mark-label-requires Inv-loop μ-loop
 mark-label-requires c κs = let b = c .before .before .before .before .before .before .before in
     let l = c .before .before .loop in
     (omega (arith, l .inv .1 .0, b .pre .0), (b .pre .1 .0, low (b .args .a .now) (b .pre .1 .0 .walkable .searchable) (l .k) (c .before .loop-test .taken) (l .inv .0)))
 
--- src/run/candidates.rt:52:55
 sub-word-at : tie.Need-sub-word-at Inv-loop μ-loop
 sub-word-at c = omega arith
 
--- src/run/candidates.rt:52:42
 mul-word-at-2 : tie.Need-mul-word-at-2 Inv-loop μ-loop
 unfolding maxLabels
 mul-word-at-2 c = omega (arith, c .before .before .before .before .before .before .before .before .before .before .pre .1 .0 .walkable .searchable .few)
 
--- src/run/candidates.rt:52:31
 add-word-at-2 : tie.Need-add-word-at-2 Inv-loop μ-loop
 unfolding maxLabels
 add-word-at-2 c = omega (arith, c .before .before .before .before .before .before .before .before .before .before .pre .1 .0 .walkable .searchable .few)
 
--- src/run/candidates.rt:52:9
 word-at-requires-2 : tie.Need-word-at-requires-2 Inv-loop μ-loop
 word-at-requires-2 c κs = search needs
 
--- src/run/candidates.rt:50:5
 loop-less : tie.Need-loop-less Inv-loop μ-loop
 unfolding linksAt linkSize
 loop-less c = let b = c .before .before .before .before .before .before .before .before .before .before .before in
@@ -89,7 +74,6 @@ loop-less c = let b = c .before .before .before .before .before .before .before 
     let r : c .word-at2 .result ≡ nextAt (b .args .a .now) (l .k - 1) = c .word-at2 .ensures .0 in
     rw r (rises (b .args .a .now) (b .pre .1 .0 .walkable .searchable) (l .k) (c .before .before .before .before .before .loop-test .taken) (l .inv .0))
 
--- src/run/candidates.rt:50:5
 loop-again : tie.Need-loop-again Inv-loop μ-loop
 unfolding linksAt linkSize
 loop-again c = let b = c .before .before .before .before .before .before .before .before .before .before .before in
@@ -102,11 +86,9 @@ loop-again c = let b = c .before .before .before .before .before .before .before
     let m = c .before .before .before .mark-label in
     (rw r (s .next (l .k - 1) (low a s (l .k) z (l .inv .0))), (m .kept .0 ∙ l .inv .1 .0, λ j. rw r (marked a s (l .k) z (l .inv .0) e (λ n. eqb (word16 a (labelEntryAt n + 4)) j) (bitAt (m .last .0) j) (bitAt (l .out) j) (m .ensures j) ∙ l .inv .1 .1 j)))
 
--- src/run/candidates.rt:45:1
 same-length : tie.Need-same-length Inv-loop μ-loop
 same-length c = c .before .loop .inv .1 .0
 
--- src/run/candidates.rt:45:1
 returns : tie.Need-returns Inv-loop μ-loop
 returns c = let b = c .before .before .before .before .before .before in
     let a = b .args .a .now in

@@ -10,12 +10,6 @@ use Rattle.machine.specs.RunCalls.{permitted, maskBit, seenAt, matchedAt
 use Rattle.machine.proofs.Laws.ByteSteps.{byte-at-bit, row-none, row-more, join-and, join-or}
 use Rattle.machine.proofs.run.steps.active_row.Statement.{statement}
 use Rattle.machine.proofs.run.steps.active_row.Tie as tie
-use Rattle.machine.proofs.run.steps.active_row.Reads as reads
-use Rattle.machine.proofs.run.steps.active_row.Lts as lts
-use Rattle.machine.proofs.bits.both.Reads as both-reads
-use Rattle.machine.proofs.run.steps.narrow.Reads as narrow-reads
-use Rattle.machine.proofs.run.steps.permitted_byte.Reads as permitted-byte-reads
-use Rattle.notation.proofs.reads.byte_at.Reads as byte-at-reads
 
 abbrev Inv-loop : tie.InvT-loop
 Inv-loop out₀ candidates a run d used j₀ out j = (j ≤ used) × ((length out ≡ length out₀) × (take j out ≡ tabulate (byteOf (λ i. bitAt candidates i && permitted a run d i)) j))
@@ -23,41 +17,32 @@ Inv-loop out₀ candidates a run d used j₀ out j = (j ≤ used) × ((length ou
 abbrev μ-loop : tie.MeasureT-loop
 μ-loop out₀ candidates a run d used j₀ out j = used - j
 
--- src/run/steps.rt:87:5
 loop-holds : tie.Need-loop-holds Inv-loop μ-loop
 loop-holds c = let a = c .before .before .before .before .args in
     (omega arith, (refl, row-none (λ i. bitAt (a .candidates .now) i && permitted (a .a .now) (a .run .now) (a .d) i) (a .out .now)))
 
--- src/run/steps.rt:88:36
 byte-at-requires : tie.Need-byte-at-requires Inv-loop μ-loop
 byte-at-requires c κs = search needs
 
--- src/run/steps.rt:88:67
 permitted-byte-requires : tie.Need-permitted-byte-requires Inv-loop μ-loop
 permitted-byte-requires c κs = let b = c .before .before .before .before .before .before .before in
     (b .pre .0, omega (arith, b .pre .1 .0))
 
--- src/run/steps.rt:88:25
 both-requires : tie.Need-both-requires Inv-loop μ-loop
 both-requires c κs = omega arith
 
--- src/run/steps.rt:88:18
 narrow-requires : tie.Need-narrow-requires Inv-loop μ-loop
 narrow-requires c κs = c .both .ensures .0
 
--- src/run/steps.rt:88:9
 slice-write-out : tie.Need-slice-write-out Inv-loop μ-loop
 slice-write-out c = omega (arith, c .before .before .before .before .before .before .before .before .before .before .pre .1 .1)
 
--- src/run/steps.rt:89:9
 add-j : tie.Need-add-j Inv-loop μ-loop
 add-j c = omega (arith, c .before .before .before .before .before .before .before .before .before .before .pre .1 .1)
 
--- src/run/steps.rt:87:5
 loop-less : tie.Need-loop-less Inv-loop μ-loop
 loop-less c = omega arith
 
--- src/run/steps.rt:87:5
 loop-again : tie.Need-loop-again Inv-loop μ-loop
 loop-again c = let b = c .before .before .before .before .before .before .before .before .before .before in
     let a = b .args in
@@ -71,11 +56,9 @@ loop-again c = let b = c .before .before .before .before .before .before .before
     let m : l .j < length (l .out) = omega (arith, l .inv .1 .0, b .pre .1 .1) in
     (omega arith, (length-set (l .out) (l .j) (c .narrow .result) ∙ l .inv .1 .0, row-more f (l .out) (l .j) (c .narrow .result) m s bits (l .inv .1 .1)))
 
--- src/run/steps.rt:82:1
 same-length : tie.Need-same-length Inv-loop μ-loop
 same-length c = c .before .loop .inv .1 .0
 
--- src/run/steps.rt:82:1
 returns : tie.Need-returns Inv-loop μ-loop
 returns c = let e : c .before .before .before .before .before .before .args .used ≡ c .before .loop .j = omega arith in
     rw e (c .before .loop .inv .1 .1)

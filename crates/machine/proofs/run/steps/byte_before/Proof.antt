@@ -7,29 +7,21 @@ use Rattle.machine.proofs.Laws.ByteSteps.{last-before-none, last-before
 use borrow.Author.Needs.{needs}
 use Rattle.machine.proofs.run.steps.byte_before.Statement.{statement}
 use Rattle.machine.proofs.run.steps.byte_before.Tie as tie
-use Rattle.machine.proofs.run.steps.byte_before.Reads as reads
-use Rattle.machine.proofs.run.steps.byte_before.Lts as lts
-use Rattle.notation.proofs.reads.byte_at.Reads as byte-at-reads
 
--- src/run/steps.rt:47:56
 sub-byte-at : tie.Need-sub-byte-at
 sub-byte-at c = search needs
 
--- src/run/steps.rt:47:48
 add-byte-at : tie.Need-add-byte-at
 unfolding maskSize
 add-byte-at c = omega arith
 
--- src/run/steps.rt:47:28
 byte-at-requires : tie.Need-byte-at-requires
 byte-at-requires c κs = search needs
 
--- src/run/steps.rt:43:1
 returns : tie.Need-returns
 returns c = let a = c .before .before .args in
     (omega arith, last-before-none (bitIn (a .run .now) (a .base)) (a .j) (c .if1 .taken))
 
--- src/run/steps.rt:43:1
 returns-2 : tie.Need-returns-2
 returns-2 c = let a = c .before .before .before .args in
     (c .byte-at .ensures .1, ap (λ (b : ℕ). bitOf b 7) (c .byte-at .ensures .0) ∙ last-before (a .run .now) (a .base) (a .j) (c .before .if1 .left))

@@ -7,32 +7,23 @@ use Rattle.machine.proofs.Laws.ByteSteps.{join-or}
 use borrow.Author.Needs.{needs}
 use Rattle.machine.proofs.run.steps.first_byte.Statement.{statement}
 use Rattle.machine.proofs.run.steps.first_byte.Tie as tie
-use Rattle.machine.proofs.run.steps.first_byte.Reads as reads
-use Rattle.machine.proofs.run.steps.first_byte.Lts as lts
-use Rattle.machine.proofs.bits.either.Reads as either-reads
-use Rattle.machine.proofs.run.steps.mask_byte.Reads as mask-byte-reads
 
 or-false : (b : Bool) → (b || false) ≡ b
 or-false true = refl
 or-false false = refl
 
--- src/run/steps.rt:63:9
 mask-byte-requires : tie.Need-mask-byte-requires
 mask-byte-requires c κs = search needs
 
--- src/run/steps.rt:65:39
 mask-byte-requires-2 : tie.Need-mask-byte-requires-2
 mask-byte-requires-2 c κs = search needs
 
--- src/run/steps.rt:65:9
 either-requires : tie.Need-either-requires
 either-requires c κs = search needs
 
--- src/run/steps.rt:65:9
 returns : tie.Need-returns
 returns c = (c .either .ensures .0, λ k h. rw (eq-eqb _ _ (c .before .before .if1 .taken)) (join-or (bitOf (c .either .result) k) (bitOf (c .before .before .before .mask-byte .result) k) (bitOf (c .before .mask-byte2 .result) k) _ _ (c .either .ensures .1 k) (c .before .before .before .mask-byte .ensures .1 k h) (c .before .mask-byte2 .ensures .1 k h)))
 
--- src/run/steps.rt:59:1
 returns-2 : tie.Need-returns-2
 returns-2 c = (c .before .mask-byte .ensures .0, λ k h. rw (ne-eqb _ _ (c .if1 .left)) (c .before .mask-byte .ensures .1 k h ∙ sym (or-false _)))
 

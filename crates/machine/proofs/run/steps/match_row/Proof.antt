@@ -11,14 +11,6 @@ use Rattle.machine.proofs.Laws.ByteSteps.{byte-at-bit, row-none, row-mo
 use Rattle.machine.specs.Run.{matchesAt}
 use Rattle.machine.proofs.run.steps.match_row.Statement.{statement}
 use Rattle.machine.proofs.run.steps.match_row.Tie as tie
-use Rattle.machine.proofs.run.steps.match_row.Reads as reads
-use Rattle.machine.proofs.run.steps.match_row.Lts as lts
-use Rattle.machine.proofs.bits.both.Reads as both-reads
-use Rattle.machine.proofs.bits.either.Reads as either-reads
-use Rattle.machine.proofs.run.steps.bits_byte.Reads as bits-byte-reads
-use Rattle.machine.proofs.run.steps.mask_byte.Reads as mask-byte-reads
-use Rattle.machine.proofs.run.steps.narrow.Reads as narrow-reads
-use Rattle.notation.proofs.reads.byte_at.Reads as byte-at-reads
 
 abbrev Inv-loop : tie.InvT-loop
 Inv-loop out₀ active a run used j₀ out j = (j ≤ used) × ((length out ≡ length out₀) × (take j out ≡ tabulate (byteOf (λ i. matchedAt run i || (bitAt active i && maskBit a 5 i))) j))
@@ -26,50 +18,39 @@ Inv-loop out₀ active a run used j₀ out j = (j ≤ used) × ((length out ≡ 
 abbrev μ-loop : tie.MeasureT-loop
 μ-loop out₀ active a run used j₀ out j = used - j
 
--- src/run/steps.rt:112:5
 loop-holds : tie.Need-loop-holds Inv-loop μ-loop
 loop-holds c = let a = c .before .before .before .before .args in
     (omega arith, (refl, row-none (λ i. matchedAt (a .run .now) i || (bitAt (a .active .now) i && maskBit (a .a .now) 5 i)) (a .out .now)))
 
--- src/run/steps.rt:113:32
 byte-at-requires : tie.Need-byte-at-requires Inv-loop μ-loop
 byte-at-requires c κs = search needs
 
--- src/run/steps.rt:113:59
 mask-byte-requires : tie.Need-mask-byte-requires Inv-loop μ-loop
 mask-byte-requires c κs = let b = c .before .before .before .before .before .before .before in
     (omega arith, omega (arith, b .pre .0))
 
--- src/run/steps.rt:113:13
 both-requires : tie.Need-both-requires Inv-loop μ-loop
 both-requires c κs = omega arith
 
--- src/run/steps.rt:114:38
 bits-byte-requires : tie.Need-bits-byte-requires Inv-loop μ-loop
 bits-byte-requires c κs = let b = c .before .before .before .before .before .before .before .before .before in
     (omega arith, omega (arith, b .pre .0))
 
--- src/run/steps.rt:114:25
 either-requires : tie.Need-either-requires Inv-loop μ-loop
 either-requires c κs = (c .bits-byte .ensures .0, c .before .both .ensures .0)
 
--- src/run/steps.rt:114:18
 narrow-requires : tie.Need-narrow-requires Inv-loop μ-loop
 narrow-requires c κs = c .either .ensures .0
 
--- src/run/steps.rt:114:9
 slice-write-out : tie.Need-slice-write-out Inv-loop μ-loop
 slice-write-out c = omega (arith, c .before .before .before .before .before .before .before .before .before .before .before .before .pre .1)
 
--- src/run/steps.rt:115:9
 add-j : tie.Need-add-j Inv-loop μ-loop
 add-j c = omega (arith, c .before .before .before .before .before .before .before .before .before .before .before .before .pre .1)
 
--- src/run/steps.rt:112:5
 loop-less : tie.Need-loop-less Inv-loop μ-loop
 loop-less c = omega arith
 
--- src/run/steps.rt:112:5
 loop-again : tie.Need-loop-again Inv-loop μ-loop
 unfolding matchesAt
 loop-again c = let b = c .before .before .before .before .before .before .before .before .before .before .before .before in
@@ -87,11 +68,9 @@ loop-again c = let b = c .before .before .before .before .before .before .before
     let n : l .j < length (l .out) = omega (arith, l .inv .1 .0, b .pre .1) in
     (omega arith, (length-set (l .out) (l .j) (c .narrow .result) ∙ l .inv .1 .0, row-more f (l .out) (l .j) (c .narrow .result) n s bits (l .inv .1 .1)))
 
--- src/run/steps.rt:107:1
 same-length : tie.Need-same-length Inv-loop μ-loop
 same-length c = c .before .loop .inv .1 .0
 
--- src/run/steps.rt:107:1
 returns : tie.Need-returns Inv-loop μ-loop
 returns c = let e : c .before .before .before .before .before .before .args .used ≡ c .before .loop .j = omega arith in
     rw e (c .before .loop .inv .1 .1)

@@ -11,13 +11,6 @@ use Rattle.machine.proofs.Laws.ByteSteps.{byte-at-bit, row-none, row-mo
 use Rattle.machine.specs.Run.{seenIn, rowAt, rowSize, runSize}
 use Rattle.machine.proofs.run.steps.seen_row.Statement.{statement}
 use Rattle.machine.proofs.run.steps.seen_row.Tie as tie
-use Rattle.machine.proofs.run.steps.seen_row.Reads as reads
-use Rattle.machine.proofs.run.steps.seen_row.Lts as lts
-use Rattle.machine.proofs.bits.either.Reads as either-reads
-use Rattle.machine.proofs.run.shape.row_at.Reads as row-at-reads
-use Rattle.machine.proofs.run.steps.bits_byte.Reads as bits-byte-reads
-use Rattle.machine.proofs.run.steps.narrow.Reads as narrow-reads
-use Rattle.notation.proofs.reads.byte_at.Reads as byte-at-reads
 
 abbrev Inv-loop : tie.InvT-loop
 Inv-loop out₀ active run d used base j₀ out j = (j ≤ used) × ((length out ≡ length out₀) × (take j out ≡ tabulate (byteOf (λ i. bitIn run base i || bitAt active i)) j))
@@ -25,51 +18,40 @@ Inv-loop out₀ active run d used base j₀ out j = (j ≤ used) × ((length out
 abbrev μ-loop : tie.MeasureT-loop
 μ-loop out₀ active run d used base j₀ out j = used - j
 
--- src/run/steps.rt:98:16
 row-at-requires : tie.Need-row-at-requires Inv-loop μ-loop
 row-at-requires c κs = search needs
 
--- src/run/steps.rt:98:16
 add-base : tie.Need-add-base Inv-loop μ-loop
 unfolding rowSize runSize
 add-base c = omega arith
 
--- src/run/steps.rt:100:5
 loop-holds : tie.Need-loop-holds Inv-loop μ-loop
 loop-holds c = let a = c .before .before .before .before .args in
     (omega arith, (refl, row-none (λ i. bitIn (a .run .now) (c .row-at .result + 291) i || bitAt (a .active .now) i) (a .out .now)))
 
--- src/run/steps.rt:101:38
 bits-byte-requires : tie.Need-bits-byte-requires Inv-loop μ-loop
 unfolding rowSize runSize
 bits-byte-requires c κs = let b = c .before .before .before .before .before .before in
     (omega arith, omega (arith, b .pre .1 .0))
 
--- src/run/steps.rt:101:63
 byte-at-requires : tie.Need-byte-at-requires Inv-loop μ-loop
 byte-at-requires c κs = search needs
 
--- src/run/steps.rt:101:25
 either-requires : tie.Need-either-requires Inv-loop μ-loop
 either-requires c κs = omega arith
 
--- src/run/steps.rt:101:18
 narrow-requires : tie.Need-narrow-requires Inv-loop μ-loop
 narrow-requires c κs = c .either .ensures .0
 
--- src/run/steps.rt:101:9
 slice-write-out : tie.Need-slice-write-out Inv-loop μ-loop
 slice-write-out c = omega (arith, c .before .before .before .before .before .before .before .before .before .before .pre .1 .1)
 
--- src/run/steps.rt:102:9
 add-j : tie.Need-add-j Inv-loop μ-loop
 add-j c = omega (arith, c .before .before .before .before .before .before .before .before .before .before .pre .1 .1)
 
--- src/run/steps.rt:100:5
 loop-less : tie.Need-loop-less Inv-loop μ-loop
 loop-less c = omega arith
 
--- src/run/steps.rt:100:5
 loop-again : tie.Need-loop-again Inv-loop μ-loop
 loop-again c = let b = c .before .before .before .before .before .before .before .before .before .before in
     let a = b .args in
@@ -84,11 +66,9 @@ loop-again c = let b = c .before .before .before .before .before .before .before
     let m : l .j < length (l .out) = omega (arith, l .inv .1 .0, b .pre .1 .1) in
     (omega arith, (length-set (l .out) (l .j) (c .narrow .result) ∙ l .inv .1 .0, row-more f (l .out) (l .j) (c .narrow .result) m s bits (l .inv .1 .1)))
 
--- src/run/steps.rt:94:1
 same-length : tie.Need-same-length Inv-loop μ-loop
 same-length c = c .before .loop .inv .1 .0
 
--- src/run/steps.rt:94:1
 returns : tie.Need-returns Inv-loop μ-loop
 unfolding seenIn
 returns c = let a = c .before .before .before .before .before .before .args in
