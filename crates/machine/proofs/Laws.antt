@@ -39,3 +39,5 @@ pub mod ChainTurns
 pub mod BitRows
 pub mod ByteSteps
 pub mod Written
+pub mod Given
+pub mod CounterShape

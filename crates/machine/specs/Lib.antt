@@ -19,3 +19,4 @@ pub mod Run
 pub mod RunCalls
 pub mod Asking
 pub mod Openable
+pub mod RunContracts

@@ -1,12 +1,24 @@
--- What an open needs of an automaton: a part of its shape.
+-- What the calls on a run need of automaton and run: buffers of their size that pass the shape test.
 use Prim.Native.Nat.{ℕ, _+_, _*_, _≤_, _<_}
+use mathlib.Core.Path.{_≡_}
+use mathlib.Core.Bool.{true}
 use mathlib.Core.List.{List}
 use lib.ListN.{length}
 use Rattle.notation.specs.Limits.{maxPaths, maxSteps}
 use Rattle.notation.specs.Reads.{word16, stepCount, labelCount, labelEntryAt}
 use Rattle.machine.specs.Automaton.{automatonSize}
 use Rattle.machine.specs.Walkable.{Walkable}
+use Rattle.machine.specs.Shape.{automatonShaped}
+use Rattle.machine.specs.Run.{runSize}
+use Rattle.machine.specs.RunCalls.{runShaped}
 
+pub record Ready (a run : List ℕ) : Type 0 where
+  pub size : automatonSize ≤ length a
+  pub shaped : automatonShaped a ≡ true
+  pub runLength : runSize ≤ length run
+  pub runIsShaped : runShaped a run ≡ true
+
+-- what an open uses of an automaton's shape
 pub record Openable (a : List ℕ) : Type 0 where
   pub walkable : Walkable a
   pub steps : stepCount a ≤ maxPaths * maxSteps

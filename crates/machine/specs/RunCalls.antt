@@ -80,6 +80,15 @@ startConditions a run = gives (tooShort a run) shortBuffer ∷ gives (not (autom
 abbrev pub rootShut : List ℕ → Counters → Bool
 rootShut run c = not (eqb (c .opens) 0) && eqb (depthOf run) 0
 
+-- those that open and close begin with
+abbrev pub callConditions : List ℕ → List ℕ → Counters → Name → List Condition
+callConditions a run c e =
+    gives (tooShort a run) shortBuffer
+    ∷ gives (not (shaped a run c)) strangeShape
+    ∷ gives (not (nameForm e)) torn
+    ∷ gives (tooLong e) longName
+    ∷ []
+
 abbrev pub openConditions : List ℕ → List ℕ → Counters → Name → List Condition
 openConditions a run c e =
     gives (tooShort a run) shortBuffer

@@ -4,6 +4,8 @@ pub mod candidates;
 pub mod close;
 pub mod layout;
 pub mod open;
+pub mod refusals;
 pub mod row;
 pub mod shape;
+pub mod start;
 pub mod steps;

@@ -1,9 +1,13 @@
 // An open: the walk, and the new element's row.
+use crate::answers::Opened;
+use crate::answers::OpenedBy;
 use crate::build::chains;
+use crate::counters::Counters;
 use crate::layout::MASK_SIZE;
 use crate::run::candidates;
 use crate::run::layout::MATCHES_AT;
 use crate::run::layout::ROW_SIZE;
+use crate::run::refusals;
 use crate::run::row;
 use crate::run::shape;
 use crate::run::steps;
@@ -11,15 +15,15 @@ use crate::walk;
 use crate::walk::Walk;
 use notation::put;
 ghost use mathlib.Core.Path.{_≡_};
-ghost use mathlib.Core.Bool.{true};
 ghost use Prim.Native.Nat.{suc, _≤_, _<_};
 ghost use lib.ListN.{length, take};
 ghost use Rattle.notation.specs.Limits.{maxName, maxSteps};
 ghost use Rattle.machine.specs.Limits.{maxDepth};
 ghost use Rattle.machine.specs.Automaton.{maskSize, hash};
-ghost use Rattle.machine.specs.Openable.{Openable};
+ghost use Rattle.machine.specs.RunContracts.{OpensBy};
+ghost use Rattle.machine.specs.Openable.{Openable, Ready};
 ghost use Rattle.machine.specs.Run.{runSize};
-ghost use Rattle.machine.specs.RunCalls.{depthOf, runShaped, usedBytes, usedBits, nowActive, nowSeen, nowMatched, openRun, openWalk, storedOpen};
+ghost use Rattle.machine.specs.RunCalls.{depthOf, usedBytes, usedBits, nowActive, nowSeen, nowMatched, openRun, openWalk, storedOpen};
 
 // The new row, a part from the middle of the run, is lent to the function that writes it; then the matches and the depth.
 fn store(
@@ -91,9 +95,9 @@ fn mark(a: &[u8], run: &mut [u8], e: &[u8], h: usize, d: usize, state: usize)
     store_used(run, d, e, state, &active, &seen, &matched, used);
 }
 
-// An open of a name that is accepted.
-pub fn open_row(a: &[u8], run: &mut [u8], e: &[u8]) -> Walk
-    requires { ⌜ (Openable (now a)) × ((runShaped (now a) (now run) ≡ true) × ((depthOf (now run) < maxDepth) × ((length (now e) ≤ maxName) × (runSize ≤ length (now run))))) ⌝ }
+// An open that is accepted: for callers that know the shape of automaton and run, and that the name may be opened.
+pub fn open_on(a: &[u8], run: &mut [u8], e: &[u8]) -> Walk
+    requires { ⌜ (Ready (now a) (now run)) × ((depthOf (now run) < maxDepth) × (length (now e) ≤ maxName)) ⌝ }
     ensures { λ r. ⌜ (r ≡ openWalk (now (a .entry)) (now (run .entry)) (now (e .entry))) × ((r .moves ≤ suc maxSteps) × (now (run .exit) ≡ openRun (now (a .entry)) (now (run .entry)) (now (e .entry)))) ⌝ }
 {
     let h = chains::hash_of(e);
@@ -101,4 +105,26 @@ pub fn open_row(a: &[u8], run: &mut [u8], e: &[u8]) -> Walk
     let walked = walk::walk_from(a, shape::state_at(run, d), e, h);
     mark(a, run, e, h, d, walked.state);
     walked
+}
+
+// The open, with the counters by value.
+pub fn open_by(a: &[u8], run: &mut [u8], counters: Counters, e: &[u8]) -> OpenedBy
+    ensures { λ r. ⌜ OpensBy (now (a .entry)) (now (run .entry)) counters (now (e .entry)) r (now (run .exit)) ⌝ }
+{
+    let refused = refusals::open_refusal(a, run, counters, e);
+    if refused != 0 {
+        return OpenedBy {
+            answer: Opened::Refused(refused),
+            counters: counters,
+        };
+    }
+    let walked = open_on(a, run, e);
+    OpenedBy {
+        answer: Opened::Accepted(walked.moves),
+        counters: Counters {
+            opens: counters.opens + 1,
+            closes: counters.closes,
+            moves: counters.moves + walked.moves,
+        },
+    }
 }

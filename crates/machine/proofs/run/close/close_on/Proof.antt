@@ -1,17 +1,20 @@
+use Rattle.machine.proofs.Laws.RunShape.{run-shape}
+use Rattle.machine.proofs.Laws.Shaped.{shaped-is}
 use Rattle.machine.proofs.Laws.Rows.{row-width, run-kept, closed}
 use native.Mathlib.Omega.{arith}
 use mathlib.Core.Path.{_∙_, ap}
 use lib.ListN.{length}
 use Rattle.machine.specs.Run.{rowSize, runSize}
 use borrow.Author.Needs.{needs}
-use Rattle.machine.proofs.run.close.close_row.Statement.{statement}
-use Rattle.machine.proofs.run.close.close_row.Tie as tie
+use Rattle.machine.proofs.run.close.close_on.Statement.{statement}
+use Rattle.machine.proofs.run.close.close_on.Tie as tie
 
 depth-requires : tie.Need-depth-requires
 depth-requires c κs = search needs
 
 row-at-requires : tie.Need-row-at-requires
-row-at-requires c κs = search needs
+row-at-requires c κs = let b = c .before .before .before .before in
+    omega (arith, c .depth .ensures .0, run-shape (b .args .a .now) (b .args .run .now) (b .pre .0 .runIsShaped) .deepest)
 
 add-end : tie.Need-add-end
 add-end c = search needs
@@ -28,7 +31,8 @@ part-clear-row-end c = omega arith
 
 clear-row-requires : tie.Need-clear-row-requires
 unfolding rowSize runSize
-clear-row-requires c κs = (c .before .before .before .before .before .before .pre .0, row-width (c .before .row-at .result) rowSize (c .before .before .before .before .before .before .args .run .now) (omega arith))
+clear-row-requires c κs = let b = c .before .before .before .before .before .before in
+    (shaped-is (b .args .a .now) (b .pre .0 .shaped) .counts .steps, row-width (c .before .row-at .result) rowSize (b .args .run .now) (omega arith))
 
 sub-put16 : tie.Need-sub-put16
 sub-put16 c = search needs
@@ -47,8 +51,8 @@ returns c = let b = c .before .before .before .before .before .before .before .b
     let a = b .before .before .before .before .before .args in
     c .before .before .put16 .ensures ∙ closed (a .a .now) (a .run .now) _ (b .before .depth .result) (b .row-at .result) (b .before .depth .ensures .0) (b .row-at .ensures .0) (c .before .before .before .before .before .before .clear-row .ensures)
 
-pub close-row-spec : {M : Type 1} → statement M
-close-row-spec =
+pub close-on-spec : {M : Type 1} → statement M
+close-on-spec =
     tie.close
     (tie.spec
     depth-requires

@@ -1,0 +1,20 @@
+use borrow.Author.Needs.{needs}
+use Rattle.machine.proofs.run.asking.answer.Statement.{statement}
+use Rattle.machine.proofs.run.asking.answer.Tie as tie
+use Rattle.machine.proofs.run.asking.answer.Reads as reads
+use Rattle.machine.proofs.run.asking.answer.Lts as lts
+
+-- src/run/asking.rt:31:9
+returns : tie.Need-returns
+returns c = ?
+
+-- src/run/asking.rt:34:9
+returns-2 : tie.Need-returns-2
+returns-2 c = search needs
+
+-- src/run/asking.rt:27:1
+returns-3 : tie.Need-returns-3
+returns-3 c = search needs
+
+pub answer-spec : {M : Type 1} → statement M
+answer-spec = tie.close (tie.spec returns returns-2 returns-3)

@@ -1,0 +1,15 @@
+use Rattle.machine.proofs.run.asking.between.Statement.{statement}
+use Rattle.machine.proofs.run.asking.between.Tie as tie
+use Rattle.machine.proofs.run.asking.between.Reads as reads
+use Rattle.machine.proofs.run.asking.between.Lts as lts
+
+-- src/run/asking.rt:127:9
+returns : tie.Need-returns
+returns c = ?
+
+-- src/run/asking.rt:123:1
+returns-2 : tie.Need-returns-2
+returns-2 c = ?
+
+pub between-spec : {M : Type 1} → statement M
+between-spec = tie.close (tie.spec returns returns-2)
