@@ -41,3 +41,4 @@ pub mod ByteSteps
 pub mod Written
 pub mod Given
 pub mod CounterShape
+pub mod Answered

@@ -1,3 +1,4 @@
+use borrow.Author.Tests.{le-leb, lt-leb}
 use Rattle.machine.proofs.run.asking.between.Statement.{statement}
 use Rattle.machine.proofs.run.asking.between.Tie as tie
 use Rattle.machine.proofs.run.asking.between.Reads as reads
@@ -5,11 +6,11 @@ use Rattle.machine.proofs.run.asking.between.Lts as lts
 
 -- src/run/asking.rt:127:9
 returns : tie.Need-returns
-returns c = ?
+returns c = rw (le-leb _ _ (c .if1 .taken))
 
 -- src/run/asking.rt:123:1
 returns-2 : tie.Need-returns-2
-returns-2 c = ?
+returns-2 c = rw (lt-leb _ _ (c .if1 .left))
 
 pub between-spec : {M : Type 1} → statement M
 between-spec = tie.close (tie.spec returns returns-2)

@@ -1,3 +1,4 @@
+use mathlib.Core.Path.{_≡_, sym, _∙_}
 use borrow.Author.Needs.{needs}
 use Rattle.machine.proofs.run.asking.has_path.Statement.{statement}
 use Rattle.machine.proofs.run.asking.has_path.Tie as tie
@@ -23,7 +24,7 @@ returns c = ?
 
 -- src/run/asking.rt:54:1
 returns-2 : tie.Need-returns-2
-returns-2 c = ?
+returns-2 c = rw (sym (c .before .before .path-at .ensures .0) ∙ c .enum-told2 .given .1)
 
 pub has-path-spec : {M : Type 1} → statement M
 has-path-spec = tie.close (tie.spec path-at-requires enum-told enum-told-2 returns returns-2)

@@ -1,3 +1,7 @@
+use mathlib.Core.Path.{_≡_, sym, _∙_, ap}
+use Prim.Native.Nat.{ℕ}
+use Rattle.notation.specs.Names.{within}
+use Rattle.machine.specs.Asking.{askRefusal, nameRefusal}
 use borrow.Author.Needs.{needs}
 use Rattle.machine.proofs.run.asking.name_refusal.Statement.{statement}
 use Rattle.machine.proofs.run.asking.name_refusal.Tie as tie
@@ -21,7 +25,9 @@ ask-refusal-requires c κs = search needs
 
 -- src/run/asking.rt:170:1
 returns : tie.Need-returns
-returns c = ?
+unfolding nameRefusal
+returns c = let b = c .before .before .before .before .before .args in
+    c .ask-refusal .ensures ∙ ap (askRefusal (b .a .now) (b .run .now)) (c .before .between .ensures ∙ ap (λ (n : ℕ). within 1 n (b .d)) (c .before .before .depth .ensures .0))
 
 pub name-refusal-spec : {M : Type 1} → statement M
 name-refusal-spec =

@@ -1,3 +1,8 @@
+use mathlib.Core.Path.{_≡_, sym, _∙_, ap}
+use Prim.Native.Nat.{ℕ}
+use mathlib.Core.Bool.{Bool}
+use Rattle.notation.specs.Reads.{pathAt}
+use Rattle.machine.specs.Asking.{askRefusal, answered, askPath, hasPath, placeMatched}
 use borrow.Author.Needs.{needs}
 use Rattle.machine.proofs.run.asking.path_matched.Statement.{statement}
 use Rattle.machine.proofs.run.asking.path_matched.Tie as tie
@@ -26,7 +31,9 @@ answer-requires c κs = search needs
 
 -- src/run/asking.rt:69:1
 returns : tie.Need-returns
-returns c = ?
+unfolding askPath
+returns c = let b = c .before .before .before .before .before .before .args in
+    c .answer .ensures ∙ ap (answered (c .before .before .ask-refusal .result)) (c .before .place-matched .ensures) ∙ ap (λ (r : ℕ). answered r (placeMatched (b .a .now) (b .run .now) (b .place .0))) (c .before .before .ask-refusal .ensures ∙ ap (askRefusal (b .a .now) (b .run .now)) (c .before .before .before .has-path .ensures))
 
 pub path-matched-spec : {M : Type 1} → statement M
 path-matched-spec =

@@ -1,3 +1,7 @@
+use native.Mathlib.Omega.{arith}
+use mathlib.Core.Path.{_≡_, sym, _∙_, ap}
+use Rattle.machine.specs.Run.{matchesAt}
+use Rattle.notation.specs.Reads.{pathTop}
 use borrow.Author.Needs.{needs}
 use Rattle.machine.proofs.run.asking.place_matched.Statement.{statement}
 use Rattle.machine.proofs.run.asking.place_matched.Tie as tie
@@ -33,11 +37,12 @@ enum-told c = search needs
 
 -- src/run/asking.rt:40:1
 returns : tie.Need-returns
-returns c = ?
+unfolding matchesAt
+returns c = rw (sym (c .before .before .before .before .before .path-at .ensures .0) ∙ c .before .before .before .first .given .1, ← c .before .minus .ensures) (c .bit-in .ensures)
 
 -- src/run/asking.rt:40:1
 returns-2 : tie.Need-returns-2
-returns-2 c = ?
+returns-2 c = rw (sym (c .before .before .path-at .ensures .0) ∙ c .enum-told .given .1)
 
 pub place-matched-spec : {M : Type 1} → statement M
 place-matched-spec =

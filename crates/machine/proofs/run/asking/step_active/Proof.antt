@@ -1,3 +1,8 @@
+use native.Mathlib.Omega.{arith}
+use mathlib.Core.Path.{_≡_, sym, _∙_, ap}
+use mathlib.Core.Bool.{false}
+use Prim.Native.Nat.{ℕ}
+use Rattle.machine.specs.Asking.{askRefusal, askStep, answered}
 use borrow.Author.Needs.{needs}
 use Rattle.machine.proofs.run.asking.step_active.Statement.{statement}
 use Rattle.machine.proofs.run.asking.step_active.Tie as tie
@@ -34,11 +39,13 @@ answer-requires c κs = search needs
 
 -- src/run/asking.rt:144:1
 returns : tie.Need-returns
-returns c = ?
+unfolding askStep
+returns c = rw (sym (c .before .before .before .before .path-at .ensures .0) ∙ c .before .before .first .given .1) (c .ask-step .ensures)
 
 -- src/run/asking.rt:144:1
 returns-2 : tie.Need-returns-2
-returns-2 c = ?
+unfolding askStep
+returns-2 c = rw (sym (c .before .before .before .before .path-at .ensures .0) ∙ c .before .before .enum-told .given .1, ← c .before .ask-refusal .ensures) (c .answer .ensures)
 
 pub step-active-spec : {M : Type 1} → statement M
 step-active-spec =

@@ -1,3 +1,5 @@
+use Rattle.machine.specs.RunCalls.{nameLength}
+use mathlib.Core.List.{List}
 use native.Mathlib.Omega.{arith}
 use mathlib.Core.Path.{_≡_, sym, _∙_, ap}
 use Prim.Native.Nat.{ℕ, _+_, _-_}
@@ -48,7 +50,11 @@ part-result-end c = let b = c .before .before .before .before in
 -- src/run/refusals.rt:40:1
 returns : tie.Need-returns
 unfolding nameIn
-returns c = ?
+returns c = let b = c .before .before .before .before .before .args in
+    let r = c .before .before .row-at in
+    let n = c .before .name-length in
+    let w : r .result + 1 + n .result - (r .result + 1) ≡ n .result = omega arith in
+    ap (λ (k : ℕ). take k (drop (r .result + 1) (b .run .now))) w ∙ ap (λ (k : ℕ). take k (drop (r .result + 1) (b .run .now))) (n .ensures .0) ∙ ap (λ (k : ℕ). take (nameLength (b .run .now) (b .d)) (drop (k + nameIn) (b .run .now))) (r .ensures .0)
 
 pub stored-name-spec : {M : Type 1} → statement M
 stored-name-spec =
