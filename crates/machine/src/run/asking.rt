@@ -106,7 +106,10 @@ pub fn folder_matched(a: &[u8], run: &[u8], number: FolderNumber) -> Asked
     ensures { λ r. ⌜ r ≡ askFolder (now (a .entry)) (now (run .entry)) number ⌝ }
 {
     match reads::folder_of(a, number) {
-        FolderIndex::At(i) => answer(refusals::ask_refusal(a, run, true), folder_paths_matched(a, run, i)),
+        FolderIndex::At(i) => answer(
+            refusals::ask_refusal(a, run, true),
+            folder_paths_matched(a, run, i),
+        ),
         FolderIndex::Missing => answer(refusals::ask_refusal(a, run, false), false),
     }
 }

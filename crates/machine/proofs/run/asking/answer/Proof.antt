@@ -3,18 +3,13 @@ use Rattle.machine.proofs.Laws.Answered.{refused-asked}
 use borrow.Author.Needs.{needs}
 use Rattle.machine.proofs.run.asking.answer.Statement.{statement}
 use Rattle.machine.proofs.run.asking.answer.Tie as tie
-use Rattle.machine.proofs.run.asking.answer.Reads as reads
-use Rattle.machine.proofs.run.asking.answer.Lts as lts
 
--- src/run/asking.rt:31:9
 returns : tie.Need-returns
 returns c = refused-asked _ _ (c .if1 .taken)
 
--- src/run/asking.rt:34:9
 returns-2 : tie.Need-returns-2
 returns-2 c = rw (c .before .if1 .left, c .if2 .taken)
 
--- src/run/asking.rt:27:1
 returns-3 : tie.Need-returns-3
 returns-3 c = rw (c .before .if1 .left, c .if2 .left)
 

@@ -9,9 +9,6 @@ use Rattle.machine.specs.Asking.{placeMatched}
 use Rattle.machine.proofs.Laws.Answered.{any-none, any-here, any-next}
 use Rattle.machine.proofs.run.asking.any_matched.Statement.{statement}
 use Rattle.machine.proofs.run.asking.any_matched.Tie as tie
-use Rattle.machine.proofs.run.asking.any_matched.Reads as reads
-use Rattle.machine.proofs.run.asking.any_matched.Lts as lts
-use Rattle.machine.proofs.run.asking.place_matched.Reads as place-matched-reads
 
 abbrev Inv-loop : tie.InvT-loop
 Inv-loop a run first count i₀ i = (i ≤ count) × (any (placeMatched a run) (countFrom first count) ≡ any (placeMatched a run) (countFrom (first + i) (count - i)))
@@ -19,37 +16,29 @@ Inv-loop a run first count i₀ i = (i ≤ count) × (any (placeMatched a run) (
 abbrev μ-loop : tie.MeasureT-loop
 μ-loop a run first count i₀ i = count - i
 
--- src/run/asking.rt:82:5
 loop-holds : tie.Need-loop-holds Inv-loop μ-loop
 loop-holds c = (omega arith, rw (add-zero, sub-zero))
 
--- src/run/asking.rt:83:34
 add-place-matched : tie.Need-add-place-matched Inv-loop μ-loop
 add-place-matched c = omega (arith, c .before .before .before .before .pre .0, c .before .before .before .before .pre .1)
 
--- src/run/asking.rt:83:12
 place-matched-requires : tie.Need-place-matched-requires Inv-loop μ-loop
 place-matched-requires c κs = search needs
 
--- src/run/asking.rt:84:13
 returns : tie.Need-returns Inv-loop μ-loop
 returns c = let b = c .before .before .before .before .before .before .args in
     sym (c .before .before .before .loop .inv .1 ∙ any-here (placeMatched (b .a .now) (b .run .now)) (b .first) (b .count) (c .before .before .before .loop .i) (c .before .before .loop-test .taken) (sym (c .before .place-matched .ensures) ∙ c .if1 .taken))
 
--- src/run/asking.rt:86:9
 add-i : tie.Need-add-i Inv-loop μ-loop
 add-i c = omega (arith, c .before .before .before .before .before .before .pre .1)
 
--- src/run/asking.rt:82:5
 loop-less : tie.Need-loop-less Inv-loop μ-loop
 loop-less c = omega arith
 
--- src/run/asking.rt:82:5
 loop-again : tie.Need-loop-again Inv-loop μ-loop
 loop-again c = let b = c .before .before .before .before .before .before .args in
     (omega arith, c .before .before .before .loop .inv .1 ∙ any-next (placeMatched (b .a .now) (b .run .now)) (b .first) (b .count) (c .before .before .before .loop .i) (c .before .before .loop-test .taken) (sym (c .before .place-matched .ensures) ∙ c .if1 .left))
 
--- src/run/asking.rt:77:1
 returns-2 : tie.Need-returns-2 Inv-loop μ-loop
 returns-2 c = let b = c .before .before .before .before .args in
     sym (c .before .loop .inv .1 ∙ any-none (placeMatched (b .a .now) (b .run .now)) (b .first) (c .before .loop .i) (b .count - c .before .loop .i) (omega arith))

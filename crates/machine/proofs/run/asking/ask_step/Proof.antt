@@ -11,39 +11,27 @@ use Rattle.machine.proofs.Laws.Given.{may-ask}
 use borrow.Author.Needs.{needs}
 use Rattle.machine.proofs.run.asking.ask_step.Statement.{statement}
 use Rattle.machine.proofs.run.asking.ask_step.Tie as tie
-use Rattle.machine.proofs.run.asking.ask_step.Reads as reads
-use Rattle.machine.proofs.run.asking.ask_step.Lts as lts
-use Rattle.machine.proofs.run.asking.answer.Reads as answer-reads
-use Rattle.machine.proofs.run.asking.between.Reads as between-reads
-use Rattle.machine.proofs.run.asking.bit_active.Reads as bit-active-reads
-use Rattle.machine.proofs.run.refusals.ask_refusal.Reads as ask-refusal-reads
 
--- src/run/asking.rt:136:49
 between-requires : tie.Need-between-requires
 between-requires c κs = search needs
 
--- src/run/asking.rt:136:9
 ask-refusal-requires : tie.Need-ask-refusal-requires
 ask-refusal-requires c κs = search needs
 
--- src/run/asking.rt:138:9
 returns : tie.Need-returns
 returns c = let b = c .before .before .before .before .before .args in
     let e : c .before .ask-refusal .result ≡ askRefusal (b .a .now) (b .run .now) (within 1 (b .steps) (b .s)) = c .before .ask-refusal .ensures ∙ ap (askRefusal (b .a .now) (b .run .now)) (c .before .before .between .ensures) in
     rw (← e) (refused-asked (c .before .ask-refusal .result) _ (c .if1 .taken))
 
--- src/run/asking.rt:140:15
 bit-active-requires : tie.Need-bit-active-requires
 bit-active-requires c κs = let b = c .before .before .before .before .before in
     let e : askRefusal (b .args .a .now) (b .args .run .now) (within 1 (b .args .steps) (b .args .s)) ≡ 0 = sym (c .before .ask-refusal .ensures ∙ ap (askRefusal (b .args .a .now) (b .args .run .now)) (c .before .before .between .ensures)) ∙ c .if1 .left in
     let m = may-ask (b .args .a .now) (b .args .run .now) (within 1 (b .args .steps) (b .args .s)) e in
     (m .0, (b .pre .0, omega (arith, step-low (b .args .steps) (b .args .s) (m .1), b .pre .1)))
 
--- src/run/asking.rt:140:5
 answer-requires : tie.Need-answer-requires
 answer-requires c κs = search needs
 
--- src/run/asking.rt:132:1
 returns-2 : tie.Need-returns-2
 returns-2 c = let b = c .before .before .before .before .before .before .before .args in
     let e : askRefusal (b .a .now) (b .run .now) (within 1 (b .steps) (b .s)) ≡ 0 = sym (c .before .before .before .ask-refusal .ensures ∙ ap (askRefusal (b .a .now) (b .run .now)) (c .before .before .before .before .between .ensures)) ∙ c .before .before .if1 .left in

@@ -1,14 +1,10 @@
 use borrow.Author.Tests.{le-leb, lt-leb}
 use Rattle.machine.proofs.run.asking.between.Statement.{statement}
 use Rattle.machine.proofs.run.asking.between.Tie as tie
-use Rattle.machine.proofs.run.asking.between.Reads as reads
-use Rattle.machine.proofs.run.asking.between.Lts as lts
 
--- src/run/asking.rt:127:9
 returns : tie.Need-returns
 returns c = rw (le-leb _ _ (c .if1 .taken))
 
--- src/run/asking.rt:123:1
 returns-2 : tie.Need-returns-2
 returns-2 c = rw (lt-leb _ _ (c .if1 .left))
 

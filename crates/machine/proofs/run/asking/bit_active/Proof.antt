@@ -8,40 +8,27 @@ use Rattle.machine.proofs.Laws.RunShape.{run-shape}
 use borrow.Author.Needs.{needs}
 use Rattle.machine.proofs.run.asking.bit_active.Statement.{statement}
 use Rattle.machine.proofs.run.asking.bit_active.Tie as tie
-use Rattle.machine.proofs.run.asking.bit_active.Reads as reads
-use Rattle.machine.proofs.run.asking.bit_active.Lts as lts
-use Rattle.machine.proofs.bits.bit_in.Reads as bit-in-reads
-use Rattle.machine.proofs.run.shape.depth.Reads as depth-reads
-use Rattle.machine.proofs.run.shape.row_at.Reads as row-at-reads
-use Rattle.notation.proofs.arith.minus.Reads as minus-reads
 
--- src/run/asking.rt:119:28
 depth-requires : tie.Need-depth-requires
 depth-requires c κs = search needs
 
--- src/run/asking.rt:119:9
 row-at-requires : tie.Need-row-at-requires
 row-at-requires c κs = let b = c .before .before .before in
     omega (arith, c .depth .ensures .0, run-shape (b .args .a .now) (b .args .run .now) (b .pre .0 .runIsShaped) .deepest)
 
--- src/run/asking.rt:120:17
 add-bit-in : tie.Need-add-bit-in
 add-bit-in c = search needs
 
--- src/run/asking.rt:120:39
 add-minus : tie.Need-add-minus
 add-minus c = search needs
 
--- src/run/asking.rt:120:33
 minus-requires : tie.Need-minus-requires
 minus-requires c κs = search needs
 
--- src/run/asking.rt:120:5
 bit-in-requires : tie.Need-bit-in-requires
 unfolding rowSize runSize
 bit-in-requires c κs = (omega arith, omega arith)
 
--- src/run/asking.rt:115:1
 returns : tie.Need-returns
 unfolding activeIn
 returns c = let b = c .before .before .before .before .before .before .args in

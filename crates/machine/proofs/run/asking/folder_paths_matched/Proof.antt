@@ -1,34 +1,29 @@
+use native.Mathlib.Omega.{arith}
+use mathlib.Core.Path.{_≡_, sym, _∙_, ap}
+use Rattle.notation.specs.Reads.{folderTop}
+use Rattle.machine.specs.Words.{any}
 use borrow.Author.Needs.{needs}
 use Rattle.machine.proofs.run.asking.folder_paths_matched.Statement.{statement}
 use Rattle.machine.proofs.run.asking.folder_paths_matched.Tie as tie
-use Rattle.machine.proofs.run.asking.folder_paths_matched.Reads as reads
-use Rattle.machine.proofs.run.asking.folder_paths_matched.Lts as lts
-use Rattle.machine.proofs.run.asking.any_matched.Reads as any-matched-reads
-use Rattle.notation.proofs.reads.folder_at.Reads as folder-at-reads
 
--- src/run/asking.rt:94:11
 folder-at-requires : tie.Need-folder-at-requires
 folder-at-requires c κs = search needs
 
--- src/run/asking.rt:97:13
 enum-known-first : tie.Need-enum-known-first
 enum-known-first c = search needs
 
--- src/run/asking.rt:99:14
 any-matched-requires : tie.Need-any-matched-requires
-any-matched-requires c κs = ?
+any-matched-requires c κs = (omega (arith, ap folderTop (c .before .first .given .1), c .before .before .before .folder-at .ensures .1), omega (arith, ap folderTop (c .before .first .given .1), c .before .before .before .folder-at .ensures .1))
 
--- src/run/asking.rt:100:30
 enum-told : tie.Need-enum-told
 enum-told c = search needs
 
--- src/run/asking.rt:91:1
 returns : tie.Need-returns
-returns c = ?
+returns c = rw (sym (c .before .before .before .before .folder-at .ensures .0) ∙ c .before .before .first .given .1) (c .any-matched .ensures)
 
--- src/run/asking.rt:91:1
 returns-2 : tie.Need-returns-2
-returns-2 c = ?
+unfolding any
+returns-2 c = rw (sym (c .before .before .folder-at .ensures .0) ∙ c .enum-told .given .1)
 
 pub folder-paths-matched-spec : {M : Type 1} → statement M
 folder-paths-matched-spec =

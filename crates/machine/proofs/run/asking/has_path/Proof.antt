@@ -2,27 +2,19 @@ use mathlib.Core.Path.{_≡_, sym, _∙_}
 use borrow.Author.Needs.{needs}
 use Rattle.machine.proofs.run.asking.has_path.Statement.{statement}
 use Rattle.machine.proofs.run.asking.has_path.Tie as tie
-use Rattle.machine.proofs.run.asking.has_path.Reads as reads
-use Rattle.machine.proofs.run.asking.has_path.Lts as lts
-use Rattle.notation.proofs.reads.path_at.Reads as path-at-reads
 
--- src/run/asking.rt:57:11
 path-at-requires : tie.Need-path-at-requires
 path-at-requires c κs = search needs
 
--- src/run/asking.rt:63:14
 enum-told : tie.Need-enum-told
 enum-told c = search needs
 
--- src/run/asking.rt:64:28
 enum-told-2 : tie.Need-enum-told-2
 enum-told-2 c = search needs
 
--- src/run/asking.rt:54:1
 returns : tie.Need-returns
-returns c = ?
+returns c = rw (sym (c .before .before .path-at .ensures .0) ∙ c .enum-told .given .1)
 
--- src/run/asking.rt:54:1
 returns-2 : tie.Need-returns-2
 returns-2 c = rw (sym (c .before .before .path-at .ensures .0) ∙ c .enum-told2 .given .1)
 

@@ -5,25 +5,16 @@ use Rattle.machine.specs.Asking.{askRefusal, nameRefusal}
 use borrow.Author.Needs.{needs}
 use Rattle.machine.proofs.run.asking.name_refusal.Statement.{statement}
 use Rattle.machine.proofs.run.asking.name_refusal.Tie as tie
-use Rattle.machine.proofs.run.asking.name_refusal.Reads as reads
-use Rattle.machine.proofs.run.asking.name_refusal.Lts as lts
-use Rattle.machine.proofs.run.asking.between.Reads as between-reads
-use Rattle.machine.proofs.run.refusals.ask_refusal.Reads as ask-refusal-reads
-use Rattle.machine.proofs.run.shape.depth.Reads as depth-reads
 
--- src/run/asking.rt:173:46
 depth-requires : tie.Need-depth-requires
 depth-requires c κs = search needs
 
--- src/run/asking.rt:173:35
 between-requires : tie.Need-between-requires
 between-requires c κs = search needs
 
--- src/run/asking.rt:173:5
 ask-refusal-requires : tie.Need-ask-refusal-requires
 ask-refusal-requires c κs = search needs
 
--- src/run/asking.rt:170:1
 returns : tie.Need-returns
 unfolding nameRefusal
 returns c = let b = c .before .before .before .before .before .args in

@@ -8,32 +8,23 @@ use Rattle.machine.proofs.Laws.Answered.{depth-low}
 use borrow.Author.Needs.{needs}
 use Rattle.machine.proofs.run.asking.open_name.Statement.{statement}
 use Rattle.machine.proofs.run.asking.open_name.Tie as tie
-use Rattle.machine.proofs.run.asking.open_name.Reads as reads
-use Rattle.machine.proofs.run.asking.open_name.Lts as lts
-use Rattle.machine.proofs.run.asking.name_refusal.Reads as name-refusal-reads
-use Rattle.machine.proofs.run.refusals.stored_name.Reads as stored-name-reads
 
--- src/run/asking.rt:180:8
 name-refusal-requires : tie.Need-name-refusal-requires
 name-refusal-requires c κs = search needs
 
--- src/run/asking.rt:181:9
 slice-aggregate-result : tie.Need-slice-aggregate-result
 slice-aggregate-result c = search needs
 
--- src/run/asking.rt:181:9
 returns : tie.Need-returns
 unfolding askName
 returns c = rw (ne-eqb _ _ (λ z. c .before .if1 .taken (c .before .before .name-refusal .ensures ∙ z)))
 
--- src/run/asking.rt:183:5
 stored-name-requires : tie.Need-stored-name-requires
 unfolding nameRefusal
 stored-name-requires c κs = let b = c .before .before .before .before .args in
     let m = may-ask (b .a .now) (b .run .now) (hasDepth (b .run .now) (b .d)) (sym (c .before .name-refusal .ensures) ∙ c .if1 .left) in
     (m .0, depth-low (depthOf (b .run .now)) (b .d) (m .1))
 
--- src/run/asking.rt:177:1
 returns-2 : tie.Need-returns-2
 unfolding askName
 returns-2 c = rw (eq-eqb _ _ (sym (c .before .before .name-refusal .ensures) ∙ c .before .if1 .left)) (c .stored-name .ensures)

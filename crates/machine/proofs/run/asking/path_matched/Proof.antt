@@ -6,30 +6,19 @@ use Rattle.machine.specs.Asking.{askRefusal, answered, askPath, hasPath,
 use borrow.Author.Needs.{needs}
 use Rattle.machine.proofs.run.asking.path_matched.Statement.{statement}
 use Rattle.machine.proofs.run.asking.path_matched.Tie as tie
-use Rattle.machine.proofs.run.asking.path_matched.Reads as reads
-use Rattle.machine.proofs.run.asking.path_matched.Lts as lts
-use Rattle.machine.proofs.run.asking.answer.Reads as answer-reads
-use Rattle.machine.proofs.run.asking.has_path.Reads as has-path-reads
-use Rattle.machine.proofs.run.asking.place_matched.Reads as place-matched-reads
-use Rattle.machine.proofs.run.refusals.ask_refusal.Reads as ask-refusal-reads
 
--- src/run/asking.rt:72:49
 has-path-requires : tie.Need-has-path-requires
 has-path-requires c κs = search needs
 
--- src/run/asking.rt:72:9
 ask-refusal-requires : tie.Need-ask-refusal-requires
 ask-refusal-requires c κs = search needs
 
--- src/run/asking.rt:73:21
 place-matched-requires : tie.Need-place-matched-requires
 place-matched-requires c κs = search needs
 
--- src/run/asking.rt:73:5
 answer-requires : tie.Need-answer-requires
 answer-requires c κs = search needs
 
--- src/run/asking.rt:69:1
 returns : tie.Need-returns
 unfolding askPath
 returns c = let b = c .before .before .before .before .before .before .args in

@@ -5,42 +5,29 @@ use Rattle.notation.specs.Reads.{pathTop}
 use borrow.Author.Needs.{needs}
 use Rattle.machine.proofs.run.asking.place_matched.Statement.{statement}
 use Rattle.machine.proofs.run.asking.place_matched.Tie as tie
-use Rattle.machine.proofs.run.asking.place_matched.Reads as reads
-use Rattle.machine.proofs.run.asking.place_matched.Lts as lts
-use Rattle.machine.proofs.bits.bit_in.Reads as bit-in-reads
-use Rattle.notation.proofs.arith.minus.Reads as minus-reads
-use Rattle.notation.proofs.reads.path_at.Reads as path-at-reads
 
--- src/run/asking.rt:43:11
 path-at-requires : tie.Need-path-at-requires
 path-at-requires c κs = search needs
 
--- src/run/asking.rt:45:13
 enum-known-first : tie.Need-enum-known-first
 enum-known-first c = search needs
 
--- src/run/asking.rt:49:44
 add-minus : tie.Need-add-minus
-add-minus c = ?
+add-minus c = omega (arith, ap pathTop (c .before .first .given .1), c .before .before .before .path-at .ensures .1)
 
--- src/run/asking.rt:49:38
 minus-requires : tie.Need-minus-requires
 minus-requires c κs = search needs
 
--- src/run/asking.rt:49:14
 bit-in-requires : tie.Need-bit-in-requires
-bit-in-requires c κs = ?
+bit-in-requires c κs = (omega arith, omega (arith, c .minus .ensures, ap pathTop (c .before .before .first .given .1), c .before .before .before .before .path-at .ensures .1))
 
--- src/run/asking.rt:50:28
 enum-told : tie.Need-enum-told
 enum-told c = search needs
 
--- src/run/asking.rt:40:1
 returns : tie.Need-returns
 unfolding matchesAt
 returns c = rw (sym (c .before .before .before .before .before .path-at .ensures .0) ∙ c .before .before .before .first .given .1, ← c .before .minus .ensures) (c .bit-in .ensures)
 
--- src/run/asking.rt:40:1
 returns-2 : tie.Need-returns-2
 returns-2 c = rw (sym (c .before .before .path-at .ensures .0) ∙ c .enum-told .given .1)
 

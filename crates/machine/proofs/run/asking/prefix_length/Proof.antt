@@ -12,37 +12,25 @@ use Rattle.machine.proofs.Laws.RunShape.{run-shape}
 use borrow.Author.Needs.{needs}
 use Rattle.machine.proofs.run.asking.prefix_length.Statement.{statement}
 use Rattle.machine.proofs.run.asking.prefix_length.Tie as tie
-use Rattle.machine.proofs.run.asking.prefix_length.Reads as reads
-use Rattle.machine.proofs.run.asking.prefix_length.Lts as lts
-use Rattle.machine.proofs.run.refusals.ask_refusal.Reads as ask-refusal-reads
-use Rattle.machine.proofs.run.shape.depth.Reads as depth-reads
-use Rattle.machine.proofs.run.shape.state_at.Reads as state-at-reads
-use Rattle.machine.proofs.shape.size_of.Reads as size-of-reads
 
--- src/run/asking.rt:162:9
 ask-refusal-requires : tie.Need-ask-refusal-requires
 ask-refusal-requires c κs = search needs
 
--- src/run/asking.rt:164:9
 returns : tie.Need-returns
 unfolding askPrefix
 returns c = rw (← c .before .ask-refusal .ensures) (refused-length (c .before .ask-refusal .result) _ (c .if1 .taken))
 
--- src/run/asking.rt:166:53
 depth-requires : tie.Need-depth-requires
 depth-requires c κs = search needs
 
--- src/run/asking.rt:166:32
 state-at-requires : tie.Need-state-at-requires
 state-at-requires c κs = let b = c .before .before .before .before .before .args in
     let m = may-ask (b .a .now) (b .run .now) true (sym (c .before .before .ask-refusal .ensures) ∙ c .before .if1 .left) in
     omega (arith, c .depth .ensures .0, run-shape (b .a .now) (b .run .now) (m .0 .runIsShaped) .deepest)
 
--- src/run/asking.rt:166:21
 size-of-requires : tie.Need-size-of-requires
 size-of-requires c κs = search needs
 
--- src/run/asking.rt:159:1
 returns-2 : tie.Need-returns-2
 unfolding askPrefix
 returns-2 c = let b = c .before .before .before .before .before .before .before .args in

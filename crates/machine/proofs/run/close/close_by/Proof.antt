@@ -9,43 +9,32 @@ use Rattle.machine.proofs.Laws.CounterShape.{closes-fit}
 use borrow.Author.Needs.{needs}
 use Rattle.machine.proofs.run.close.close_by.Statement.{statement}
 use Rattle.machine.proofs.run.close.close_by.Tie as tie
-use Rattle.machine.proofs.run.close.close_by.Reads as reads
-use Rattle.machine.proofs.run.close.close_by.Lts as lts
-use Rattle.machine.proofs.run.close.close_on.Reads as close-on-reads
-use Rattle.machine.proofs.run.refusals.close_refusal.Reads as close-refusal-reads
 
--- src/run/close.rt:32:9
 close-refusal-requires : tie.Need-close-refusal-requires
 close-refusal-requires c κs = search needs
 
--- src/run/close.rt:34:9
 same-length : tie.Need-same-length
 same-length c = search needs
 
--- src/run/close.rt:34:9
 returns : tie.Need-returns
 returns c = let b = c .before .before .before .before .before .before .args in
     let s = c .before .close-refusal in
     let n : eqb (closeRefusal (b .a .now) (b .run .now) (b .counters) (b .e .now)) 0 ≡ false = ne-eqb _ _ (λ z. c .if1 .taken (s .ensures ∙ z)) in
     record { answers = s .ensures; runAfter = rw n; countersAfter = rw n }
 
--- src/run/close.rt:39:5
 close-on-requires : tie.Need-close-on-requires
 close-on-requires c κs = let b = c .before .before .before .before .before .before .before .args in
     let m = may-close (b .a .now) (b .run .now) (b .counters) (b .e .now) (sym (c .before .before .close-refusal .ensures) ∙ c .before .if1 .left) in
     (m .ready, omega (arith, eqb-false (depthOf (b .run .now)) 0 (m .depth)))
 
--- src/run/close.rt:44:21
 add-t12 : tie.Need-add-t12
 add-t12 c = let b = c .before .before .before .before .before .before .before .before .before .before .before .args in
     let m = may-close (b .a .now) (b .run .now) (b .counters) (b .e .now) (sym (c .before .before .before .before .before .before .close-refusal .ensures) ∙ c .before .before .before .before .before .if1 .left) in
     omega (arith, closes-fit (b .run .now) (b .counters) (m .counters))
 
--- src/run/close.rt:29:1
 same-length-2 : tie.Need-same-length-2
 same-length-2 c = search needs
 
--- src/run/close.rt:29:1
 returns-2 : tie.Need-returns-2
 unfolding closeCounters
 returns-2 c = let b = c .before .before .before .before .before .before .before .before .before .before .before .args in

@@ -15,20 +15,13 @@ use Rattle.machine.proofs.Laws.CounterShape.{moves-fit, refused-answer,
 use borrow.Author.Needs.{needs}
 use Rattle.machine.proofs.run.open.open_by.Statement.{statement}
 use Rattle.machine.proofs.run.open.open_by.Tie as tie
-use Rattle.machine.proofs.run.open.open_by.Reads as reads
-use Rattle.machine.proofs.run.open.open_by.Lts as lts
-use Rattle.machine.proofs.run.open.open_on.Reads as open-on-reads
-use Rattle.machine.proofs.run.refusals.open_refusal.Reads as open-refusal-reads
 
--- src/run/open.rt:114:9
 open-refusal-requires : tie.Need-open-refusal-requires
 open-refusal-requires c κs = search needs
 
--- src/run/open.rt:116:9
 same-length : tie.Need-same-length
 same-length c = search needs
 
--- src/run/open.rt:116:9
 returns : tie.Need-returns
 returns c = let b = c .before .before .before .before .before .before .args in
     let s = c .before .open-refusal in
@@ -37,29 +30,24 @@ returns c = let b = c .before .before .before .before .before .before .args in
     let n : eqb (openRefusal (b .a .now) (b .run .now) (b .counters) (b .e .now)) 0 ≡ false = ne-eqb _ _ y in
     record { answers = ap (λ (r : ℕ). Opened.Refused r) (s .ensures) ∙ refused-answer (openRefusal (b .a .now) (b .run .now) (b .counters) (b .e .now)) _ y; runAfter = rw n; countersAfter = rw n }
 
--- src/run/open.rt:121:9
 open-on-requires : tie.Need-open-on-requires
 open-on-requires c κs = let b = c .before .before .before .before .before .before .before .args in
     let m = may-open (b .a .now) (b .run .now) (b .counters) (b .e .now) (sym (c .before .before .open-refusal .ensures) ∙ c .before .if1 .left) in
     (m .ready, (m .depth, m .name))
 
--- src/run/open.rt:125:20
 add-t14 : tie.Need-add-t14
 unfolding maxOpens
 add-t14 c = let b = c .before .before .before .before .before .before .before .before .before .before .before .args in
     omega (arith, may-open (b .a .now) (b .run .now) (b .counters) (b .e .now) (sym (c .before .before .before .before .before .before .open-refusal .ensures) ∙ c .before .before .before .before .before .if1 .left) .opens)
 
--- src/run/open.rt:127:20
 add-t15 : tie.Need-add-t15
 unfolding maxSteps
 add-t15 c = let b = c .before .before .before .before .before .before .before .before .before .before .before .before .before .args in
     omega (arith, moves-fit (b .run .now) (b .counters) (may-open (b .a .now) (b .run .now) (b .counters) (b .e .now) (sym (c .before .before .before .before .before .before .before .before .open-refusal .ensures) ∙ c .before .before .before .before .before .before .before .if1 .left) .counters), c .before .before .before .before .before .open-on .ensures .1 .0)
 
--- src/run/open.rt:111:1
 same-length-2 : tie.Need-same-length-2
 same-length-2 c = search needs
 
--- src/run/open.rt:111:1
 returns-2 : tie.Need-returns-2
 unfolding openCounters
 returns-2 c = let b = c .before .before .before .before .before .before .before .before .before .before .before .before .before .args in

@@ -3,25 +3,17 @@ use Rattle.machine.proofs.Laws.Given.{shaped-parts}
 use borrow.Author.Needs.{needs}
 use Rattle.machine.proofs.run.refusals.all_shaped.Statement.{statement}
 use Rattle.machine.proofs.run.refusals.all_shaped.Tie as tie
-use Rattle.machine.proofs.run.refusals.all_shaped.Reads as reads
-use Rattle.machine.proofs.run.refusals.all_shaped.Lts as lts
-use Rattle.machine.proofs.run.refusals.both_shaped.Reads as both-shaped-reads
-use Rattle.machine.proofs.run.shape.counters_shaped.Reads as counters-shaped-reads
 
--- src/run/refusals.rt:33:8
 both-shaped-requires : tie.Need-both-shaped-requires
 both-shaped-requires c κs = search needs
 
--- src/run/refusals.rt:34:9
 counters-shaped-requires : tie.Need-counters-shaped-requires
 counters-shaped-requires c κs = search needs
 
--- src/run/refusals.rt:34:9
 returns : tie.Need-returns
 returns c = let b = c .before .before .before .before .before .args in
     rw (shaped-parts (b .a .now) (b .run .now) (b .c), sym (c .before .before .both-shaped .ensures) ∙ c .before .if1 .taken) (c .counters-shaped .ensures)
 
--- src/run/refusals.rt:30:1
 returns-2 : tie.Need-returns-2
 returns-2 c = let b = c .before .before .before .before .args in
     rw (shaped-parts (b .a .now) (b .run .now) (b .c), sym (c .before .both-shaped .ensures) ∙ c .if1 .left)

@@ -7,35 +7,26 @@ use Rattle.machine.specs.Asking.{askRefusal}
 use borrow.Author.Needs.{needs}
 use Rattle.machine.proofs.run.refusals.ask_refusal.Statement.{statement}
 use Rattle.machine.proofs.run.refusals.ask_refusal.Tie as tie
-use Rattle.machine.proofs.run.refusals.ask_refusal.Reads as reads
-use Rattle.machine.proofs.run.refusals.ask_refusal.Lts as lts
-use Rattle.machine.proofs.run.refusals.both_shaped.Reads as both-shaped-reads
 
--- src/run/refusals.rt:124:9
 returns : tie.Need-returns
 unfolding askRefusal given automatonSize
 returns c = rw (lt-ltb _ _ (c .if1 .taken))
 
--- src/run/refusals.rt:127:9
 returns-2 : tie.Need-returns-2
 unfolding askRefusal given automatonSize runSize
 returns-2 c = rw (le-ltb _ _ (c .before .if1 .left), lt-ltb _ _ (c .if2 .taken))
 
--- src/run/refusals.rt:129:9
 both-shaped-requires : tie.Need-both-shaped-requires
 both-shaped-requires c κs = search needs
 
--- src/run/refusals.rt:130:9
 returns-3 : tie.Need-returns-3
 unfolding askRefusal given automatonSize runSize
 returns-3 c = rw (le-ltb _ _ (c .before .before .before .if1 .left), le-ltb _ _ (c .before .before .if2 .left), sym (c .before .both-shaped .ensures) ∙ not-true _ (c .if3 .taken))
 
--- src/run/refusals.rt:133:9
 returns-4 : tie.Need-returns-4
 unfolding askRefusal given automatonSize runSize
 returns-4 c = rw (le-ltb _ _ (c .before .before .before .before .if1 .left), le-ltb _ _ (c .before .before .before .if2 .left), sym (c .before .before .both-shaped .ensures) ∙ not-false _ (c .before .if3 .left), c .if4 .taken)
 
--- src/run/refusals.rt:120:1
 returns-5 : tie.Need-returns-5
 unfolding askRefusal given automatonSize runSize
 returns-5 c = rw (le-ltb _ _ (c .before .before .before .before .if1 .left), le-ltb _ _ (c .before .before .before .if2 .left), sym (c .before .before .both-shaped .ensures) ∙ not-false _ (c .before .if3 .left), c .if4 .left)

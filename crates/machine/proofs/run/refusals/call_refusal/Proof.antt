@@ -6,50 +6,36 @@ use Rattle.machine.specs.RunCalls.{given}
 use borrow.Author.Needs.{needs}
 use Rattle.machine.proofs.run.refusals.call_refusal.Statement.{statement}
 use Rattle.machine.proofs.run.refusals.call_refusal.Tie as tie
-use Rattle.machine.proofs.run.refusals.call_refusal.Reads as reads
-use Rattle.machine.proofs.run.refusals.call_refusal.Lts as lts
-use Rattle.machine.proofs.run.refusals.all_shaped.Reads as all-shaped-reads
-use Rattle.notation.proofs.names.name_form.Reads as name-form-reads
-use Rattle.notation.proofs.names.too_long.Reads as too-long-reads
 
--- src/run/refusals.rt:54:9
 returns : tie.Need-returns
 unfolding given automatonSize
 returns c = rw (lt-ltb _ _ (c .if1 .taken))
 
--- src/run/refusals.rt:57:9
 returns-2 : tie.Need-returns-2
 unfolding given automatonSize runSize
 returns-2 c = rw (le-ltb _ _ (c .before .if1 .left), lt-ltb _ _ (c .if2 .taken))
 
--- src/run/refusals.rt:59:9
 all-shaped-requires : tie.Need-all-shaped-requires
 all-shaped-requires c κs = search needs
 
--- src/run/refusals.rt:60:9
 returns-3 : tie.Need-returns-3
 unfolding given automatonSize runSize
 returns-3 c = rw (le-ltb _ _ (c .before .before .before .if1 .left), le-ltb _ _ (c .before .before .if2 .left), sym (c .before .all-shaped .ensures) ∙ not-true _ (c .if3 .taken))
 
--- src/run/refusals.rt:62:9
 name-form-requires : tie.Need-name-form-requires
 name-form-requires c κs = search needs
 
--- src/run/refusals.rt:63:9
 returns-4 : tie.Need-returns-4
 unfolding given automatonSize runSize
 returns-4 c = rw (le-ltb _ _ (c .before .before .before .before .before .if1 .left), le-ltb _ _ (c .before .before .before .before .if2 .left), sym (c .before .before .before .all-shaped .ensures) ∙ not-false _ (c .before .before .if3 .left), sym (c .before .name-form .ensures) ∙ not-true _ (c .if4 .taken))
 
--- src/run/refusals.rt:65:8
 too-long-requires : tie.Need-too-long-requires
 too-long-requires c κs = search needs
 
--- src/run/refusals.rt:66:9
 returns-5 : tie.Need-returns-5
 unfolding given automatonSize runSize
 returns-5 c = rw (le-ltb _ _ (c .before .before .before .before .before .before .before .if1 .left), le-ltb _ _ (c .before .before .before .before .before .before .if2 .left), sym (c .before .before .before .before .before .all-shaped .ensures) ∙ not-false _ (c .before .before .before .before .if3 .left), sym (c .before .before .before .name-form .ensures) ∙ not-false _ (c .before .before .if4 .left), sym (c .before .too-long .ensures) ∙ c .if5 .taken)
 
--- src/run/refusals.rt:50:1
 returns-6 : tie.Need-returns-6
 unfolding given automatonSize runSize
 returns-6 c = rw (le-ltb _ _ (c .before .before .before .before .before .before .before .if1 .left), le-ltb _ _ (c .before .before .before .before .before .before .if2 .left), sym (c .before .before .before .before .before .all-shaped .ensures) ∙ not-false _ (c .before .before .before .before .if3 .left), sym (c .before .before .before .name-form .ensures) ∙ not-false _ (c .before .before .if4 .left), sym (c .before .too-long .ensures) ∙ c .if5 .left)

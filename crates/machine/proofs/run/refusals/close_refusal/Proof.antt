@@ -10,49 +10,35 @@ use Rattle.machine.proofs.Laws.Given.{close-first, close-then, may-call
 use borrow.Author.Needs.{needs}
 use Rattle.machine.proofs.run.refusals.close_refusal.Statement.{statement}
 use Rattle.machine.proofs.run.refusals.close_refusal.Tie as tie
-use Rattle.machine.proofs.run.refusals.close_refusal.Reads as reads
-use Rattle.machine.proofs.run.refusals.close_refusal.Lts as lts
-use Rattle.machine.proofs.run.refusals.call_refusal.Reads as call-refusal-reads
-use Rattle.machine.proofs.run.refusals.stored_name.Reads as stored-name-reads
-use Rattle.machine.proofs.run.shape.depth.Reads as depth-reads
-use Rattle.notation.proofs.names.same_name.Reads as same-name-reads
 
--- src/run/refusals.rt:105:9
 call-refusal-requires : tie.Need-call-refusal-requires
 call-refusal-requires c κs = search needs
 
--- src/run/refusals.rt:107:9
 returns : tie.Need-returns
 returns c = let b = c .before .before .before .before .before .args in
     c .before .call-refusal .ensures ∙ sym (close-first (b .a .now) (b .run .now) (b .c) (b .e .now) (λ z. c .if1 .taken (c .before .call-refusal .ensures ∙ z)))
 
--- src/run/refusals.rt:109:9
 depth-requires : tie.Need-depth-requires
 depth-requires c κs = search needs
 
--- src/run/refusals.rt:111:9
 returns-2 : tie.Need-returns-2
 unfolding given
 returns-2 c = let b = c .before .before .before .before .before .before .before .args in
     rw (close-then (b .a .now) (b .run .now) (b .c) (b .e .now) (sym (c .before .before .before .call-refusal .ensures) ∙ c .before .before .if1 .left), ← c .before .depth .ensures .0, eq-eqb _ _ (c .if2 .taken))
 
--- src/run/refusals.rt:113:26
 stored-name-requires : tie.Need-stored-name-requires
 stored-name-requires c κs = let b = c .before .before .before .before .before .before .before .args in
     (may-call (b .a .now) (b .run .now) (b .c) (b .e .now) (sym (c .before .before .before .call-refusal .ensures) ∙ c .before .before .if1 .left), omega (arith, c .before .depth .ensures .0))
 
--- src/run/refusals.rt:113:9
 same-name-requires : tie.Need-same-name-requires
 same-name-requires c κs = search needs
 
--- src/run/refusals.rt:114:9
 returns-3 : tie.Need-returns-3
 unfolding given
 returns-3 c = let b = c .before .before .before .before .before .before .before .before .before .before .args in
     let t : sameName (storedName (b .run .now) (depthOf (b .run .now))) (b .e .now) ≡ false = ap (λ (n : ℕ). sameName (storedName (b .run .now) n) (b .e .now)) (sym (c .before .before .before .before .depth .ensures .0)) ∙ ap (λ (n : List ℕ). sameName n (b .e .now)) (sym (c .before .before .stored-name .ensures)) ∙ sym (c .before .same-name .ensures) ∙ not-true _ (c .if3 .taken) in
     rw (close-then (b .a .now) (b .run .now) (b .c) (b .e .now) (sym (c .before .before .before .before .before .before .call-refusal .ensures) ∙ c .before .before .before .before .before .if1 .left), t, ← c .before .before .before .before .depth .ensures .0, ne-eqb _ _ (c .before .before .before .if2 .left))
 
--- src/run/refusals.rt:102:1
 returns-4 : tie.Need-returns-4
 unfolding given
 returns-4 c = let b = c .before .before .before .before .before .before .before .before .before .before .args in

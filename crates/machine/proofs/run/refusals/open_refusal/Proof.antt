@@ -6,48 +6,35 @@ use Rattle.machine.proofs.Laws.Given.{open-first, open-then}
 use borrow.Author.Needs.{needs}
 use Rattle.machine.proofs.run.refusals.open_refusal.Statement.{statement}
 use Rattle.machine.proofs.run.refusals.open_refusal.Tie as tie
-use Rattle.machine.proofs.run.refusals.open_refusal.Reads as reads
-use Rattle.machine.proofs.run.refusals.open_refusal.Lts as lts
-use Rattle.machine.proofs.run.refusals.call_refusal.Reads as call-refusal-reads
-use Rattle.machine.proofs.run.refusals.root_shut.Reads as root-shut-reads
-use Rattle.machine.proofs.run.shape.depth.Reads as depth-reads
 
--- src/run/refusals.rt:85:9
 call-refusal-requires : tie.Need-call-refusal-requires
 call-refusal-requires c κs = search needs
 
--- src/run/refusals.rt:87:9
 returns : tie.Need-returns
 returns c = let b = c .before .before .before .before .before .args in
     c .before .call-refusal .ensures ∙ sym (open-first (b .a .now) (b .run .now) (b .c) (b .e .now) (λ z. c .if1 .taken (c .before .call-refusal .ensures ∙ z)))
 
--- src/run/refusals.rt:89:8
 root-shut-requires : tie.Need-root-shut-requires
 root-shut-requires c κs = search needs
 
--- src/run/refusals.rt:90:9
 returns-2 : tie.Need-returns-2
 unfolding given
 returns-2 c = let b = c .before .before .before .before .before .before .before .args in
     rw (open-then (b .a .now) (b .run .now) (b .c) (b .e .now) (sym (c .before .before .before .call-refusal .ensures) ∙ c .before .before .if1 .left), sym (c .before .root-shut .ensures) ∙ c .if2 .taken)
 
--- src/run/refusals.rt:92:21
 depth-requires : tie.Need-depth-requires
 depth-requires c κs = search needs
 
--- src/run/refusals.rt:93:9
 returns-3 : tie.Need-returns-3
 unfolding given maxDepth
 returns-3 c = let b = c .before .before .before .before .before .before .before .before .before .args in
     rw (open-then (b .a .now) (b .run .now) (b .c) (b .e .now) (sym (c .before .before .before .before .before .call-refusal .ensures) ∙ c .before .before .before .before .if1 .left), sym (c .before .before .before .root-shut .ensures) ∙ c .before .before .if2 .left, ← c .before .depth .ensures .0, le-leb _ _ (c .if3 .taken))
 
--- src/run/refusals.rt:96:9
 returns-4 : tie.Need-returns-4
 unfolding given maxDepth maxOpens
 returns-4 c = let b = c .before .before .before .before .before .before .before .before .before .before .before .args in
     rw (open-then (b .a .now) (b .run .now) (b .c) (b .e .now) (sym (c .before .before .before .before .before .before .before .call-refusal .ensures) ∙ c .before .before .before .before .before .before .if1 .left), sym (c .before .before .before .before .before .root-shut .ensures) ∙ c .before .before .before .before .if2 .left, ← c .before .before .before .depth .ensures .0, lt-leb _ _ (c .before .before .if3 .left), le-leb _ _ (c .if4 .taken))
 
--- src/run/refusals.rt:82:1
 returns-5 : tie.Need-returns-5
 unfolding given maxDepth maxOpens
 returns-5 c = let b = c .before .before .before .before .before .before .before .before .before .before .before .args in

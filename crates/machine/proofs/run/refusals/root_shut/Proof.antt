@@ -3,19 +3,13 @@ use borrow.Author.Tests.{eq-eqb, ne-eqb}
 use borrow.Author.Needs.{needs}
 use Rattle.machine.proofs.run.refusals.root_shut.Statement.{statement}
 use Rattle.machine.proofs.run.refusals.root_shut.Tie as tie
-use Rattle.machine.proofs.run.refusals.root_shut.Reads as reads
-use Rattle.machine.proofs.run.refusals.root_shut.Lts as lts
-use Rattle.machine.proofs.run.shape.depth.Reads as depth-reads
 
--- src/run/refusals.rt:76:9
 returns : tie.Need-returns
 returns c = rw (eq-eqb _ _ (c .if1 .taken))
 
--- src/run/refusals.rt:78:5
 depth-requires : tie.Need-depth-requires
 depth-requires c κs = search needs
 
--- src/run/refusals.rt:72:1
 returns-2 : tie.Need-returns-2
 returns-2 c = rw (ne-eqb _ _ (c .before .if1 .left), ← c .depth .ensures .0)
 

@@ -10,44 +10,32 @@ use Rattle.machine.proofs.Laws.RunShape.{run-shape}
 use borrow.Author.Needs.{needs}
 use Rattle.machine.proofs.run.refusals.stored_name.Statement.{statement}
 use Rattle.machine.proofs.run.refusals.stored_name.Tie as tie
-use Rattle.machine.proofs.run.refusals.stored_name.Reads as reads
-use Rattle.machine.proofs.run.refusals.stored_name.Lts as lts
-use Rattle.machine.proofs.run.shape.name_length.Reads as name-length-reads
-use Rattle.machine.proofs.run.shape.row_at.Reads as row-at-reads
 
--- src/run/refusals.rt:44:16
 row-at-requires : tie.Need-row-at-requires
 row-at-requires c κs = let b = c .before .before in
     omega (arith, run-shape (b .args .a .now) (b .args .run .now) (b .pre .0 .runIsShaped) .deepest)
 
--- src/run/refusals.rt:44:16
 add-from : tie.Need-add-from
 add-from c = search needs
 
--- src/run/refusals.rt:45:21
 name-length-requires : tie.Need-name-length-requires
 name-length-requires c κs = let b = c .before .before .before in
     omega (arith, run-shape (b .args .a .now) (b .args .run .now) (b .pre .0 .runIsShaped) .deepest)
 
--- src/run/refusals.rt:45:14
 add-to : tie.Need-add-to
 add-to c = search needs
 
--- src/run/refusals.rt:46:5
 sub-result : tie.Need-sub-result
 sub-result c = search needs
 
--- src/run/refusals.rt:46:5
 part-result-start : tie.Need-part-result-start
 part-result-start c = search needs
 
--- src/run/refusals.rt:46:5
 part-result-end : tie.Need-part-result-end
 unfolding rowSize runSize maxName
 part-result-end c = let b = c .before .before .before .before in
     omega (arith, run-shape (b .args .a .now) (b .args .run .now) (b .pre .0 .runIsShaped) .name (b .args .d) (b .pre .1), b .pre .0 .runLength)
 
--- src/run/refusals.rt:40:1
 returns : tie.Need-returns
 unfolding nameIn
 returns c = let b = c .before .before .before .before .before .args in

@@ -2,20 +2,14 @@ use Rattle.machine.specs.Run.{runSize}
 use borrow.Author.Needs.{needs}
 use Rattle.machine.proofs.run.start.clear_run.Statement.{statement}
 use Rattle.machine.proofs.run.start.clear_run.Tie as tie
-use Rattle.machine.proofs.run.start.clear_run.Reads as reads
-use Rattle.machine.proofs.run.start.clear_run.Lts as lts
-use Rattle.notation.proofs.put.clear.Reads as clear-reads
 
--- src/run/start.rt:24:5
 clear-requires : tie.Need-clear-requires
 unfolding runSize
 clear-requires c κs = c .before .before .pre
 
--- src/run/start.rt:20:1
 same-length : tie.Need-same-length
 same-length c = search needs
 
--- src/run/start.rt:20:1
 returns : tie.Need-returns
 unfolding runSize
 returns c = c .before .before .clear .ensures

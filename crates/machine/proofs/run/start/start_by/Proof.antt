@@ -8,36 +8,26 @@ use Rattle.machine.proofs.Laws.Given.{may-start}
 use borrow.Author.Needs.{needs}
 use Rattle.machine.proofs.run.start.start_by.Statement.{statement}
 use Rattle.machine.proofs.run.start.start_by.Tie as tie
-use Rattle.machine.proofs.run.start.start_by.Reads as reads
-use Rattle.machine.proofs.run.start.start_by.Lts as lts
-use Rattle.machine.proofs.run.start.start_on.Reads as start-on-reads
-use Rattle.machine.proofs.run.start.start_refusal.Reads as start-refusal-reads
 
--- src/run/start.rt:55:9
 start-refusal-requires : tie.Need-start-refusal-requires
 start-refusal-requires c κs = search needs
 
--- src/run/start.rt:57:9
 same-length : tie.Need-same-length
 same-length c = search needs
 
--- src/run/start.rt:57:9
 returns : tie.Need-returns
 returns c = let b = c .before .before .before .before .before in
     let s = c .before .start-refusal in
     let n : eqb (startRefusal (b .args .a .now) (b .args .run .now)) 0 ≡ false = ne-eqb _ _ (λ z. c .if1 .taken (s .ensures ∙ z)) in
     record { answers = s .ensures; runAfter = rw n; countersAfter = rw n }
 
--- src/run/start.rt:62:5
 start-on-requires : tie.Need-start-on-requires
 start-on-requires c κs = let b = c .before .before .before .before .before .before in
     may-start (b .args .a .now) (b .args .run .now) (sym (c .before .before .start-refusal .ensures) ∙ c .before .if1 .left) .runLength
 
--- src/run/start.rt:52:1
 same-length-2 : tie.Need-same-length-2
 same-length-2 c = search needs
 
--- src/run/start.rt:52:1
 returns-2 : tie.Need-returns-2
 returns-2 c = let b = c .before .before .before .before .before .before .before .before .before in
     let s = c .before .before .before .before .before .start-refusal in

@@ -11,35 +11,24 @@ use Rattle.machine.proofs.Laws.Given.{within-run, started}
 use borrow.Author.Needs.{needs}
 use Rattle.machine.proofs.run.start.start_on.Statement.{statement}
 use Rattle.machine.proofs.run.start.start_on.Tie as tie
-use Rattle.machine.proofs.run.start.start_on.Reads as reads
-use Rattle.machine.proofs.run.start.start_on.Lts as lts
-use Rattle.machine.proofs.run.start.clear_run.Reads as clear-run-reads
-use Rattle.notation.proofs.put.put16.Reads as put16-reads
-use Rattle.notation.proofs.reads.word_at.Reads as word-at-reads
 
--- src/run/start.rt:32:5
 clear-run-requires : tie.Need-clear-run-requires
 clear-run-requires c κs = search needs
 
--- src/run/start.rt:33:21
 add-put16 : tie.Need-add-put16
 add-put16 c = search needs
 
--- src/run/start.rt:33:41
 word-at-requires : tie.Need-word-at-requires
 word-at-requires c κs = search needs
 
--- src/run/start.rt:33:5
 put16-requires : tie.Need-put16-requires
 unfolding rowsAt rowSize stateIn
 put16-requires c κs = let b = c .before .before .before .before .before .before .before .before in
     omega (arith, within-run, c .before .before .before .before .clear-run .kept .0, b .pre)
 
--- src/run/start.rt:28:1
 same-length : tie.Need-same-length
 same-length c = search needs
 
--- src/run/start.rt:28:1
 returns : tie.Need-returns
 unfolding rowsAt rowSize stateIn startAt
 returns c = let b = c .before .before .before .before .before .before .before .before .before .before .before in

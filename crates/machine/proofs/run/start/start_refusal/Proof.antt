@@ -7,30 +7,22 @@ use Rattle.machine.specs.RunCalls.{startRefusal, given}
 use borrow.Author.Needs.{needs}
 use Rattle.machine.proofs.run.start.start_refusal.Statement.{statement}
 use Rattle.machine.proofs.run.start.start_refusal.Tie as tie
-use Rattle.machine.proofs.run.start.start_refusal.Reads as reads
-use Rattle.machine.proofs.run.start.start_refusal.Lts as lts
-use Rattle.machine.proofs.shape.automaton_shaped.Reads as automaton-shaped-reads
 
--- src/run/start.rt:40:9
 returns : tie.Need-returns
 unfolding startRefusal given automatonSize
 returns c = rw (lt-ltb _ _ (c .if1 .taken))
 
--- src/run/start.rt:43:9
 returns-2 : tie.Need-returns-2
 unfolding startRefusal given automatonSize runSize
 returns-2 c = rw (le-ltb _ _ (c .before .if1 .left), lt-ltb _ _ (c .if2 .taken))
 
--- src/run/start.rt:45:8
 automaton-shaped-requires : tie.Need-automaton-shaped-requires
 automaton-shaped-requires c κs = search needs
 
--- src/run/start.rt:46:9
 returns-3 : tie.Need-returns-3
 unfolding startRefusal given automatonSize runSize
 returns-3 c = rw (le-ltb _ _ (c .before .before .before .if1 .left), le-ltb _ _ (c .before .before .if2 .left), sym (c .before .automaton-shaped .ensures) ∙ c .if3 .taken)
 
--- src/run/start.rt:36:1
 returns-4 : tie.Need-returns-4
 unfolding startRefusal given automatonSize runSize
 returns-4 c = rw (le-ltb _ _ (c .before .before .before .if1 .left), le-ltb _ _ (c .before .before .if2 .left), sym (c .before .automaton-shaped .ensures) ∙ c .if3 .left)
