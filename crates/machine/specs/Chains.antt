@@ -3,7 +3,6 @@
 use Prim.Native.Nat.{ℕ, zero, suc, _+_, _*_}
 use mathlib.Core.List.{List}
 use lib.Seq.{sets}
-use Rattle.notation.specs.Names.{Name}
 use Rattle.notation.specs.Layout.{le16}
 use Rattle.notation.specs.Reads.{labelName}
 use Rattle.machine.specs.Automaton.{headsAt, linksAt, linkSize, hash}

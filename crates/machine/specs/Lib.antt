@@ -12,7 +12,9 @@ pub mod Automaton
 pub mod Tables
 pub mod Shape
 pub mod Chains
+pub mod Parents
 pub mod Walkable
+pub mod Fails
 pub mod Bits
 pub mod Chain
 pub mod Run
@@ -20,3 +22,7 @@ pub mod RunCalls
 pub mod Asking
 pub mod Openable
 pub mod RunContracts
+pub mod Demand3
+pub mod Build
+pub mod Masks
+pub mod Compiled

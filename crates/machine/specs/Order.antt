@@ -1,9 +1,10 @@
 -- A call's order of refusals (paper 01: Service codes): the refusal given is the first whose condition holds.
+use Prim.Native.Nat.{ℕ}
 use mathlib.Core.Path.{_≡_}
 use mathlib.Core.Bool.{Bool, true, false, cond}
 use mathlib.Core.Option.{Option, none, some}
 use mathlib.Core.List.{List, [], _∷_, _++_, List·Memᴰ}
-use Rattle.notation.specs.Refusals.{Refusal}
+use Rattle.notation.specs.Refusals.{Refusal, numberOf}
 
 -- a refusal with its condition, tested
 pub data Condition : Type 0 where
@@ -30,3 +31,8 @@ first (gives b r ∷ later) = cond b (some r) (first later)
 abbrev pub isNone : Option Refusal → Bool
 isNone none = true
 isNone (some r) = false
+
+-- a refusal's number, 0 for none
+abbrev pub numberIn : Option Refusal → ℕ
+numberIn none = 0
+numberIn (some r) = numberOf r

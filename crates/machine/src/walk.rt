@@ -44,8 +44,8 @@ pub fn goto_state(a: &[u8], q: usize, e: &[u8], h: usize) -> usize
     0
 }
 
-// The state of the failure move from state `q`, a label's.
-fn fail_of(a: &[u8], q: usize) -> usize
+// The state of the failure move from state `q`.
+pub fn fail_of(a: &[u8], q: usize) -> usize
     requires { ⌜ q ≤ 65536 ⌝ }
     ensures { λ r. ⌜ r ≡ failOf (now (a .entry)) q ⌝ }
 {

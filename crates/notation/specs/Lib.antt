@@ -13,6 +13,7 @@ pub mod Reads
 pub mod Emit
 pub mod Put
 pub mod ReadSet
+pub mod WriteText
 pub mod Fit
 pub mod Activity
 pub mod FitTable

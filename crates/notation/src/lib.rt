@@ -7,6 +7,7 @@ pub mod put;
 pub mod read;
 pub mod reads;
 pub mod scan;
+pub mod write;
 
 // A path's place: its index among all paths of the set.
 pub struct PathPlace(pub usize);

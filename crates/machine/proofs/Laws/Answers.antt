@@ -11,7 +11,7 @@ use Rattle.notation.specs.Names.{Name, nameForm, tooLong}
 use Rattle.notation.specs.Sets.{FolderSet}
 use Rattle.notation.specs.Fit.{Active}
 use Rattle.notation.specs.Activity.{active}
-use Rattle.notation.proofs.Laws.Fit.{active-is}
+use Rattle.notation.proofs.Laws.Meaning.Fit.{active-is}
 use Rattle.machine.specs.Limits.{maxDepth, maxOpens}
 use Rattle.machine.specs.Prefix.{CurrentPrefix, prefixOf}
 use Rattle.machine.specs.Calls.{asLeft, Call, openCall, State, openNames, depth, pathAt, activeStep, fresh, opened, after, run}

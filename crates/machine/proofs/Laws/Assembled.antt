@@ -1,7 +1,7 @@
 -- The bytes of an automaton in the making: a set's bytes with any heads, links, masks and initial state. What is stored is read back, and a
 -- store into one of them gives the bytes with that one changed.
-use Prim.Native.Nat.{ℕ, zero, suc, _+_, _-_, _*_, _≤_, _<_}
-use native.Mathlib.Nat.{zero-add, add-zero, mul-le-mul-left}
+use Prim.Native.Nat.{ℕ, _+_, _-_, _*_, _≤_, _<_}
+use native.Mathlib.Nat.{add-zero, mul-le-mul-left}
 use native.Mathlib.Omega.{arith}
 use mathlib.Core.Path.{_≡_, refl, sym, ap, _∙_}
 use mathlib.Core.List.{List, [], _∷_, _++_, map, append-assoc, append-nil}
@@ -12,12 +12,12 @@ use Rattle.notation.specs.Sets.{FolderSet}
 use Rattle.notation.specs.Print.{print}
 use Rattle.notation.specs.Layout.{setSize, setPart, tablesOf, le16, joined, padded}
 use Rattle.notation.specs.Reads.{word16}
-use Rattle.notation.proofs.Laws.Stands.{Stands, itself, left, right, read}
-use Rattle.notation.proofs.Laws.Sections.{layout-length}
-use Rattle.notation.proofs.Laws.Padded.{length-padded}
-use Rattle.notation.proofs.Laws.Entries.{OfWidth, map-width, map-at, joined-length, entry}
-use Rattle.notation.proofs.Laws.Fitting.{Fitting, roomy}
-use Rattle.notation.proofs.Laws.Words.{word-read, words-read, words-head}
+use Rattle.notation.proofs.Laws.Stored.Stands.{Stands, left, right, read}
+use Rattle.notation.proofs.Laws.Stored.Sections.{layout-length}
+use Rattle.notation.proofs.Laws.Fill.Padded.{length-padded}
+use Rattle.notation.proofs.Laws.Stored.Entries.{map-width, map-at, joined-length, entry}
+use Rattle.notation.proofs.Laws.Refused.Fitting.{Fitting, roomy}
+use Rattle.notation.proofs.Laws.Stored.Words.{word-read, words-read, words-head}
 use Rattle.machine.specs.Automaton.{hashes, linkSize, maskSize, headsAt, linksAt, masksAt, startAt, automatonSize, Link, link, linkEntry, headBytes, linkBytes, assembled}
 use Rattle.machine.specs.Tables.{headAt, nextAt, parentAt, failAt, sizeAt, startOf}
 use Rattle.machine.proofs.Laws.Stores.{sets-left, past, sets-whole, sets-table, set-map, zeros, zero-entries, zeros-padded}

@@ -1,35 +1,13 @@
--- The bits of a byte and of a row of bytes are those it was packed from; a tabulated list by its elements.
+-- The bits of a byte and of a row of bytes are those it was packed from.
 use Prim.Native.Nat.{ℕ, zero, suc, _+_, _*_, _/_, _%_, _^_, _≤_, _<_}
-use mathlib.Core.Path.{_≡_, refl, sym, _∙_, ap}
+use mathlib.Core.Path.{_≡_, refl, _∙_, ap}
 use mathlib.Core.Bool.{Bool, true, false}
-use mathlib.Core.List.{List, [], _∷_, _++_}
 use native.Mathlib.Omega.{arith}
-use borrow.Author.Tests.{eqb-true, eqb-false}
 use lib.Dec.{eqb}
-use lib.ListN.{length, getD, length-append, List·getD-append}
-use lib.Seq.{getD-at}
+use lib.ListN.{getD}
 use Rattle.machine.specs.Bits.{bitOf}
-use Rattle.machine.specs.Automaton.{tabulate, bit, packed, byteOf, bitBytes}
-use Rattle.machine.proofs.Laws.Basics.{cases}
-
-pub tabulate-length : (f : ℕ → ℕ) (n : ℕ) → length (tabulate f n) ≡ n
-unfolding tabulate
-tabulate-length f zero = refl
-tabulate-length f (suc n) = omega (arith, length-append (tabulate f n) (f n ∷ []), tabulate-length f n)
-
-pub tabulate-at : (f : ℕ → ℕ) (n i : ℕ) → i < n → getD (tabulate f n) i 0 ≡ f i
-unfolding tabulate
-tabulate-at f zero i h = absurd (omega arith)
-tabulate-at f (suc n) i h = cases (eqb i n) last (before (tabulate-at f n i))
-  where
-    last : eqb i n ≡ true → getD (tabulate f n ++ (f n ∷ [])) i 0 ≡ f i
-    last t = rw (eqb-true i n t) (getD-at (tabulate f n) (f n) [] 0 n (tabulate-length f n))
-
-    before : (i < n → getD (tabulate f n) i 0 ≡ f i) → eqb i n ≡ false → getD (tabulate f n ++ (f n ∷ [])) i 0 ≡ f i
-    before ih t =
-        let ne : i ≡ n → ⊥ = eqb-false i n t in
-        let k : i < n = omega arith in
-        List·getD-append (tabulate f n) (f n ∷ []) 0 i (omega (arith, tabulate-length f n)) ∙ ih k
+use Rattle.machine.specs.Automaton.{bit, packed, byteOf, bitBytes}
+use Rattle.machine.proofs.Laws.Tabulate.{tabulate-at}
 
 pub bit-small : (b : Bool) → bit b ≤ 1
 bit-small true = omega arith

@@ -6,7 +6,7 @@ use mathlib.Core.List.{List, [], _∷_, List·Memᴰ, List·Memᴰ·head, List·
 use borrow.Author.Tests.{leb-false, lt-leb, not-false}
 use Rattle.notation.specs.Names.{Name, nameForm, tooLong}
 use Rattle.notation.specs.Sets.{FolderSet}
-use Rattle.notation.proofs.Laws.Fit.{sameName-is}
+use Rattle.notation.proofs.Laws.Meaning.Fit.{sameName-is}
 use Rattle.machine.specs.Limits.{maxDepth, maxOpens}
 use Rattle.machine.specs.Words.{Word}
 use Rattle.machine.specs.Order.{Condition, holds, first}

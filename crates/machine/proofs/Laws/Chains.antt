@@ -1,26 +1,23 @@
 -- The pass that makes the chains leaves the heads and the next fields of the definition.
-use Prim.Native.Nat.{ℕ, zero, suc, _+_, _*_, _%_, _≤_, _<_}
+use Prim.Native.Nat.{ℕ, zero, suc, _+_, _*_, _≤_, _<_}
 use native.Mathlib.Nat.{le-refl}
 use native.Mathlib.Numerals.{add-one}
 use native.Mathlib.Omega.{arith}
 use mathlib.Core.Path.{_≡_, refl, sym, ap, _∙_}
-use mathlib.Core.Bool.{Bool, true, false, cond}
 use mathlib.Core.List.{List, [], _∷_, _++_, append-assoc, append-nil}
-use lib.Dec.{eqb}
 use borrow.Author.Tests.{eq-eqb, ne-eqb}
-use lib.ListN.{length, getD, set, take, drop, replicate, length-append, take-append-drop, length-take, length-drop, length-set}
-use lib.Seq.{sets, take-suc, drop-cons, take-all, drop-length, take-length, getD-at, set-at, length-take-le}
+use lib.ListN.{length, getD, set, take, drop, replicate, length-append, take-append-drop, length-drop, length-set}
+use lib.Seq.{sets, take-suc, drop-cons, drop-length, take-length, getD-at, set-at, length-take-le}
 use Rattle.notation.specs.Names.{Name}
 use Rattle.notation.specs.Limits.{maxLabels}
 use Rattle.notation.specs.Sets.{FolderSet}
 use Rattle.notation.specs.Layout.{le16}
-use Rattle.notation.specs.Reads.{labelName}
-use Rattle.notation.proofs.Laws.Fitting.{Fitting}
-use Rattle.machine.specs.Automaton.{hashes, maskSize, headsAt, linksAt, linkSize, hash, hashFrom, find, allLabels, hasHash, tabulate, heads, nexts, Link, link, assembled}
-use Rattle.machine.specs.Tables.{headAt}
+use Rattle.notation.proofs.Laws.Refused.Fitting.{Fitting}
+use Rattle.machine.specs.Automaton.{hashes, maskSize, headsAt, linksAt, linkSize, hash, find, allLabels, hasHash, tabulate, heads, nexts, Link, assembled}
 use Rattle.machine.specs.Chains.{linkedBy, linked, chained}
 use Rattle.machine.proofs.Laws.Tabulate.{find-below, tabulate-length, tabulate-at, tabulate-set, tabulate-constant}
-use Rattle.machine.proofs.Laws.Assembled.{nextOf, withNext, noLink, Sized, head-read, head-put, next-put}
+use Rattle.machine.proofs.Laws.Goto.{hash-small}
+use Rattle.machine.proofs.Laws.Assembled.{withNext, noLink, Sized, head-read, head-put, next-put}
 use Rattle.machine.proofs.Laws.SetReads.{label-bytes}
 
 -- links with these next fields
@@ -34,16 +31,6 @@ unfolding withNexts
 length-withNexts [] ls = refl
 length-withNexts (v ∷ vs) [] = refl
 length-withNexts (v ∷ vs) (k ∷ ls) = ap suc (length-withNexts vs ls)
-
--- a hash is small
-hash-below : (h : ℕ) (n : Name) → h < hashes → hashFrom h n < hashes
-unfolding hashFrom hashes
-hash-below h [] k = k
-hash-below h (b ∷ n) k = hash-below ((31 * h + b) % 256) n (omega arith)
-
-pub hash-small : (n : Name) → hash n < hashes
-unfolding hashes
-hash-small n = hash-below 0 n (omega arith)
 
 -- the heads with only the labels from k on
 abbrev headFrom : List Name → ℕ → ℕ → ℕ

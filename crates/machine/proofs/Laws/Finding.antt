@@ -1,9 +1,9 @@
 -- What `find` finds: the first element that passes, and 0 where none does.
-use Prim.Native.Nat.{ℕ, zero, suc, _+_, _≤_, _<_}
+use Prim.Native.Nat.{ℕ, suc, _+_, _≤_, _<_}
 use mathlib.Core.Path.{_≡_, refl, sym, _∙_, ap}
-use mathlib.Core.Bool.{Bool, true, false, cond}
+use mathlib.Core.Bool.{Bool, true, false}
 use mathlib.Core.Logic.{_⊎_, inl, inr}
-use mathlib.Core.List.{List, [], _∷_, _++_, List·Memᴰ, List·Memᴰ·head, List·Memᴰ·tail, List·Memᴰ·not-nil, List·Memᴰ·cases-cons}
+use mathlib.Core.List.{List, [], _∷_, List·Memᴰ, List·Memᴰ·head, List·Memᴰ·tail, List·Memᴰ·not-nil, List·Memᴰ·cases-cons}
 use native.Mathlib.Omega.{arith}
 use lib.ListN.{length, getD}
 use Rattle.machine.specs.Automaton.{find}
@@ -44,10 +44,6 @@ find-range test k (a ∷ l) = cases (test a) here (later (find-range test (suc k
 
     later : Ranged (suc k) (length l) (find test (suc k) l) → test a ≡ false → Ranged k (length (a ∷ l)) (find test k (a ∷ l))
     later r h = rw (find-later test k a l h) (wider r)
-
-pub range-below : (k n p : ℕ) → Ranged k n p → p ≤ k + n
-range-below k n p (nowhere e) = omega arith
-range-below k n p (somewhere a b) = omega arith
 
 -- the element of a place passes, and p is that place counted from k
 pub record FoundAt {A : Type 0} (test : A → Bool) (d : A) (l : List A) (k p : ℕ) : Type 0 where

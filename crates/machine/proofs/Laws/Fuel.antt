@@ -1,37 +1,21 @@
 -- The walk over an automaton's tables, turn by turn: the bounds in its definitions on how far to look are enough where the tables are
 -- walkable, so that they never show.
-use Prim.Native.Nat.{ℕ, zero, suc, _+_, _*_, _%_, _≤_, _<_}
+use Prim.Native.Nat.{ℕ, zero, suc, _+_, _≤_, _<_}
 use mathlib.Core.Path.{_≡_, refl, sym, _∙_, ap}
-use mathlib.Core.Bool.{Bool, true, false, not, _&&_, cond}
-use mathlib.Core.List.{List, [], _∷_}
-use native.Mathlib.Nat.{mod-lt}
+use mathlib.Core.Bool.{not, _&&_, cond}
+use mathlib.Core.List.{List}
 use native.Mathlib.Omega.{arith}
-use lib.Dec.{eqb, eqb·suc-zero}
+use lib.Dec.{eqb}
 use borrow.Author.Tests.{eqb-true, eqb-false, eq-eqb, ne-eqb}
 use Rattle.notation.specs.Names.{Name}
 use Rattle.notation.specs.Limits.{maxSteps, maxLabels}
 use Rattle.notation.specs.Reads.{labelCount}
-use Rattle.machine.specs.Automaton.{hashes, hash, hashFrom}
-use Rattle.machine.specs.Tables.{headAt, nextAt, failAt, sizeAt, sizeOf, failOf, follows, gotoFrom, goto, oneMore, walkFrom, walkOver}
+use Rattle.machine.specs.Automaton.{hash}
+use Rattle.machine.specs.Tables.{headAt, nextAt, sizeOf, failOf, follows, gotoFrom, goto, oneMore, walkFrom, walkOver}
 use Rattle.machine.specs.Walkable.{Searchable, Falling, Walkable}
 use Rattle.machine.specs.declared.walk.Walk.{Walk}
-use Rattle.machine.proofs.Laws.Basics.{cases, clash}
-
--- a hash is one of the heads'
-hash-from : (h : ℕ) (n : Name) → h < hashes → hashFrom h n < hashes
-unfolding hashFrom hashes
-hash-from h [] l = l
-hash-from h (b ∷ n) l = hash-from ((31 * h + b) % 256) n (mod-lt (31 * h + b) (omega arith))
-
-pub hash-below : (n : Name) → hash n < hashes
-unfolding hashes
-hash-below n = hash-from 0 n (omega arith)
-
--- the search of a chain that has ended
-pub goto-none : (more : ℕ) (a : List ℕ) (q : ℕ) (e : Name) → gotoFrom more a q e 0 ≡ 0
-unfolding gotoFrom
-goto-none zero a q e = refl
-goto-none (suc more) a q e = refl
+use Rattle.machine.proofs.Laws.Basics.{cases}
+use Rattle.machine.proofs.Laws.Goto.{hash-small, goto-end}
 
 module _ (a : List ℕ) (c : Searchable a) (q : ℕ) (e : Name) where
   enough : (m n l : ℕ) → l < labelCount a → labelCount a ≤ m + l → labelCount a ≤ n + l → gotoFrom m a q e (suc l) ≡ gotoFrom n a q e (suc l)
@@ -41,7 +25,7 @@ module _ (a : List ℕ) (c : Searchable a) (q : ℕ) (e : Name) where
   enough (suc m) (suc n) l i g h = ap (cond (follows a q e l) (suc (suc l))) (go (nextAt a l) refl (λ k. enough m n k))
     where
       go : (k : ℕ) → nextAt a l ≡ k → ((j : ℕ) → j < labelCount a → labelCount a ≤ m + j → labelCount a ≤ n + j → gotoFrom m a q e (suc j) ≡ gotoFrom n a q e (suc j)) → gotoFrom m a q e (nextAt a l) ≡ gotoFrom n a q e (nextAt a l)
-      go zero p f = rw p (goto-none m a q e ∙ sym (goto-none n a q e))
+      go zero p f = rw p (goto-end m a q e ∙ sym (goto-end n a q e))
       go (suc k) p f =
           let b : l < k = c .later l k i p in
           let t : suc k ≤ labelCount a = rw p at (c .next l i) in
@@ -61,9 +45,9 @@ module _ (a : List ℕ) (c : Searchable a) (q : ℕ) (e : Name) where
 
   pub goto-state : goto a q e ≤ suc (labelCount a)
   unfolding goto
-  goto-state = goto-within maxLabels (headAt a (hash e)) (c .head (hash e) (hash-below e))
+  goto-state = goto-within maxLabels (headAt a (hash e)) (c .head (hash e) (hash-small e))
 
--- the walk: its moves are bounded by the length of the word that it starts from
+-- a failure move leads to a state
 pub fail-state : (a : List ℕ) → Falling a → (q : ℕ) → q ≤ suc (labelCount a) → failOf a q ≤ suc (labelCount a)
 unfolding failOf
 fail-state a f zero h = omega arith
@@ -77,6 +61,7 @@ size-within a f zero h = omega arith
 size-within a f (suc zero) h = omega arith
 size-within a f (suc (suc l)) h = f .size l (omega arith)
 
+-- of a shorter word
 pub fail-shorter : (a : List ℕ) → Falling a → (q : ℕ) → q ≤ suc (labelCount a) → (q ≡ 0 → ⊥) → sizeOf a (failOf a q) < sizeOf a q
 unfolding sizeOf failOf
 fail-shorter a f zero h z = absurd (z refl)

@@ -1,13 +1,13 @@
 -- The chains and `goto` over the stored tables: a name's chain has the labels of its hash in order, and goto finds the state of the word with
 -- one symbol more. The tables are any that hold the heads, names and next labels of the set; parents need to be there only as far as goto looks.
 use Prim.Native.Nat.{ℕ, zero, suc, _+_, _*_, _%_, _≤_, _<_}
-use mathlib.Core.Path.{_≡_, refl, sym, _∙_, ap, ap₂, subst}
-use mathlib.Core.Bool.{Bool, true, false, not, _&&_, cond}
+use mathlib.Core.Path.{_≡_, refl, sym, _∙_, ap, ap₂}
+use mathlib.Core.Bool.{Bool, true, false}
 use mathlib.Core.Logic.{_⊎_, inl, inr}
-use mathlib.Core.List.{List, [], _∷_, _++_}
+use mathlib.Core.List.{List, [], _∷_}
 use native.Mathlib.Nat.{mod-lt, add-zero}
 use native.Mathlib.Omega.{arith}
-use borrow.Author.Tests.{eqb-true, eqb-false, eq-eqb, ne-eqb}
+use borrow.Author.Tests.{eqb-true, eqb-false, eq-eqb}
 use lib.Dec.{eqb}
 use lib.ListN.{length, getD, drop}
 use lib.Seq.{drop-cons}
@@ -67,13 +67,13 @@ same-test true false f g = sym (f refl)
 same-test false true f g = g refl
 same-test false false f g = refl
 
-past-end : {A : Type 0} (l : List A) (j : ℕ) → length l ≤ j → drop j l ≡ []
+pub past-end : {A : Type 0} (l : List A) (j : ℕ) → length l ≤ j → drop j l ≡ []
 past-end [] zero h = refl
 past-end [] (suc j) h = refl
 past-end (x ∷ l) zero h = absurd (omega arith)
 past-end (x ∷ l) (suc j) h = past-end l j (omega arith)
 
-goto-end : (more : ℕ) (a : List ℕ) (q : ℕ) (e : Name) → gotoFrom more a q e 0 ≡ 0
+pub goto-end : (more : ℕ) (a : List ℕ) (q : ℕ) (e : Name) → gotoFrom more a q e 0 ≡ 0
 unfolding gotoFrom
 goto-end zero a q e = refl
 goto-end (suc more) a q e = refl

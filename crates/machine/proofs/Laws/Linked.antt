@@ -1,33 +1,31 @@
 -- Bytes with the heads, next labels and parents of a set hold its chains and its words.
-use Prim.Native.Nat.{ℕ, zero, suc, _+_, _*_, _≤_, _<_}
-use mathlib.Core.Path.{_≡_, refl, sym, _∙_, ap, subst}
-use mathlib.Core.List.{List, [], _∷_, _++_}
+use Prim.Native.Nat.{ℕ, suc, _+_, _≤_, _<_}
+use mathlib.Core.Path.{_≡_, _∙_}
+use mathlib.Core.List.{List, [], _++_}
 use native.Mathlib.Omega.{arith}
 use lib.ListN.{length, getD, drop, length-drop}
 use Rattle.notation.specs.Names.{Name}
 use Rattle.notation.specs.Limits.{maxLabels}
 use Rattle.notation.specs.Sets.{FolderSet}
-use Rattle.notation.specs.Layout.{setPart}
 use Rattle.notation.specs.Reads.{labelName}
-use Rattle.notation.proofs.Laws.Fitting.{Fitting}
-use Rattle.notation.proofs.Laws.ReadPaths.{LabelRead, label-read}
-use Rattle.machine.specs.Automaton.{hashes, hash, find, allLabels, allWords, stateOf, shortened, hasHash, headOf, heads, nexts, Link, assembled}
-use Rattle.machine.specs.Tables.{headAt, nextAt, parentAt}
+use Rattle.notation.proofs.Laws.Refused.Fitting.{Fitting}
+use Rattle.notation.proofs.Laws.Stored.ReadPaths.{label-read}
+use Rattle.machine.specs.Automaton.{hashes, hash, allLabels, allWords, stateOf, shortened, hasHash, headOf, heads, nexts, Link, assembled}
+use Rattle.machine.specs.Tables.{parentAt}
 use Rattle.machine.proofs.Laws.Assembled.{Sized, noLink, nextOf, parentOf, after-set, head-read, next-read, parent-read}
-use Rattle.machine.proofs.Laws.Bits.{tabulate-at}
-use Rattle.machine.proofs.Laws.Finding.{find-range, range-below}
+use Rattle.machine.proofs.Laws.Tabulate.{find-below, tabulate-at}
 use Rattle.machine.proofs.Laws.States.{label-parent, state-within}
 use Rattle.machine.proofs.Laws.Goto.{Chained, Linked, next-at}
 
 head-small : (names : List Name) (h : ℕ) → headOf names h ≤ suc (length names)
-head-small names h = omega (arith, range-below 1 (length names) (headOf names h) (find-range (hasHash h) 1 names))
+head-small names h = omega (arith, find-below (hasHash h) 1 names)
 
 next-small : (names : List Name) (l : ℕ) → l < length names → getD (nexts 0 names) l 0 ≤ suc (length names)
 next-small names l h =
-    let r = range-below (suc (suc (0 + l))) (length (drop (suc l) names)) (find (hasHash (hash (getD names l []))) (suc (suc (0 + l))) (drop (suc l) names)) (find-range (hasHash (hash (getD names l []))) (suc (suc (0 + l))) (drop (suc l) names)) in
-    omega (arith, next-at 0 names l h, length-drop (suc l) names, r)
+    omega (arith, next-at 0 names l h, length-drop (suc l) names, find-below (hasHash (hash (getD names l []))) (suc (suc (0 + l))) (drop (suc l) names))
 
-small : (n v : ℕ) → n ≤ maxLabels → v ≤ suc n → v < 65536
+-- such numbers fit two bytes
+pub small : (n v : ℕ) → n ≤ maxLabels → v ≤ suc n → v < 65536
 unfolding maxLabels
 small n v h k = omega arith
 

@@ -12,7 +12,7 @@ use Rattle.notation.specs.Names.{Name}
 use Rattle.notation.specs.Sets.{Path, FolderSet}
 use Rattle.notation.specs.Form.{pathsOf}
 use Rattle.notation.specs.Activity.{fits}
-use Rattle.notation.proofs.Laws.Fit.{fits-is}
+use Rattle.notation.proofs.Laws.Meaning.Fit.{fits-is}
 use Rattle.machine.specs.Calls.{asLeft, otherwise, Call, openCall, closeCall, Level, level, State, openNames, pathAt, fresh, opened, closedFrom, accepted, done, step, after, run}
 use Rattle.machine.specs.History.{FittedAfterOpen}
 use Rattle.machine.proofs.Laws.Basics.{cases, clash, either, or-left, or-right}

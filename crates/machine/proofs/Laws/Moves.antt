@@ -10,18 +10,19 @@ use Rattle.machine.proofs.Laws.Walk.{walk-moves}
 use Rattle.machine.proofs.Laws.Calls.{Openable, Closable, always}
 use Rattle.machine.proofs.Laws.Sound.{Sound, fresh-sound, open-sound, close-sound, current-length}
 
-abbrev Few : FolderSet → State → List Call → Type 0
+-- what every list of calls keeps, with the bound
+abbrev pub Few : FolderSet → State → List Call → Type 0
 Few set s h = Sound set s × (s .moves ≤ maxDepth * s .opens)
 
-fresh-few : (set : FolderSet) → Few set (fresh set) []
+pub fresh-few : (set : FolderSet) → Few set (fresh set) []
 unfolding fresh maxDepth
 fresh-few set = (fresh-sound set, omega arith)
 
-open-few : (set : FolderSet) (s : State) (h : List Call) (e : Name) → Openable s e → Few set s h → Few set (opened set s e) (openCall asLeft e ∷ h)
+pub open-few : (set : FolderSet) (s : State) (h : List Call) (e : Name) → Openable s e → Few set s h → Few set (opened set s e) (openCall asLeft e ∷ h)
 unfolding opened maxDepth
 open-few set s h e o f = (open-sound set s e o (f .0), omega (arith, walk-moves set (s .current) e, current-length set s (f .0), o .shallow, f .1))
 
-close-few : (set : FolderSet) (s : State) (h : List Call) (e : Name) (c : Closable s e) → Few set s h → Sound set (closedFrom (level e (c .before) ∷ c .outer) s) × (closedFrom (level e (c .before) ∷ c .outer) s .moves ≤ maxDepth * closedFrom (level e (c .before) ∷ c .outer) s .opens)
+pub close-few : (set : FolderSet) (s : State) (h : List Call) (e : Name) (c : Closable s e) → Few set s h → Sound set (closedFrom (level e (c .before) ∷ c .outer) s) × (closedFrom (level e (c .before) ∷ c .outer) s .moves ≤ maxDepth * closedFrom (level e (c .before) ∷ c .outer) s .opens)
 unfolding closedFrom
 close-few set s h e c f = (close-sound set s e c (f .0), f .1)
 

@@ -1,18 +1,18 @@
 -- What is read of the set is read of an automaton in the making: its labels and steps.
-use Prim.Native.Nat.{ℕ, _<_, _≤_}
-use mathlib.Core.Path.{_≡_, sym, ap, subst}
+use Prim.Native.Nat.{ℕ, _<_}
+use mathlib.Core.Path.{_≡_, sym, subst}
 use mathlib.Core.List.{List, [], _++_}
 use lib.ListN.{length, getD}
 use Rattle.notation.specs.Print.{print}
 use Rattle.notation.specs.Sets.{FolderSet, axisOf, testOf}
 use Rattle.notation.specs.Layout.{setPart}
-use Rattle.notation.specs.Reads.{labelCount, labelName, stepAt, isDescendant, isStar}
+use Rattle.notation.specs.Reads.{stepCount, labelCount, labelName, stepAt, isDescendant, isStar}
 use Rattle.notation.specs.declared.reads.StepAt.{StepAt}
-use Rattle.notation.proofs.Laws.LabelTable.{noStep}
-use Rattle.notation.proofs.Laws.Fitting.{Fitting}
-use Rattle.notation.proofs.Laws.Reads.{labels-read}
-use Rattle.notation.proofs.Laws.ReadSteps.{step-read}
-use Rattle.notation.proofs.Laws.ReadPaths.{LabelRead, label-read}
+use Rattle.notation.proofs.Laws.Stored.LabelTable.{noStep}
+use Rattle.notation.proofs.Laws.Refused.Fitting.{Fitting}
+use Rattle.notation.proofs.Laws.Stored.Reads.{steps-read, labels-read}
+use Rattle.notation.proofs.Laws.Stored.ReadSteps.{step-read}
+use Rattle.notation.proofs.Laws.Stored.ReadPaths.{LabelRead, label-read}
 use Rattle.machine.specs.Automaton.{Link, allSteps, allLabels, assembled}
 use Rattle.machine.proofs.Laws.Assembled.{after-set}
 
@@ -23,6 +23,9 @@ module _ (s : FolderSet) (fit : Fitting s) (hs : List ℕ) (ls : List Link) (ms 
 
   pub label-count : labelCount (assembled s hs ls ms f ++ rest) ≡ length (allLabels s)
   label-count = of-set (λ a. labelCount a ≡ length (allLabels s)) (labels-read s fit)
+
+  pub step-count : stepCount (assembled s hs ls ms f ++ rest) ≡ length (allSteps s)
+  step-count = of-set (λ a. stepCount a ≡ length (allSteps s)) (steps-read s fit)
 
   pub label-entry : (l : ℕ) → l < length (allLabels s) → LabelRead (assembled s hs ls ms f ++ rest) (print s) (allSteps s) l (getD (allLabels s) l [])
   label-entry l h = of-set (λ a. LabelRead a (print s) (allSteps s) l (getD (allLabels s) l [])) (λ more. label-read s fit more l h)

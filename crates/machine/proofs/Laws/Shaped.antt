@@ -1,13 +1,13 @@
 -- The shape test by its facts: what holds of the stored numbers of an automaton exactly if it passes.
 use Prim.Native.Nat.{ℕ, zero, suc, _+_, _*_, _≤_, _<_}
-use mathlib.Core.Path.{_≡_, refl, sym, _∙_, ap}
-use mathlib.Core.Bool.{Bool, true, false, _&&_, _||_}
-use mathlib.Core.Logic.{_⊎_, inl, inr}
+use mathlib.Core.Path.{_≡_, refl}
+use mathlib.Core.Bool.{Bool, true, _&&_, _||_}
+use mathlib.Core.Logic.{inl, inr}
 use mathlib.Core.List.{List}
 use native.Mathlib.Omega.{arith}
 use lib.Dec.{leb, ltb, eqb}
 use lib.ListN.{getD}
-use borrow.Author.Tests.{leb-true, le-leb, ltb-true, lt-ltb, eqb-true, eq-eqb}
+use borrow.Author.Tests.{leb-true, le-leb, ltb-true, lt-ltb, eqb-true}
 use Rattle.notation.specs.Names.{within}
 use Rattle.notation.specs.Limits.{maxName, maxSetBytes, maxNumber, maxPaths, maxSteps, maxLabels}
 use Rattle.notation.specs.Layout.{stepsAt}
@@ -15,8 +15,8 @@ use Rattle.notation.specs.Reads.{word16, textLen, folderCount, pathCount, stepC
 use Rattle.machine.specs.Automaton.{hashes}
 use Rattle.machine.specs.Tables.{headAt, nextAt, parentAt, failAt, sizeAt, startOf, sizeOf}
 use Rattle.machine.specs.Shape.{allBelow, countsShaped, folderShaped, pathShaped, stepShaped, labelShaped, headShaped, linkShaped, automatonShaped}
-use Rattle.machine.specs.Walkable.{Searchable, Falling, Walkable}
-use Rattle.machine.proofs.Laws.Basics.{both, both-true, either, or-left, or-right}
+use Rattle.machine.specs.Walkable.{Walkable}
+use Rattle.machine.proofs.Laws.Basics.{both, both-true, either, or-right}
 use Rattle.machine.proofs.Laws.AllBelow.{all-at, is-all}
 
 pub record Counts (a : List ℕ) : Type 0 where

@@ -118,8 +118,11 @@ kept-formed (level a w ∷ outer) (more f l p k) n m = elim (List·Memᴰ·cases
 ]
 
 -- each open name has name form and is not too long
+pub sound-names : (set : FolderSet) (s : State) → Sound set s → (n : Name) → List·Memᴰ n (openNames s) → (nameForm n ≡ true) × (tooLong n ≡ false)
+sound-names set s g n m = kept-formed (s .levels) (g .kept) n (mem-reverse (map nameOf (s .levels)) m)
+
 pub run-names : (set : FolderSet) (calls : List Call) (n : Name) → List·Memᴰ n (openNames (run set calls)) → (nameForm n ≡ true) × (tooLong n ≡ false)
-run-names set calls n m = let s = run set calls in kept-formed (s .levels) (sound set calls .kept) n (mem-reverse (map nameOf (s .levels)) m)
+run-names set calls n m = sound-names set (run set calls) (sound set calls) n m
 
 pub run-name-length : (set : FolderSet) (calls : List Call) (n : Name) → List·Memᴰ n (openNames (run set calls)) → length n ≤ maxName
 run-name-length set calls n m = omega (arith, leb-false (suc maxName) (length n) (run-names set calls n m .1))

@@ -1,23 +1,23 @@
 -- The states of words: each word that begins a keyword has a state of its own, which says where it stands among the labels' words.
-use Prim.Native.Nat.{ℕ, zero, suc, _+_, _≤_, _<_}
+use Prim.Native.Nat.{ℕ, zero, suc, _≤_, _<_}
 use mathlib.Core.Path.{_≡_, refl, sym, _∙_, ap, ap₂, subst}
-use mathlib.Core.Bool.{Bool, true, false, _&&_}
+use mathlib.Core.Bool.{true, false}
 use mathlib.Core.Logic.{_⊎_, inl, inr}
-use mathlib.Core.List.{List, [], _∷_, _++_, cons≢nil, tail-eq-of-cons-eq, head-eq-of-cons-eq, List·Memᴰ, List·Memᴰ·head, List·Memᴰ·tail, List·Memᴰ·not-nil, List·Memᴰ·cases-cons, List·Memᴰ·append-cases, Memᴰ·append-left, Memᴰ·append-right, Memᴰ·cast}
+use mathlib.Core.List.{List, [], _∷_, _++_, tail-eq-of-cons-eq, head-eq-of-cons-eq, List·Memᴰ, List·Memᴰ·head, List·Memᴰ·tail, List·Memᴰ·not-nil, List·Memᴰ·cases-cons, List·Memᴰ·append-cases, Memᴰ·append-left, Memᴰ·append-right, Memᴰ·cast}
 use native.Mathlib.Omega.{arith}
 use lib.ListN.{length, getD, length-append}
 use Rattle.notation.specs.Names.{Name}
-use Rattle.notation.specs.Sets.{child, descendant, label, star, Step, step, Path, FolderSet}
+use Rattle.notation.specs.Sets.{child, descendant, label, star, step, Path, FolderSet}
 use Rattle.notation.specs.Form.{pathsOf, stepsOf, labelsOf}
-use Rattle.notation.proofs.Laws.TableSizes.{labels-append}
-use Rattle.machine.specs.Words.{Symbol, document, name, Word, sameSymbol, before, labelWords, Begins, begins}
+use Rattle.notation.proofs.Laws.Scan.TableSizes.{labels-append}
+use Rattle.machine.specs.Words.{document, name, Word, sameSymbol, before, labelWords, Begins, begins}
 use Rattle.machine.specs.Prefix.{IsPrefix}
 use Rattle.machine.specs.Walk.{followedBy}
-use Rattle.machine.specs.Automaton.{find, allSteps, allLabels, wordsIn, allWords, sameWord, stateIn, stateOf, shortened}
+use Rattle.machine.specs.Automaton.{find, allLabels, wordsIn, allWords, sameWord, stateIn, stateOf, shortened}
 use Rattle.machine.proofs.Laws.Basics.{both, both-true, cases, clash}
 use Rattle.machine.proofs.Laws.Words.{same-symbol, symbol-same, begins-is, is-begins, begins-shorter}
 use Rattle.machine.proofs.Laws.Labels.{LabelWord, begins-label, Kind, empty, root, labelled, begins-kind}
-use Rattle.machine.proofs.Laws.Finding.{find-none, FoundAt, find-some}
+use Rattle.machine.proofs.Laws.Finding.{find-none, find-some}
 
 pub same-word : (u v : Word) → sameWord u v ≡ true → u ≡ v
 unfolding sameWord
@@ -105,7 +105,7 @@ label-among s l = words-in (pathsOf s) (l .ofSet) (l .atLabel)
 pub among-label : (s : FolderSet) {u : Word} → List·Memᴰ u (allWords s) → LabelWord s u
 among-label s m = let r = words-of (pathsOf s) m in record { path = r .0; ofSet = r .1; atLabel = r .2 }
 
-at-among : {A : Type 0} (ws : List A) (d : A) (l : ℕ) → l < length ws → List·Memᴰ (getD ws l d) ws
+pub at-among : {A : Type 0} (ws : List A) (d : A) (l : ℕ) → l < length ws → List·Memᴰ (getD ws l d) ws
 at-among [] d l h = absurd (omega arith)
 at-among (w ∷ ws) d zero h = List·Memᴰ·head refl
 at-among (w ∷ ws) d (suc l) h = List·Memᴰ·tail (at-among ws d l (omega arith))

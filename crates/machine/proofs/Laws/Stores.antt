@@ -1,14 +1,14 @@
 -- Stores into an entry of a table and behind a front, and tables of zeros.
 use Prim.Native.Nat.{ℕ, zero, suc, _+_, _-_, _*_, _≤_, _<_}
-use native.Mathlib.Nat.{zero-add, mul-zero, mul-suc, not-suc-le-zero, le-of-suc-le-suc}
+use native.Mathlib.Nat.{mul-zero, mul-suc, not-suc-le-zero, le-of-suc-le-suc}
 use native.Mathlib.Omega.{arith}
 use mathlib.Core.Path.{_≡_, refl, sym, ap, _∙_}
 use mathlib.Core.List.{List, [], _∷_, _++_, map, append-assoc}
-use lib.ListN.{length, getD, set, replicate, length-append, length-set, length-replicate, replicate-append-replicate}
+use lib.ListN.{length, getD, set, replicate, length-set, length-replicate, replicate-append-replicate}
 use lib.Seq.{sets, length-sets, set-append-left}
 use Rattle.notation.specs.Layout.{joined, padded}
-use Rattle.notation.proofs.Laws.Padded.{sets-past, sets-front}
-use Rattle.notation.proofs.Laws.Entries.{OfWidth, none, more, joined-length}
+use Rattle.notation.proofs.Laws.Fill.Padded.{sets-past, sets-front}
+use Rattle.notation.proofs.Laws.Stored.Entries.{OfWidth, none, more, joined-length}
 
 -- a run of stores within the front leaves what follows it
 pub sets-left : (vs xs ys : List ℕ) (i : ℕ) → i + length vs ≤ length xs → sets (xs ++ ys) i vs ≡ sets xs i vs ++ ys

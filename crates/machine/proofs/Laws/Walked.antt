@@ -1,27 +1,27 @@
 -- The walk over the stored tables is the machine's walk. The failure links need to be there only for words no longer than the first.
-use Prim.Native.Nat.{ℕ, zero, suc, _+_, _≤_, _<_}
-use mathlib.Core.Path.{_≡_, refl, sym, _∙_, ap, ap₂, subst}
+use Prim.Native.Nat.{ℕ, zero, suc, _≤_, _<_}
+use mathlib.Core.Path.{_≡_, refl, sym, _∙_, ap}
 use mathlib.Core.Bool.{Bool, true, false, not, _&&_, cond}
-use mathlib.Core.Logic.{_⊎_, inl, inr}
-use mathlib.Core.List.{List, [], _∷_, _++_, cons≢nil}
+use mathlib.Core.List.{List, [], _∷_, cons≢nil}
 use native.Mathlib.Numerals.{add-one}
 use native.Mathlib.Omega.{arith}
-use borrow.Author.Tests.{eq-eqb, ne-eqb}
+use borrow.Author.Tests.{ne-eqb}
 use lib.Dec.{eqb}
 use lib.ListN.{length, getD}
 use Rattle.notation.specs.Names.{Name}
 use Rattle.notation.specs.Sets.{FolderSet}
-use Rattle.machine.specs.Words.{Symbol, document, Word, begins}
+use Rattle.machine.specs.Words.{Word, begins}
 use Rattle.machine.specs.Prefix.{IsPrefix, longestEnd, failure}
-use Rattle.machine.specs.Walk.{followedBy, Walked, walked, movesOf, arrivedAt, counted, stuck, arrive, walkIn, walk}
+use Rattle.machine.specs.Walk.{followedBy, Walked, walked, counted, stuck, arrive, walkIn, walk}
 use Rattle.machine.specs.Automaton.{allLabels, allWords, stateIn, stateOf}
 use Rattle.machine.specs.Tables.{failAt, sizeOf, failOf, goto, oneMore, walkFrom, walkOver}
+use Rattle.machine.specs.Compiled.{storedWalk}
 use Rattle.machine.specs.declared.walk.Walk.{Walk}
-use Rattle.machine.proofs.Laws.Basics.{cases, clash}
+use Rattle.machine.proofs.Laws.Basics.{cases}
 use Rattle.machine.proofs.Laws.Words.{begins-is}
 use Rattle.machine.proofs.Laws.Prefix.{failure-is, failure-shorter}
 use Rattle.machine.proofs.Laws.Labels.{begins-label}
-use Rattle.machine.proofs.Laws.States.{LabelState, label-state, StateKind, ofEmpty, ofRoot, ofLabel, state-kind, state-empty, state-none}
+use Rattle.machine.proofs.Laws.States.{label-state, StateKind, ofEmpty, ofRoot, ofLabel, state-kind, state-empty, state-none}
 use Rattle.machine.proofs.Laws.Goto.{Linked, goto-is}
 
 -- the failure link of label l is stored
@@ -31,10 +31,6 @@ FailAt s a l = failAt a l ≡ stateOf s (failure s (getD (allWords s) l []))
 -- and of all labels whose words have at most n symbols
 abbrev pub FailsTo : FolderSet → List ℕ → ℕ → Type 0
 FailsTo s a n = (l : ℕ) → l < length (allLabels s) → length (getD (allWords s) l []) ≤ n → FailAt s a l
-
--- a walk as it is stored
-abbrev pub storedWalk : FolderSet → Walked → Walk
-storedWalk s x = record { moves = movesOf x; state = stateOf s (arrivedAt x) }
 
 stored-more : (s : FolderSet) (x : Walked) → oneMore (storedWalk s x) ≡ storedWalk s (counted x)
 stored-more s (walked m v) = ap (λ (k : ℕ). record { moves = k; state = stateOf s v }) (add-one m)

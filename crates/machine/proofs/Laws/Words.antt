@@ -6,7 +6,7 @@ use Rattle.notation.specs.Names.{Name}
 use Rattle.notation.specs.Sets.{FolderSet}
 use Rattle.notation.specs.Form.{pathsOf}
 use Rattle.notation.specs.Activity.{sameName}
-use Rattle.notation.proofs.Laws.Fit.{sameName-is}
+use Rattle.notation.proofs.Laws.Meaning.Fit.{sameName-is}
 use Rattle.machine.specs.Words.{Symbol, document, name, Word, keywords, Begins, sameSymbol, startsWith, any, begins}
 use Rattle.machine.proofs.Laws.Basics.{both, both-true, any-is, is-any, clash}
 

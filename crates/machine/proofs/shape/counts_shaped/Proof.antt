@@ -1,6 +1,6 @@
 -- `shape::counts_shaped`: the counts and the initial state.
-use Rattle.notation.specs.Limits.{maxName, maxSetBytes, maxNumber, maxPaths, maxSteps, maxLabels}
-use Rattle.machine.specs.Automaton.{hashes, linkSize, headsAt, linksAt, startAt}
+use Rattle.notation.specs.Limits.{maxSetBytes, maxPaths, maxSteps, maxLabels}
+use Rattle.machine.specs.Automaton.{startAt}
 use borrow.Author.Needs.{needs}
 use Rattle.machine.proofs.shape.counts_shaped.Statement.{statement}
 use Rattle.machine.proofs.shape.counts_shaped.Tie as tie

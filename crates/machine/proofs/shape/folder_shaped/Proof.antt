@@ -1,6 +1,6 @@
 -- `shape::folder_shaped`: the numbers of a folder.
-use Rattle.notation.specs.Limits.{maxName, maxSetBytes, maxNumber, maxPaths, maxSteps, maxLabels}
-use Rattle.notation.specs.Layout.{folderSize, pathSize, labelSize, foldersAt, pathsAt, stepsAt, labelsAt}
+use Rattle.notation.specs.Limits.{maxNumber}
+use Rattle.notation.specs.Layout.{folderSize, foldersAt}
 use borrow.Author.Needs.{needs}
 use Rattle.machine.proofs.shape.folder_shaped.Statement.{statement}
 use Rattle.machine.proofs.shape.folder_shaped.Tie as tie

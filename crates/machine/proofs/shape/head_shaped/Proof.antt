@@ -1,6 +1,6 @@
 -- `shape::head_shaped`: the head of a chain.
 use native.Mathlib.Omega.{arith}
-use Rattle.machine.specs.Automaton.{hashes, linkSize, headsAt, linksAt, startAt}
+use Rattle.machine.specs.Automaton.{hashes, headsAt}
 use borrow.Author.Needs.{needs}
 use Rattle.machine.proofs.shape.head_shaped.Statement.{statement}
 use Rattle.machine.proofs.shape.head_shaped.Tie as tie

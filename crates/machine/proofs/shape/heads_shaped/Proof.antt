@@ -5,10 +5,9 @@ use Rattle.machine.specs.Automaton.{hashes}
 use Rattle.machine.proofs.Laws.AllBelow.{all-none, all-more, all-fails}
 use Rattle.machine.specs.Shape.{allBelow, headShaped}
 use native.Mathlib.Omega.{arith}
-use mathlib.Core.Bool.{true, false}
+use mathlib.Core.Bool.{true}
 use mathlib.Core.Path.{_≡_, sym, _∙_}
-use Prim.Native.Nat.{ℕ, _-_, _≤_, _<_}
-use borrow.Author.Needs.{needs}
+use Prim.Native.Nat.{_-_, _≤_}
 use Rattle.machine.proofs.shape.heads_shaped.Statement.{statement}
 use Rattle.machine.proofs.shape.heads_shaped.Tie as tie
 

@@ -1,6 +1,6 @@
 -- `shape::label_shaped`: the numbers of a label.
-use Rattle.notation.specs.Limits.{maxName, maxSetBytes, maxNumber, maxPaths, maxSteps, maxLabels}
-use Rattle.notation.specs.Layout.{folderSize, pathSize, labelSize, foldersAt, pathsAt, stepsAt, labelsAt}
+use Rattle.notation.specs.Limits.{maxName}
+use Rattle.notation.specs.Layout.{labelSize, labelsAt}
 use borrow.Author.Needs.{needs}
 use Rattle.machine.proofs.shape.label_shaped.Statement.{statement}
 use Rattle.machine.proofs.shape.label_shaped.Tie as tie

@@ -1,7 +1,7 @@
 -- `shape::link_shaped`: the links of a label.
 use native.Mathlib.Numerals.{add-one}
-use Rattle.notation.specs.Limits.{maxName, maxSetBytes, maxNumber, maxPaths, maxSteps, maxLabels}
-use Rattle.machine.specs.Automaton.{hashes, linkSize, headsAt, linksAt, startAt}
+use Rattle.notation.specs.Limits.{maxSteps}
+use Rattle.machine.specs.Automaton.{linkSize, linksAt}
 use borrow.Author.Needs.{needs}
 use Rattle.machine.proofs.shape.link_shaped.Statement.{statement}
 use Rattle.machine.proofs.shape.link_shaped.Tie as tie

@@ -1,6 +1,6 @@
 -- `shape::path_shaped`: the numbers of a path.
-use Rattle.notation.specs.Limits.{maxName, maxSetBytes, maxNumber, maxPaths, maxSteps, maxLabels}
-use Rattle.notation.specs.Layout.{folderSize, pathSize, labelSize, foldersAt, pathsAt, stepsAt, labelsAt}
+use Rattle.notation.specs.Limits.{maxSteps}
+use Rattle.notation.specs.Layout.{pathSize, pathsAt}
 use borrow.Author.Needs.{needs}
 use Rattle.machine.proofs.shape.path_shaped.Statement.{statement}
 use Rattle.machine.proofs.shape.path_shaped.Tie as tie

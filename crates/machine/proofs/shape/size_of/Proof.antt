@@ -1,9 +1,9 @@
 -- `shape::size_of`: the length of a label's word; the empty word has 0, `#` 1.
 use Rattle.machine.specs.Tables.{sizeAt, sizeOf}
-use Rattle.machine.specs.Automaton.{hashes, linkSize, headsAt, linksAt, startAt}
+use Rattle.machine.specs.Automaton.{linkSize, linksAt}
 use native.Mathlib.Omega.{arith}
 use mathlib.Core.List.{List}
-use mathlib.Core.Path.{_≡_, refl, sym, _∙_, ap}
+use mathlib.Core.Path.{_≡_, refl, sym, _∙_}
 use Prim.Native.Nat.{ℕ, zero, suc, _-_, _≤_, _<_}
 use borrow.Author.Needs.{needs}
 use Rattle.machine.proofs.shape.size_of.Statement.{statement}

@@ -1,5 +1,5 @@
 -- `shape::step_shaped`: the byte of a step.
-use Rattle.notation.specs.Layout.{folderSize, pathSize, labelSize, foldersAt, pathsAt, stepsAt, labelsAt}
+use Rattle.notation.specs.Layout.{stepsAt}
 use borrow.Author.Needs.{needs}
 use Rattle.machine.proofs.shape.step_shaped.Statement.{statement}
 use Rattle.machine.proofs.shape.step_shaped.Tie as tie

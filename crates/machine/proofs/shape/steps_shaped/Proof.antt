@@ -5,9 +5,9 @@ use Rattle.notation.specs.Reads.{stepCount}
 use Rattle.machine.proofs.Laws.AllBelow.{all-none, all-more, all-fails}
 use Rattle.machine.specs.Shape.{allBelow, stepShaped}
 use native.Mathlib.Omega.{arith}
-use mathlib.Core.Bool.{true, false}
+use mathlib.Core.Bool.{true}
 use mathlib.Core.Path.{_≡_, sym, _∙_}
-use Prim.Native.Nat.{ℕ, _-_, _≤_, _<_}
+use Prim.Native.Nat.{_-_, _≤_}
 use borrow.Author.Needs.{needs}
 use Rattle.machine.proofs.shape.steps_shaped.Statement.{statement}
 use Rattle.machine.proofs.shape.steps_shaped.Tie as tie

@@ -3,7 +3,7 @@ use Rattle.machine.specs.Tables.{failAt, failOf}
 use Rattle.machine.specs.Automaton.{linksAt, linkSize}
 use native.Mathlib.Omega.{arith}
 use mathlib.Core.List.{List}
-use mathlib.Core.Path.{_≡_, refl, sym, _∙_, ap}
+use mathlib.Core.Path.{_≡_, refl, sym, _∙_}
 use Prim.Native.Nat.{ℕ, zero, suc, _-_, _≤_, _<_}
 use borrow.Author.Needs.{needs}
 use Rattle.machine.proofs.walk.fail_of.Statement.{statement}

@@ -1,7 +1,6 @@
 -- `walk::follows_label`: the label's parent, then its name.
 use Rattle.machine.specs.Automaton.{linksAt, linkSize}
 use borrow.Author.Tests.{eq-eqb, ne-eqb}
-use mathlib.Core.Path.{_≡_, refl, sym, _∙_, ap}
 use borrow.Author.Needs.{needs}
 use Rattle.machine.proofs.walk.follows_label.Statement.{statement}
 use Rattle.machine.proofs.walk.follows_label.Tie as tie

@@ -1,5 +1,6 @@
 -- `walk::goto_state`: the search from the head is the search from the place that the loop has come to.
-use Rattle.machine.proofs.Laws.Fuel.{hash-below, goto-none, goto-turn, goto-state}
+use Rattle.machine.proofs.Laws.Goto.{hash-small, goto-end}
+use Rattle.machine.proofs.Laws.Fuel.{goto-turn}
 use Rattle.machine.specs.Walkable.{Searchable}
 use Rattle.machine.specs.Tables.{headAt, nextAt, follows, gotoFrom, goto}
 use Rattle.machine.specs.Automaton.{hashes, hash, headsAt, linksAt, linkSize}
@@ -52,21 +53,24 @@ abbrev μ-loop : tie.MeasureT-loop
 
 mul-word-at : tie.Need-mul-word-at Inv-loop μ-loop
 unfolding hashes
-mul-word-at c = omega (arith, hash-below (c .before .before .args .e .now), c .before .before .pre .1)
+mul-word-at c = omega (arith, hash-small (c .before .before .args .e .now), c .before .before .pre .1)
 
 add-word-at : tie.Need-add-word-at Inv-loop μ-loop
 unfolding hashes
-add-word-at c = omega (arith, hash-below (c .before .before .args .e .now), c .before .before .pre .1)
+add-word-at c = omega (arith, hash-small (c .before .before .args .e .now), c .before .before .pre .1)
 
 word-at-requires : tie.Need-word-at-requires Inv-loop μ-loop
 word-at-requires c κs = search needs
 
 loop-holds : tie.Need-loop-holds Inv-loop μ-loop
 unfolding goto headsAt
-loop-holds c = let a = c .before .before .before .args .a .now in let q = c .before .before .before .args .q in let e = c .before .before .before .args .e .now in let ch : Searchable a = c .before .before .before .pre .0 in
+loop-holds c = let a = c .before .before .before .args .a .now in
+    let q = c .before .before .before .args .q in
+    let e = c .before .before .before .args .e .now in
+    let ch : Searchable a = c .before .before .before .pre .0 in
     let hh : c .before .before .before .args .h ≡ hash e = c .before .before .before .pre .1 in
     let r : c .word-at .result ≡ headAt a (hash e) = rw hh at (c .word-at .ensures .0) in
-    (rw r (ch .head (hash e) (hash-below e)), sym (ap (gotoFrom maxLabels a q e) r))
+    (rw r (ch .head (hash e) (hash-small e)), sym (ap (gotoFrom maxLabels a q e) r))
 
 sub-follows-label : tie.Need-sub-follows-label Inv-loop μ-loop
 sub-follows-label c = omega arith
@@ -80,7 +84,10 @@ unfolding maxLabels
 add-result c = omega (arith, c .before .before .before .before .before .before .before .pre .0 .few)
 
 returns : tie.Need-returns Inv-loop μ-loop
-returns c = let a = c .before .before .before .before .before .before .before .args .a .now in let q = c .before .before .before .before .before .before .before .args .q in let e = c .before .before .before .before .before .before .before .args .e .now in let ch : Searchable a = c .before .before .before .before .before .before .before .pre .0 in
+returns c = let a = c .before .before .before .before .before .before .before .args .a .now in
+    let q = c .before .before .before .before .before .before .before .args .q in
+    let e = c .before .before .before .before .before .before .before .args .e .now in
+    let ch : Searchable a = c .before .before .before .before .before .before .before .pre .0 in
     let k = c .before .before .before .loop .k in
     let t : true ≡ follows a q e (k - 1) = sym (c .if1 .taken) ∙ c .before .follows-label .ensures in
     let n : k + 1 ≡ suc k = omega arith in
@@ -102,7 +109,10 @@ word-at-requires-2 c κs = search needs
 
 loop-less : tie.Need-loop-less Inv-loop μ-loop
 unfolding linksAt linkSize
-loop-less c = let a = c .before .before .before .before .before .before .before .before .args .a .now in let q = c .before .before .before .before .before .before .before .before .args .q in let e = c .before .before .before .before .before .before .before .before .args .e .now in let ch : Searchable a = c .before .before .before .before .before .before .before .before .pre .0 in
+loop-less c = let a = c .before .before .before .before .before .before .before .before .args .a .now in
+    let q = c .before .before .before .before .before .before .before .before .args .q in
+    let e = c .before .before .before .before .before .before .before .before .args .e .now in
+    let ch : Searchable a = c .before .before .before .before .before .before .before .before .pre .0 in
     let k = c .before .before .before .before .loop .k in
     let z = c .before .before .before .loop-test .taken in
     let i : k ≤ labelCount a = c .before .before .before .before .loop .inv .0 in
@@ -112,7 +122,10 @@ loop-less c = let a = c .before .before .before .before .before .before .before 
 
 loop-again : tie.Need-loop-again Inv-loop μ-loop
 unfolding linksAt linkSize
-loop-again c = let a = c .before .before .before .before .before .before .before .before .args .a .now in let q = c .before .before .before .before .before .before .before .before .args .q in let e = c .before .before .before .before .before .before .before .before .args .e .now in let ch : Searchable a = c .before .before .before .before .before .before .before .before .pre .0 in
+loop-again c = let a = c .before .before .before .before .before .before .before .before .args .a .now in
+    let q = c .before .before .before .before .before .before .before .before .args .q in
+    let e = c .before .before .before .before .before .before .before .before .args .e .now in
+    let ch : Searchable a = c .before .before .before .before .before .before .before .before .pre .0 in
     let k = c .before .before .before .before .loop .k in
     let z = c .before .before .before .loop-test .taken in
     let i : k ≤ labelCount a = c .before .before .before .before .loop .inv .0 in
@@ -122,8 +135,11 @@ loop-again c = let a = c .before .before .before .before .before .before .before
     (rw r (ch .next (k - 1) l), c .before .before .before .before .loop .inv .1 ∙ (further a q e k ch z i t ∙ sym (ap (gotoFrom maxLabels a q e) r)))
 
 returns-2 : tie.Need-returns-2 Inv-loop μ-loop
-returns-2 c = let a = c .before .before .before .before .before .args .a .now in let q = c .before .before .before .before .before .args .q in let e = c .before .before .before .before .before .args .e .now in let ch : Searchable a = c .before .before .before .before .before .pre .0 in
-    (sym (c .before .loop .inv .1 ∙ (ap (gotoFrom maxLabels a q e) (c .loop-test .left) ∙ goto-none maxLabels a q e)), omega arith)
+returns-2 c = let a = c .before .before .before .before .before .args .a .now in
+    let q = c .before .before .before .before .before .args .q in
+    let e = c .before .before .before .before .before .args .e .now in
+    let ch : Searchable a = c .before .before .before .before .before .pre .0 in
+    (sym (c .before .loop .inv .1 ∙ (ap (gotoFrom maxLabels a q e) (c .loop-test .left) ∙ goto-end maxLabels a q e)), omega arith)
 
 pub goto-state-spec : {M : Type 1} → statement M
 goto-state-spec =

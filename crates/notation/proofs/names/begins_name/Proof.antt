@@ -1,7 +1,7 @@
 -- `notation::names::begins_name` meets its contract: the class tells.
 use mathlib.Core.Path.{sym}
 use borrow.Author.Needs.{needs}
-use Rattle.notation.proofs.Laws.Classes.{begins-class}
+use Rattle.notation.proofs.Laws.Bytes.Classes.{begins-class}
 use Rattle.notation.proofs.names.begins_name.Statement.{statement}
 use Rattle.notation.proofs.names.begins_name.Tie as tie
 

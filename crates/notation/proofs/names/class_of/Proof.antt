@@ -3,8 +3,8 @@
 use mathlib.Core.Path.{sym}
 use borrow.Author.Needs.{needs}
 use Rattle.notation.specs.Classes.{classOf, lookUp, ranges}
-use Rattle.notation.proofs.Laws.Table.{values, entry}
-use Rattle.notation.proofs.Laws.Classes.{class-past}
+use Rattle.notation.proofs.Laws.Bytes.Table.{values, entry}
+use Rattle.notation.proofs.Laws.Bytes.Classes.{class-past}
 use Rattle.notation.proofs.names.class_of.Statement.{statement}
 use Rattle.notation.proofs.names.class_of.Tie as tie
 

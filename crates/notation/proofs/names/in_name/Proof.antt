@@ -1,7 +1,7 @@
 -- `notation::names::in_name` meets its contract: the class tells.
 use mathlib.Core.Path.{sym}
 use borrow.Author.Needs.{needs}
-use Rattle.notation.proofs.Laws.Classes.{in-class}
+use Rattle.notation.proofs.Laws.Bytes.Classes.{in-class}
 use Rattle.notation.proofs.names.in_name.Statement.{statement}
 use Rattle.notation.proofs.names.in_name.Tie as tie
 

@@ -7,7 +7,7 @@ use borrow.Author.Needs.{needs}
 use borrow.Author.Tests.{not-true, not-false}
 use lib.ListN.{length, drop}
 use Rattle.notation.specs.Names.{allInName, nameForm}
-use Rattle.notation.proofs.Laws.Names.{form-empty, form-no, form-yes, rest-no, rest-yes, rest-end}
+use Rattle.notation.proofs.Laws.Bytes.Names.{form-empty, form-no, form-yes, rest-no, rest-yes, rest-end}
 use Rattle.notation.proofs.names.name_form.Statement.{statement}
 use Rattle.notation.proofs.names.name_form.Tie as tie
 

@@ -5,7 +5,7 @@ use native.Mathlib.Omega.{arith}
 use native.Mathlib.Numerals.{add-one}
 use lib.ListN.{length, drop}
 use Rattle.notation.specs.Activity.{sameName}
-use Rattle.notation.proofs.Laws.SameName.{unequal-length, same-no, same-yes, same-end}
+use Rattle.notation.proofs.Laws.Bytes.SameName.{unequal-length, same-no, same-yes, same-end}
 use Rattle.notation.proofs.names.same_name.Statement.{statement}
 use Rattle.notation.proofs.names.same_name.Tie as tie
 

@@ -1,4 +1,4 @@
-use Rattle.notation.proofs.Laws.Filled.{part-is}
+use Rattle.notation.proofs.Laws.Fill.Filled.{part-is}
 use lib.ListN.{drop}
 use mathlib.Core.Path.{_∙_}
 use Rattle.notation.specs.Limits.{maxSetBytes}

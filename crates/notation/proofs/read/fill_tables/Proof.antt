@@ -1,9 +1,9 @@
 use Rattle.notation.specs.declared.scan.Scan.{Scan}
 use Rattle.notation.specs.Put.{Within, putAll}
 use mathlib.Core.Path.{subst, _≡_, refl, _∙_, sym, ap}
-use Rattle.notation.proofs.Laws.Counts.{within-more}
-use Rattle.notation.proofs.Laws.Turns.{scan-more, scan-end, put-more, put-end}
-use Rattle.notation.proofs.Laws.Safe.{safe-start, safe-more, at-more}
+use Rattle.notation.proofs.Laws.Scan.Counts.{within-more}
+use Rattle.notation.proofs.Laws.Scan.Turns.{scan-more, scan-end, put-more, put-end}
+use Rattle.notation.proofs.Laws.Scan.Safe.{safe-start, safe-more, at-more}
 use Rattle.notation.specs.Limits.{maxSetBytes}
 use Rattle.notation.specs.Safe.{Safe}
 use Rattle.notation.specs.Scan.{scan, start}

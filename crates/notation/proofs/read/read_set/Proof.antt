@@ -1,4 +1,4 @@
-use Rattle.notation.proofs.Laws.Within.{accepted-within}
+use Rattle.notation.proofs.Laws.Refused.Within.{accepted-within}
 use Rattle.notation.specs.ReadSet.{ReadSet, readAnswer, readBuffer}
 use Rattle.notation.specs.Emit.{partRead}
 use Rattle.notation.specs.Scan.{refusalOf}

@@ -1,5 +1,5 @@
-use Rattle.notation.proofs.Laws.Turns.{scan-more, scan-end}
-use Rattle.notation.proofs.Laws.Safe.{safe-start, safe-more, at-more}
+use Rattle.notation.proofs.Laws.Scan.Turns.{scan-more, scan-end}
+use Rattle.notation.proofs.Laws.Scan.Safe.{safe-start, safe-more, at-more}
 use lib.ListN.{getD, length, drop}
 use mathlib.Core.Path.{refl, _∙_, sym, ap, _≡_}
 use Prim.Native.Nat.{_+_, _≤_, _-_}

@@ -1,4 +1,4 @@
-use Rattle.notation.proofs.Laws.Safe.{grown}
+use Rattle.notation.proofs.Laws.Scan.Safe.{grown}
 use Rattle.notation.specs.Scan.{scanned}
 use borrow.Author.Needs.{needs}
 use Rattle.notation.proofs.scan.step.Statement.{statement}

@@ -1,5 +1,5 @@
 -- `build::chains::chain`: what the labels still to do make of the bytes is what all labels make of those at entry.
-use Prim.Native.Nat.{ℕ, suc, _+_, _-_, _≤_, _<_, min}
+use Prim.Native.Nat.{ℕ, suc, _-_, _≤_, _<_, min}
 use mathlib.Core.Path.{_≡_, refl, sym, _∙_, ap}
 use mathlib.Core.List.{List}
 use native.Mathlib.Omega.{arith}
@@ -7,7 +7,6 @@ use borrow.Author.Needs.{needs}
 use lib.ListN.{length}
 use Rattle.notation.specs.Limits.{maxLabels}
 use Rattle.notation.specs.Reads.{labelCount}
-use Rattle.machine.specs.Automaton.{automatonSize}
 use Rattle.machine.specs.Chains.{linked, chained}
 use Rattle.machine.proofs.build.chains.chain.Statement.{statement}
 use Rattle.machine.proofs.build.chains.chain.Tie as tie

@@ -1,4 +1,3 @@
-use native.Mathlib.Omega.{arith}
 use borrow.Author.Needs.{needs}
 use Rattle.notation.specs.Limits.{maxLabels}
 use Rattle.machine.proofs.build.chains.label_count.Statement.{statement}

@@ -13,7 +13,7 @@ use Rattle.machine.specs.Automaton.{hashes, hash, headsAt, linksAt, link
 use Rattle.machine.specs.Tables.{headAt, nextAt}
 use Rattle.machine.specs.Bits.{bitAt}
 use Rattle.machine.specs.Chain.{chainFrom, chainLabels}
-use Rattle.machine.proofs.Laws.Fuel.{hash-below}
+use Rattle.machine.proofs.Laws.Goto.{hash-small}
 use Rattle.machine.proofs.Laws.BitRows.{or-none}
 use Rattle.machine.proofs.Laws.ChainTurns.{chain-none, left, low, rises, marked}
 use Rattle.machine.proofs.run.candidates.mark_labels.Statement.{statement}
@@ -27,11 +27,11 @@ abbrev μ-loop : tie.MeasureT-loop
 
 mul-word-at : tie.Need-mul-word-at Inv-loop μ-loop
 unfolding hashes
-mul-word-at c = omega (arith, hash-below (c .before .before .before .args .e .now), c .before .before .before .pre .1 .1)
+mul-word-at c = omega (arith, hash-small (c .before .before .before .args .e .now), c .before .before .before .pre .1 .1)
 
 add-word-at : tie.Need-add-word-at Inv-loop μ-loop
 unfolding hashes
-add-word-at c = omega (arith, hash-below (c .before .before .before .args .e .now), c .before .before .before .pre .1 .1)
+add-word-at c = omega (arith, hash-small (c .before .before .before .args .e .now), c .before .before .before .pre .1 .1)
 
 word-at-requires : tie.Need-word-at-requires Inv-loop μ-loop
 word-at-requires c κs = search needs
@@ -43,7 +43,7 @@ loop-holds c = let b = c .before .before .before .before in
     let e = b .args .e .now in
     let hh : b .args .h ≡ hash e = b .pre .1 .1 in
     let r : c .word-at .result ≡ headAt a (hash e) = rw hh at (c .word-at .ensures .0) in
-    (rw r (b .pre .1 .0 .walkable .searchable .head (hash e) (hash-below e)), (refl, λ j. rw r))
+    (rw r (b .pre .1 .0 .walkable .searchable .head (hash e) (hash-small e)), (refl, λ j. rw r))
 
 sub-mark-label : tie.Need-sub-mark-label Inv-loop μ-loop
 sub-mark-label c = omega arith

@@ -1,0 +1,179 @@
+// Prints, for each case, its bytes, its tokens with the names of tags, and whether they are a run of tokens or torn. A byte that does not
+// print stands as `?`. d: declaration, c: comment, s: start tag, x: empty-element tag, e: end tag, t: text, b: blank text.
+use filing::tokens::Found;
+use filing::tokens::end_of;
+use filing::tokens::is_run;
+use filing::tokens::tag_name;
+use filing::tokens::token_at;
+
+fn put(s: &[u8]) {
+    let mut i = 0;
+    while i < s.len() {
+        let b = s[i];
+        if b < 32 {
+            io::write_all(1, b"?");
+        } else {
+            if b < 127 {
+                let j = i + 1;
+                io::write_all(1, &s[i..j]);
+            } else {
+                io::write_all(1, b"?");
+            }
+        }
+        i += 1;
+    }
+}
+
+fn letter(f: Found) {
+    match f {
+        Found::Nothing => {
+            io::write_all(1, b" -");
+        }
+        Found::Declaration(_) => {
+            io::write_all(1, b" d");
+        }
+        Found::Comment(_) => {
+            io::write_all(1, b" c");
+        }
+        Found::Start(_, _, _) => {
+            io::write_all(1, b" s:");
+        }
+        Found::Empty(_, _, _) => {
+            io::write_all(1, b" x:");
+        }
+        Found::End(_, _, _) => {
+            io::write_all(1, b" e:");
+        }
+        Found::Text(_, all) => {
+            if all {
+                io::write_all(1, b" b");
+            } else {
+                io::write_all(1, b" t");
+            }
+        }
+    }
+}
+
+fn tokens(s: &[u8]) {
+    let mut i = 0;
+    while i < s.len() {
+        let f = token_at(s, i);
+        letter(f);
+        put(tag_name(s, i));
+        let e = end_of(f);
+        if e <= i {
+            return;
+        }
+        i = e;
+    }
+}
+
+fn show(s: &[u8]) {
+    put(s);
+    io::write_all(1, b" |");
+    tokens(s);
+    if is_run(s) {
+        io::write_all(1, b" run\n");
+    } else {
+        io::write_all(1, b" torn\n");
+    }
+}
+
+fn declarations() {
+    show(b"");
+    show(b"<?xml version=\"1.0\"?><a/>");
+    show(b" <?xml version=\"1.0\"?><a/>");
+    show(b"<?xml version=\"1.0\"?><?xml version=\"1.0\"?><a/>");
+    show(b"<?xml version='1.0'?><a/>");
+    show(b"<?xml  version=\"1.0\"?><a/>");
+    show(b"<?xml version=\"1.0\" ?><a/>");
+    show(b"<?pi?><a/>");
+    show(b"<!DOCTYPE a><a/>");
+    show(b"<a><![CDATA[x]]></a>");
+}
+
+fn comments() {
+    show(b"<!----><a/>");
+    show(b"<!-- a - b > < & -->");
+    show(b"<!--a--b-->");
+    show(b"<!--a--->");
+    show(b"<!--->");
+    show(b"<!--a");
+    show(b"<!-a-->");
+    show(b"<!--\x7f-->");
+}
+
+fn tags() {
+    show(b"<a></a>");
+    show(b"<a/>");
+    show(b"<a />");
+    show(b"<a\t\n\r ></a >");
+    show(b"<a/ >");
+    show(b"< a>");
+    show(b"</ a>");
+    show(b"<a b>");
+    show(b"</a b=\"1\">");
+    show(b"</a/>");
+    show(b"<>");
+    show(b"</>");
+    show(b"<");
+    show(b"<a");
+    show(b"<1a/>");
+    show(b"<-a/>");
+    show(b"<_a-.9/>");
+    show(b"<a:b/>");
+    show(b"<a\x80/>");
+}
+
+fn attributes() {
+    show(b"<a b=\"1\"/>");
+    show(b"<a b='1'/>");
+    show(b"<a b = '1' c\n=\n\"2\" >");
+    show(b"<a b=\"1\"c=\"2\">");
+    show(b"<a b=\"it's\" c='say \"x\"'/>");
+    show(b"<a b=\"1'/>");
+    show(b"<a b=1/>");
+    show(b"<a b=\"<\"/>");
+    show(b"<a b=\"&lt;&amp;&gt;&quot;&apos;\"/>");
+    show(b"<a b=\"&\"/>");
+    show(b"<a b=\"]]>\"/>");
+    show(b"<a b=\"\"/>");
+    show(b"<a b=\"1\" b=\"2\"/>");
+    show(b"<a =\"1\"/>");
+    show(b"<a b=\"\x7f\"/>");
+}
+
+fn texts() {
+    show(b"<a>x</a>");
+    show(b"<a> \t\n\r</a>");
+    show(b"<a>x > y ]] ></a>");
+    show(b"<a>]]></a>");
+    show(b"<a>]]<b/>></a>");
+    show(b"<a>]]&gt;</a>");
+    show(b"<a>&amp;</a>");
+    show(b"<a>&amp</a>");
+    show(b"<a>&</a>");
+    show(b"<a>&#65;</a>");
+    show(b"<a>&nbsp;</a>");
+    show(b"<a>&AMP;</a>");
+    show(b"x<a/>y");
+    show(b"<a>\x7f</a>");
+    show(b"<a>\x80</a>");
+}
+
+fn names() {
+    show(b"<abcdefghijklmnopqrstuvwxyz0123456/>");
+    show(
+        b"<aaaaaaaaaaaaaaaaaaaaaaaaaaaaaaaaaaaaaaaaaaaaaaaaaaaaaaaaaaaaaaaaaaaaaaaaaaaaaaaaaaaaaaaaaaaaaaaaaaaaaaaaaaaaaaaaaaaaaaaaaaaaaaaaaaaaaaaaaaaaaaaaaaaaaaaaaaaaaaaaaaaaaaaaaaaaaaaaaaaaaaaaaaaaaaaaaaaaaaaaaaaaaaaaaaaaaaaaaaaaaaaaaaaaaaaaaaaaaaaaaaaaaaaaaaaaaaaaaaaaaaaaaaaaaaaaaaaaaaaaaaaaaaaaaaaa/>",
+    );
+    show(b"<xmlns xmlns='x'/>");
+}
+
+fn main() {
+    declarations();
+    comments();
+    tags();
+    attributes();
+    texts();
+    names();
+}

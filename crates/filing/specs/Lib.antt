@@ -1,0 +1,9 @@
+pub mod Tree
+pub mod XPath
+pub mod NameList
+pub mod SelectTable
+pub mod Tokens
+pub mod Reading
+pub mod Document
+pub mod Reaches
+pub mod Seen

@@ -1,0 +1,119 @@
+// Scans over a report's bytes: how far names, blanks and words go.
+use notation::names;
+ghost use mathlib.Core.Path.{_≡_};
+ghost use Prim.Native.Nat.{_+_, _≤_};
+ghost use lib.ListN.{length, drop};
+ghost use Rattle.notation.specs.Names.{inName};
+ghost use Rattle.notation.specs.Form.{every};
+ghost use Rattle.filing.specs.Tokens.{blank as blankByte, listed as listedByte, inText, begins};
+ghost use Rattle.filing.specs.Reading.{front};
+
+// 9, 10, 13 or 32.
+pub fn blank(b: u8) -> bool
+    ensures { λ r. ⌜ r ≡ blankByte b ⌝ }
+{
+    if b == 9 {
+        return true;
+    }
+    if b == 10 {
+        return true;
+    }
+    if b == 13 {
+        return true;
+    }
+    b == 32
+}
+
+// A byte that a report may have.
+pub fn listed(b: u8) -> bool
+    ensures { λ r. ⌜ r ≡ listedByte b ⌝ }
+{
+    if b == 9 {
+        return true;
+    }
+    if b == 10 {
+        return true;
+    }
+    if b == 13 {
+        return true;
+    }
+    if b < 32 {
+        return false;
+    }
+    b <= 126
+}
+
+// A byte that may stand for itself in text.
+pub fn in_text(b: u8) -> bool
+    ensures { λ r. ⌜ r ≡ inText b ⌝ }
+{
+    if b == 60 {
+        return false;
+    }
+    if b == 38 {
+        return false;
+    }
+    listed(b)
+}
+
+// Whether every byte of a report is listed; without that, refusal 8.
+pub fn all_listed(s: &[u8]) -> bool
+    ensures { λ r. ⌜ r ≡ every listedByte (now (s .entry)) ⌝ }
+{
+    let mut i = 0;
+    while i < s.len() {
+        if !listed(s[i]) {
+            return false;
+        }
+        i += 1;
+    }
+    true
+}
+
+// Where the blanks that begin at an offset end.
+pub fn blanks_end(s: &[u8], at: usize) -> usize
+    requires { ⌜ at ≤ length (now s) ⌝ }
+    ensures { λ r. ⌜ r ≡ at + length (front blankByte (drop at (now (s .entry)))) ⌝ }
+{
+    let mut i = at;
+    while i < s.len() {
+        if !blank(s[i]) {
+            return i;
+        }
+        i += 1;
+    }
+    i
+}
+
+// Where the name bytes that begin at an offset end.
+pub fn name_end(s: &[u8], at: usize) -> usize
+    requires { ⌜ at ≤ length (now s) ⌝ }
+    ensures { λ r. ⌜ r ≡ at + length (front inName (drop at (now (s .entry)))) ⌝ }
+{
+    let mut i = at;
+    while i < s.len() {
+        if !names::in_name(s[i]) {
+            return i;
+        }
+        i += 1;
+    }
+    i
+}
+
+// Whether the word stands at an offset.
+pub fn word_at(s: &[u8], at: usize, w: &[u8]) -> bool
+    requires { ⌜ at ≤ length (now s) ⌝ }
+    ensures { λ r. ⌜ r ≡ begins (now (w .entry)) (drop at (now (s .entry))) ⌝ }
+{
+    if s.len() - at < w.len() {
+        return false;
+    }
+    let mut i = 0;
+    while i < w.len() {
+        if s[at + i] != w[i] {
+            return false;
+        }
+        i += 1;
+    }
+    true
+}

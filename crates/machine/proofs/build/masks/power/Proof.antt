@@ -1,0 +1,16 @@
+use Rattle.machine.proofs.Laws.Marking.{power-at}
+use borrow.Author.Needs.{needs}
+use Rattle.machine.proofs.build.masks.power.Statement.{statement}
+use Rattle.machine.proofs.build.masks.power.Tie as tie
+
+mul-result : tie.Need-mul-result
+mul-result c = search needs
+
+array-read-result : tie.Need-array-read-result
+array-read-result c = search needs
+
+returns : tie.Need-returns
+returns c = power-at (c .args .k) (c .pre)
+
+pub power-spec : {M : Type 1} → statement M
+power-spec = tie.close (tie.spec mul-result array-read-result returns)

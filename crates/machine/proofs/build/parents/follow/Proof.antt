@@ -1,0 +1,19 @@
+use mathlib.Core.Path.{sym}
+use borrow.Author.Needs.{needs}
+use Rattle.machine.proofs.build.parents.follow.Statement.{statement}
+use Rattle.machine.proofs.build.parents.follow.Tie as tie
+
+label-name-requires : tie.Need-label-name-requires
+label-name-requires c κs = search needs
+
+hash-of-requires : tie.Need-hash-of-requires
+hash-of-requires c κs = search needs
+
+goto-state-requires : tie.Need-goto-state-requires
+goto-state-requires c κs = search needs
+
+returns : tie.Need-returns
+returns c = rw (sym (c .before .before .label-name .ensures)) (c .goto-state .ensures)
+
+pub follow-spec : {M : Type 1} → statement M
+follow-spec = tie.close (tie.spec label-name-requires hash-of-requires goto-state-requires returns)

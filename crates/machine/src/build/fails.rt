@@ -1,0 +1,65 @@
+// The failure links, by increasing word length.
+ghost use mathlib.Core.Path.{_≡_};
+ghost use Prim.Native.Nat.{suc, _<_};
+ghost use Rattle.notation.specs.Limits.{maxSteps};
+ghost use Rattle.notation.specs.Reads.{labelCount};
+ghost use Rattle.machine.specs.Fails.{failTo, failedIf, failedBelow, failedTo, Growing};
+use crate::build::chains::hash_of;
+use crate::layout::LINK_SIZE;
+use crate::layout::LINKS_AT;
+use crate::walk::fail_of;
+use crate::walk::walk_from;
+use notation::limits::MAX_STEPS;
+use notation::put::put16;
+use notation::reads::label_name;
+use notation::reads::labels;
+use notation::reads::word_at;
+
+// The state of the failure link of label `l`: the open's walk from its parent's.
+fn fail_to(a: &[u8], l: usize) -> usize
+    requires { ⌜ Growing (now a) × (l < labelCount (now a)) ⌝ }
+    ensures { λ r. ⌜ r ≡ failTo (now (a .entry)) l ⌝ }
+{
+    let parent = word_at(a, LINKS_AT + LINK_SIZE * l + 2);
+    if parent == 0 {
+        return 0;
+    }
+    let e = label_name(a, l);
+    walk_from(a, fail_of(a, parent), e, hash_of(e)).state
+}
+
+// The failure link of label `l`, if its word has `n` symbols.
+fn fail_label(a: &mut [u8], n: usize, l: usize)
+    requires { ⌜ Growing (now a) × (l < labelCount (now a)) ⌝ }
+    ensures { λ _. ⌜ now (a .exit) ≡ failedIf n l (now (a .entry)) ⌝ }
+{
+    if word_at(a, LINKS_AT + LINK_SIZE * l + 6) == n {
+        let q = fail_to(a, l);
+        put16(a, LINKS_AT + LINK_SIZE * l + 4, q);
+    }
+}
+
+// The failure links of the words of `n` symbols.
+fn fail_labels(a: &mut [u8], n: usize)
+    requires { ⌜ Growing (now a) ⌝ }
+    ensures { λ _. ⌜ now (a .exit) ≡ failedBelow n (labelCount (now (a .entry))) (now (a .entry)) ⌝ }
+{
+    let top = labels(a);
+    let mut l = 0;
+    while l < top {
+        fail_label(a, n, l);
+        l += 1;
+    }
+}
+
+// Every failure link.
+pub fn fails(a: &mut [u8])
+    requires { ⌜ Growing (now a) ⌝ }
+    ensures { λ _. ⌜ now (a .exit) ≡ failedTo (labelCount (now (a .entry))) (suc maxSteps) (now (a .entry)) ⌝ }
+{
+    let mut n = 0;
+    while n <= MAX_STEPS {
+        n += 1;
+        fail_labels(a, n);
+    }
+}

@@ -1,0 +1,189 @@
+// The masks: for each step in set order a bit in each of six rows of bits. And the initial state.
+use crate::layout::MASK_SIZE;
+use crate::layout::MASKS_AT;
+use crate::layout::START_AT;
+use notation::PathPlace;
+use notation::put::put16;
+use notation::reads;
+use notation::reads::PathAt;
+use notation::reads::StepAt;
+ghost use mathlib.Core.Path.{_≡_};
+ghost use mathlib.Core.Bool.{true, not};
+ghost use Prim.Native.Nat.{_+_, _*_, _^_, _≤_, _<_};
+ghost use lib.ListN.{length};
+ghost use Rattle.machine.specs.Automaton.{automatonSize, maskSize, bit};
+ghost use Rattle.machine.specs.Masks.{withBit, marked, axisMask, markRole, markStep, markSteps, markPath, withMasks, childAt, rooted, anyRooted, withStart};
+ghost use Rattle.notation.specs.Reads.{stepAt, pathCount};
+
+const POWERS: [usize; 8] = [1, 2, 4, 8, 16, 32, 64, 128];
+
+const STEP_BITS: usize = 8 * MASK_SIZE;
+
+fn wide(b: u8) -> usize
+    ensures { λ r. ⌜ (r ≡ b) × (r < 256) ⌝ }
+{
+    b as usize
+}
+
+fn negated(a: bool) -> bool
+    ensures { λ r. ⌜ r ≡ not a ⌝ }
+{
+    if a { false } else { true }
+}
+
+fn power(k: usize) -> usize
+    requires { ⌜ k < 8 ⌝ }
+    ensures { λ r. ⌜ r ≡ 2 ^ k ⌝ }
+{
+    POWERS[k]
+}
+
+// The byte with bit k set.
+fn with_bit(x: u8, k: usize) -> u8
+    requires { ⌜ k < 8 ⌝ }
+    ensures { λ r. ⌜ r ≡ withBit x k ⌝ }
+{
+    let p = power(k);
+    let n = wide(x);
+    if n / p % 2 == 1 {
+        return x;
+    }
+    (n + p) as u8
+}
+
+// Bit i of mask m.
+fn mark(part: &mut [u8], on: bool, m: usize, i: usize)
+    requires { ⌜ (m < 6) × (i < 8 * maskSize) × (automatonSize ≤ length (now part)) ⌝ }
+    ensures { λ _. ⌜ now (part .exit) ≡ marked on m i (now (part .entry)) ⌝ }
+{
+    if on {
+        let j = STEP_BITS * m + i;
+        let at = MASKS_AT + j / 8;
+        part[at] = with_bit(part[at], j % 8);
+    }
+}
+
+// The mask of a step's axis.
+fn axis_mask(first: bool, deep: bool) -> usize
+    ensures { λ r. ⌜ (r ≡ axisMask first deep) × (r < 6) ⌝ }
+{
+    if first {
+        if deep { 3 } else { 4 }
+    } else {
+        if deep { 2 } else { 1 }
+    }
+}
+
+// A step in the masks.
+fn mark_role(part: &mut [u8], i: usize, deep: bool, star: bool, first: bool, last: bool)
+    requires { ⌜ (i < 8 * maskSize) × (automatonSize ≤ length (now part)) ⌝ }
+    ensures { λ _. ⌜ now (part .exit) ≡ markRole i deep star first last (now (part .entry)) ⌝ }
+{
+    let axis = axis_mask(first, deep);
+    mark(part, star, 0, i);
+    mark(part, true, axis, i);
+    mark(part, last, 5, i);
+}
+
+fn mark_step(part: &mut [u8], i: usize, first: bool, last: bool)
+    requires { ⌜ automatonSize ≤ length (now part) ⌝ }
+    ensures { λ _. ⌜ now (part .exit) ≡ markStep i first last (now (part .entry)) ⌝ }
+{
+    if STEP_BITS <= i {
+        return;
+    }
+    match reads::step_at(part, i) {
+        StepAt::Step { descendant, star } => mark_role(part, i, descendant, star, first, last),
+        StepAt::Missing => {}
+    }
+}
+
+// The steps of a path.
+fn mark_steps(part: &mut [u8], from: usize, steps: usize)
+    requires { ⌜ (from < 65536) × (steps < 65536) × (automatonSize ≤ length (now part)) ⌝ }
+    ensures { λ _. ⌜ now (part .exit) ≡ markSteps steps from true (now (part .entry)) ⌝ }
+{
+    let mut k = 0;
+    while k < steps {
+        mark_step(part, from + k, k == 0, k + 1 == steps);
+        k += 1;
+    }
+}
+
+fn mark_path(part: &mut [u8], place: usize)
+    requires { ⌜ automatonSize ≤ length (now part) ⌝ }
+    ensures { λ _. ⌜ now (part .exit) ≡ markPath place (now (part .entry)) ⌝ }
+{
+    match reads::path_at(part, PathPlace(place)) {
+        PathAt::Path {
+            first,
+            steps,
+            at: _,
+            size: _,
+        } => mark_steps(part, first, steps),
+        PathAt::Missing => {}
+    }
+}
+
+// Every path's steps.
+pub fn write_masks(part: &mut [u8])
+    requires { ⌜ automatonSize ≤ length (now part) ⌝ }
+    ensures { λ _. ⌜ now (part .exit) ≡ withMasks (now (part .entry)) ⌝ }
+{
+    let n = reads::paths(part);
+    let mut place = 0;
+    while place < n {
+        mark_path(part, place);
+        place += 1;
+    }
+}
+
+fn is_child(part: &[u8], i: usize) -> bool
+    ensures { λ r. ⌜ r ≡ childAt (stepAt (now (part .entry)) i) ⌝ }
+{
+    match reads::step_at(part, i) {
+        StepAt::Step {
+            descendant,
+            star: _,
+        } => negated(descendant),
+        StepAt::Missing => false,
+    }
+}
+
+// The path of this place begins with `/`.
+fn is_rooted(part: &[u8], place: usize) -> bool
+    ensures { λ r. ⌜ r ≡ rooted (now (part .entry)) place ⌝ }
+{
+    match reads::path_at(part, PathPlace(place)) {
+        PathAt::Path {
+            first,
+            steps: _,
+            at: _,
+            size: _,
+        } => is_child(part, first),
+        PathAt::Missing => false,
+    }
+}
+
+fn start_state(part: &[u8]) -> usize
+    ensures { λ r. ⌜ r ≡ bit (anyRooted (pathCount (now (part .entry))) 0 (now (part .entry))) ⌝ }
+{
+    let n = reads::paths(part);
+    let mut place = 0;
+    while place < n {
+        if is_rooted(part, place) {
+            return 1;
+        }
+        place += 1;
+    }
+    0
+}
+
+// The state of a fresh run.
+pub fn write_start(part: &mut [u8])
+    requires { ⌜ automatonSize ≤ length (now part) ⌝ }
+    ensures { λ _. ⌜ now (part .exit) ≡ withStart (now (part .entry)) ⌝ }
+{
+    let q = start_state(part);
+    put16(part, START_AT, q);
+}

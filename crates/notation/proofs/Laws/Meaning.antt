@@ -1,0 +1,4 @@
+pub mod Innermost
+pub mod LastStep
+pub mod Fit
+pub mod FitTable

@@ -1,0 +1,17 @@
+pub mod Safe
+pub mod Turns
+pub mod Counts
+pub mod FirstFault
+pub mod Faults
+pub mod FaultNumbers
+pub mod Reading
+pub mod Piece
+pub mod StepText
+pub mod StepEnd
+pub mod PathText
+pub mod PathsText
+pub mod NumberText
+pub mod TableSizes
+pub mod FolderText
+pub mod SetText
+pub mod Complete

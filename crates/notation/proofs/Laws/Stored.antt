@@ -1,0 +1,14 @@
+pub mod Stands
+pub mod Entries
+pub mod Sections
+pub mod Words
+pub mod Placed
+pub mod FolderTable
+pub mod PathTable
+pub mod LabelTable
+pub mod Reads
+pub mod ReadSteps
+pub mod ReadFolders
+pub mod ReadPaths
+pub mod Rising
+pub mod FolderOf
