@@ -32,7 +32,6 @@ pub mod Adding
 pub mod Whole
 pub mod Examples
 pub mod ByteBits
-pub mod Below
 pub mod RunShape
 pub mod AllBelow
 pub mod Fuel

@@ -13,7 +13,7 @@ use Rattle.machine.specs.Limits.{maxDepth}
 use Rattle.machine.specs.Shape.{allBelow}
 use Rattle.machine.specs.RunCalls.{depthOf, nameLength, stateAt, rowShaped, runShaped}
 use Rattle.machine.proofs.Laws.Basics.{both}
-use Rattle.machine.proofs.Laws.Below.{below-fails, below-holds}
+use Rattle.machine.proofs.Laws.AllBelow.{all-fails, all-at}
 
 pub too-deep : (a run : List ℕ) → maxDepth < depthOf run → runShaped a run ≡ false
 unfolding runShaped
@@ -21,7 +21,7 @@ too-deep a run h = rw (lt-leb (depthOf run) maxDepth h)
 
 pub bad-row : (a run : List ℕ) (d : ℕ) → depthOf run ≤ maxDepth → d ≤ depthOf run → rowShaped a run d ≡ false → runShaped a run ≡ false
 unfolding runShaped
-bad-row a run d h k e = rw (le-leb (depthOf run) maxDepth h) (below-fails (suc (depthOf run)) d (rowShaped a run) (omega arith) e)
+bad-row a run d h k e = rw (le-leb (depthOf run) maxDepth h) (all-fails (suc (depthOf run)) (rowShaped a run) d (omega arith) e)
 
 pub all-rows : (a run : List ℕ) → depthOf run ≤ maxDepth → allBelow (depthOf run + 1) (rowShaped a run) ≡ true → runShaped a run ≡ true
 unfolding runShaped
@@ -39,6 +39,6 @@ run-shape a run h =
     let b = both (leb (depthOf run) maxDepth) (allBelow (suc (depthOf run)) (rowShaped a run)) h in
     record {
       deepest = leb-true _ _ (b .0);
-      name = λ d k. leb-true _ _ (both (leb (nameLength run d) maxName) (leb (stateAt run d) (suc (labelCount a))) (below-holds (suc (depthOf run)) d (rowShaped a run) (omega arith) (b .1)) .0);
-      state = λ d k. leb-true _ _ (both (leb (nameLength run d) maxName) (leb (stateAt run d) (suc (labelCount a))) (below-holds (suc (depthOf run)) d (rowShaped a run) (omega arith) (b .1)) .1);
+      name = λ d k. leb-true _ _ (both (leb (nameLength run d) maxName) (leb (stateAt run d) (suc (labelCount a))) (all-at (suc (depthOf run)) (rowShaped a run) (b .1) d (omega arith)) .0);
+      state = λ d k. leb-true _ _ (both (leb (nameLength run d) maxName) (leb (stateAt run d) (suc (labelCount a))) (all-at (suc (depthOf run)) (rowShaped a run) (b .1) d (omega arith)) .1);
     }

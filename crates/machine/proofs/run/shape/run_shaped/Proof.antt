@@ -7,7 +7,7 @@ use borrow.Author.Needs.{needs}
 use Rattle.machine.specs.Limits.{maxDepth}
 use Rattle.machine.specs.Shape.{allBelow}
 use Rattle.machine.specs.RunCalls.{depthOf, rowShaped}
-use Rattle.machine.proofs.Laws.Below.{below-none, below-more}
+use Rattle.machine.proofs.Laws.AllBelow.{all-none, all-more}
 use Rattle.machine.proofs.Laws.RunShape.{too-deep, bad-row, all-rows}
 use Rattle.machine.proofs.run.shape.run_shaped.Statement.{statement}
 use Rattle.machine.proofs.run.shape.run_shaped.Tie as tie
@@ -27,7 +27,7 @@ returns c = let a = c .before .before .before .before .args in
     sym (too-deep (a .a .now) (a .run .now) (omega arith))
 
 loop-holds : tie.Need-loop-holds Inv-loop μ-loop
-loop-holds c = (omega arith, below-none _)
+loop-holds c = (omega arith, all-none _)
 
 row-shaped-requires : tie.Need-row-shaped-requires Inv-loop μ-loop
 unfolding maxDepth
@@ -47,7 +47,7 @@ loop-less c = omega arith
 
 loop-again : tie.Need-loop-again Inv-loop μ-loop
 loop-again c = let a = c .before .before .before .before .before .before .before .before .args in
-    (omega arith, below-more (c .before .before .before .loop .d) (rowShaped (a .a .now) (a .run .now)) (c .before .before .before .loop .inv .1) (sym (c .before .row-shaped .ensures) ∙ not-false _ (c .if2 .left)))
+    (omega arith, all-more (c .before .before .before .loop .d) (rowShaped (a .a .now) (a .run .now)) (c .before .before .before .loop .inv .1) (sym (c .before .row-shaped .ensures) ∙ not-false _ (c .if2 .left)))
 
 returns-3 : tie.Need-returns-3 Inv-loop μ-loop
 unfolding maxDepth
