@@ -31,6 +31,8 @@ pub mod Alike
 pub mod Adding
 pub mod Whole
 pub mod Examples
+pub mod ByteBits
+pub mod RunShape
 pub mod AllBelow
 pub mod Fuel
 pub mod Shaped
@@ -60,6 +62,14 @@ pub mod Demand3
 pub mod Tabulate
 pub mod SetReads
 pub mod Chains
+pub mod Rows
+pub mod ChainTurns
+pub mod BitRows
+pub mod ByteSteps
+pub mod Written
+pub mod Given
+pub mod CounterShape
+pub mod Answered
 pub mod Placed
 pub mod Parents
 pub mod Elsewhere

@@ -9,11 +9,15 @@ use Rattle.notation.specs.Reads.{labelName}
 use Rattle.machine.specs.Automaton.{hash}
 use Rattle.machine.specs.Tables.{headAt, nextAt}
 
+-- the label alone, if it has name e
+abbrev pub ownLabel : List ℕ → Name → ℕ → List ℕ
+ownLabel a e l = cond (sameName (labelName a l) e) (l ∷ []) []
+
 -- the labels with name e from a place of a chain on; a place is 1 more than its label, and `more` bounds how many are looked at
 unfoldable pub chainFrom : ℕ → List ℕ → Name → ℕ → List ℕ
 chainFrom zero a e k = []
 chainFrom (suc more) a e zero = []
-chainFrom (suc more) a e (suc l) = cond (sameName (labelName a l) e) (l ∷ []) [] ++ chainFrom more a e (nextAt a l)
+chainFrom (suc more) a e (suc l) = ownLabel a e l ++ chainFrom more a e (nextAt a l)
 
 unfoldable pub chainLabels : List ℕ → Name → List ℕ
 chainLabels a e = chainFrom maxLabels a e (headAt a (hash e))

@@ -20,6 +20,8 @@ pub mod Chain
 pub mod Run
 pub mod RunCalls
 pub mod Asking
+pub mod Openable
+pub mod RunContracts
 pub mod Demand3
 pub mod Build
 pub mod Masks

@@ -80,6 +80,15 @@ startConditions a run = gives (tooShort a run) shortBuffer ∷ gives (not (autom
 abbrev pub rootShut : List ℕ → Counters → Bool
 rootShut run c = not (eqb (c .opens) 0) && eqb (depthOf run) 0
 
+-- those that open and close begin with
+abbrev pub callConditions : List ℕ → List ℕ → Counters → Name → List Condition
+callConditions a run c e =
+    gives (tooShort a run) shortBuffer
+    ∷ gives (not (shaped a run c)) strangeShape
+    ∷ gives (not (nameForm e)) torn
+    ∷ gives (tooLong e) longName
+    ∷ []
+
 abbrev pub openConditions : List ℕ → List ℕ → Counters → Name → List Condition
 openConditions a run c e =
     gives (tooShort a run) shortBuffer
@@ -166,6 +175,15 @@ openRun a run e =
     sets (sets (take at run ++ (rowWritten a run e (take rowSize (drop at run)) ++ drop (at + rowSize) run))
     matchesAt (usedBits a (nowMatched a run e)))
     0 (le16 (suc (depthOf run)))
+
+-- the same from the new row's parts (follows the code; a law ties them)
+unfoldable pub rowFrom : Name → ℕ → List ℕ → List ℕ → List ℕ → List ℕ
+rowFrom e state active seen row = sets (sets (sets row 0 (length e ∷ (padded maxName e ++ le16 state))) activeIn active) seenIn seen
+
+unfoldable pub storedOpen : List ℕ → ℕ → Name → ℕ → List ℕ → List ℕ → List ℕ → List ℕ
+storedOpen run d e state active seen matched =
+    let at = rowAt (suc d) in
+    sets (sets (take at run ++ (rowFrom e state active seen (take rowSize (drop at run)) ++ drop (at + rowSize) run)) matchesAt matched) 0 (le16 (suc d))
 
 unfoldable pub openCounters : List ℕ → List ℕ → Counters → Name → Counters
 openCounters a run c e = record { opens = c .opens + 1; closes = c .closes; moves = c .moves + openWalk a run e .moves }

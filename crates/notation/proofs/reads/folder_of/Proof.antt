@@ -1,5 +1,5 @@
 -- `reads::folder_of`: the search from 0 on equals the search from `i` on, at each turn.
-use Rattle.notation.specs.Reads.{folderCount}
+use Rattle.notation.specs.Reads.{folderCount, storedNumber, searchFolder, folderOf}
 use Prim.Native.Nat.{ℕ, suc, _+_, _-_, _<_, _≤_, min}
 use mathlib.Core.Path.{_≡_, sym, _∙_}
 use mathlib.Core.List.{List}
@@ -10,7 +10,6 @@ use borrow.Author.Needs.{needs}
 use borrow.Author.Tests.{le-leb, lt-leb, eq-eqb, ne-eqb}
 use Rattle.notation.specs.Limits.{maxPaths}
 use Rattle.notation.specs.Layout.{foldersAt, folderSize, setSize}
-use Rattle.notation.specs.Reads.{storedNumber, searchFolder, folderOf}
 use Rattle.notation.specs.declared.reads.FolderIndex.{FolderIndex}
 use Rattle.notation.proofs.reads.folder_of.Statement.{statement}
 use Rattle.notation.proofs.reads.folder_of.Tie as tie

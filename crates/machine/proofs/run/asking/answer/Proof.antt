@@ -1,0 +1,17 @@
+use mathlib.Core.Path.{_≡_, sym}
+use Rattle.machine.proofs.Laws.Answered.{refused-asked}
+use borrow.Author.Needs.{needs}
+use Rattle.machine.proofs.run.asking.answer.Statement.{statement}
+use Rattle.machine.proofs.run.asking.answer.Tie as tie
+
+returns : tie.Need-returns
+returns c = refused-asked _ _ (c .if1 .taken)
+
+returns-2 : tie.Need-returns-2
+returns-2 c = rw (c .before .if1 .left, c .if2 .taken)
+
+returns-3 : tie.Need-returns-3
+returns-3 c = rw (c .before .if1 .left, c .if2 .left)
+
+pub answer-spec : {M : Type 1} → statement M
+answer-spec = tie.close (tie.spec returns returns-2 returns-3)

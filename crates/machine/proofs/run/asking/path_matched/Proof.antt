@@ -1,0 +1,35 @@
+use mathlib.Core.Path.{_≡_, sym, _∙_, ap}
+use Prim.Native.Nat.{ℕ}
+use mathlib.Core.Bool.{Bool}
+use Rattle.notation.specs.Reads.{pathAt}
+use Rattle.machine.specs.Asking.{askRefusal, answered, askPath, hasPath, placeMatched}
+use borrow.Author.Needs.{needs}
+use Rattle.machine.proofs.run.asking.path_matched.Statement.{statement}
+use Rattle.machine.proofs.run.asking.path_matched.Tie as tie
+
+has-path-requires : tie.Need-has-path-requires
+has-path-requires c κs = search needs
+
+ask-refusal-requires : tie.Need-ask-refusal-requires
+ask-refusal-requires c κs = search needs
+
+place-matched-requires : tie.Need-place-matched-requires
+place-matched-requires c κs = search needs
+
+answer-requires : tie.Need-answer-requires
+answer-requires c κs = search needs
+
+returns : tie.Need-returns
+unfolding askPath
+returns c = let b = c .before .before .before .before .before .before .args in
+    c .answer .ensures ∙ ap (answered (c .before .before .ask-refusal .result)) (c .before .place-matched .ensures) ∙ ap (λ (r : ℕ). answered r (placeMatched (b .a .now) (b .run .now) (b .place .0))) (c .before .before .ask-refusal .ensures ∙ ap (askRefusal (b .a .now) (b .run .now)) (c .before .before .before .has-path .ensures))
+
+pub path-matched-spec : {M : Type 1} → statement M
+path-matched-spec =
+    tie.close
+    (tie.spec
+    has-path-requires
+    ask-refusal-requires
+    place-matched-requires
+    answer-requires
+    returns)

@@ -1,0 +1,118 @@
+use native.Mathlib.Omega.{arith}
+use mathlib.Core.Path.{_≡_, refl, sym, _∙_, ap}
+use mathlib.Core.Bool.{Bool, true, false, _||_}
+use mathlib.Core.List.{List}
+use Prim.Native.Nat.{ℕ, _+_, _-_, _≤_}
+use lib.Dec.{eqb}
+use lib.ListN.{length}
+use borrow.Author.Needs.{needs}
+use Rattle.notation.specs.Limits.{maxLabels}
+use Rattle.notation.specs.Reads.{word16, labelCount, labelEntryAt}
+use Rattle.machine.specs.Words.{any}
+use Rattle.machine.specs.Automaton.{hashes, hash, headsAt, linksAt, linkSize}
+use Rattle.machine.specs.Tables.{headAt, nextAt}
+use Rattle.machine.specs.Bits.{bitAt}
+use Rattle.machine.specs.Chain.{chainFrom, chainLabels}
+use Rattle.machine.proofs.Laws.Goto.{hash-small}
+use Rattle.machine.proofs.Laws.BitRows.{or-none}
+use Rattle.machine.proofs.Laws.ChainTurns.{chain-none, left, low, rises, marked}
+use Rattle.machine.proofs.run.candidates.mark_labels.Statement.{statement}
+use Rattle.machine.proofs.run.candidates.mark_labels.Tie as tie
+
+abbrev Inv-loop : tie.InvT-loop
+Inv-loop out₀ a e h k₀ out k = (k ≤ labelCount a) × ((length out ≡ length out₀) × ((j : ℕ) → (bitAt out j || any (λ m. eqb (word16 a (labelEntryAt m + 4)) j) (chainFrom maxLabels a e k)) ≡ (bitAt out₀ j || any (λ m. eqb (word16 a (labelEntryAt m + 4)) j) (chainLabels a e))))
+
+abbrev μ-loop : tie.MeasureT-loop
+μ-loop out₀ a e h k₀ out k = left (labelCount a) k
+
+mul-word-at : tie.Need-mul-word-at Inv-loop μ-loop
+unfolding hashes
+mul-word-at c = omega (arith, hash-small (c .before .before .before .args .e .now), c .before .before .before .pre .1 .1)
+
+add-word-at : tie.Need-add-word-at Inv-loop μ-loop
+unfolding hashes
+add-word-at c = omega (arith, hash-small (c .before .before .before .args .e .now), c .before .before .before .pre .1 .1)
+
+word-at-requires : tie.Need-word-at-requires Inv-loop μ-loop
+word-at-requires c κs = search needs
+
+loop-holds : tie.Need-loop-holds Inv-loop μ-loop
+unfolding chainLabels headsAt
+loop-holds c = let b = c .before .before .before .before in
+    let a = b .args .a .now in
+    let e = b .args .e .now in
+    let hh : b .args .h ≡ hash e = b .pre .1 .1 in
+    let r : c .word-at .result ≡ headAt a (hash e) = rw hh at (c .word-at .ensures .0) in
+    (rw r (b .pre .1 .0 .walkable .searchable .head (hash e) (hash-small e)), (refl, λ j. rw r))
+
+sub-mark-label : tie.Need-sub-mark-label Inv-loop μ-loop
+sub-mark-label c = omega arith
+
+mark-label-requires : tie.Need-mark-label-requires Inv-loop μ-loop
+mark-label-requires c κs = let b = c .before .before .before .before .before .before .before in
+    let l = c .before .before .loop in
+    (omega (arith, l .inv .1 .0, b .pre .0), (b .pre .1 .0, low (b .args .a .now) (b .pre .1 .0 .walkable .searchable) (l .k) (c .before .loop-test .taken) (l .inv .0)))
+
+sub-word-at : tie.Need-sub-word-at Inv-loop μ-loop
+sub-word-at c = omega arith
+
+mul-word-at-2 : tie.Need-mul-word-at-2 Inv-loop μ-loop
+unfolding maxLabels
+mul-word-at-2 c = omega (arith, c .before .before .before .before .before .before .before .before .before .before .pre .1 .0 .walkable .searchable .few)
+
+add-word-at-2 : tie.Need-add-word-at-2 Inv-loop μ-loop
+unfolding maxLabels
+add-word-at-2 c = omega (arith, c .before .before .before .before .before .before .before .before .before .before .pre .1 .0 .walkable .searchable .few)
+
+word-at-requires-2 : tie.Need-word-at-requires-2 Inv-loop μ-loop
+word-at-requires-2 c κs = search needs
+
+loop-less : tie.Need-loop-less Inv-loop μ-loop
+unfolding linksAt linkSize
+loop-less c = let b = c .before .before .before .before .before .before .before .before .before .before .before in
+    let l = c .before .before .before .before .before .before .loop in
+    let r : c .word-at2 .result ≡ nextAt (b .args .a .now) (l .k - 1) = c .word-at2 .ensures .0 in
+    rw r (rises (b .args .a .now) (b .pre .1 .0 .walkable .searchable) (l .k) (c .before .before .before .before .before .loop-test .taken) (l .inv .0))
+
+loop-again : tie.Need-loop-again Inv-loop μ-loop
+unfolding linksAt linkSize
+loop-again c = let b = c .before .before .before .before .before .before .before .before .before .before .before in
+    let l = c .before .before .before .before .before .before .loop in
+    let a = b .args .a .now in
+    let e = b .args .e .now in
+    let s = b .pre .1 .0 .walkable .searchable in
+    let z = c .before .before .before .before .before .loop-test .taken in
+    let r : c .word-at2 .result ≡ nextAt a (l .k - 1) = c .word-at2 .ensures .0 in
+    let m = c .before .before .before .mark-label in
+    (rw r (s .next (l .k - 1) (low a s (l .k) z (l .inv .0))), (m .kept .0 ∙ l .inv .1 .0, λ j. rw r (marked a s (l .k) z (l .inv .0) e (λ n. eqb (word16 a (labelEntryAt n + 4)) j) (bitAt (m .last .0) j) (bitAt (l .out) j) (m .ensures j) ∙ l .inv .1 .1 j)))
+
+same-length : tie.Need-same-length Inv-loop μ-loop
+same-length c = c .before .loop .inv .1 .0
+
+returns : tie.Need-returns Inv-loop μ-loop
+returns c = let b = c .before .before .before .before .before .before in
+    let a = b .args .a .now in
+    let e = b .args .e .now in
+    let l = c .before .loop in
+    λ j. sym (or-none (bitAt (l .out) j) (λ n. eqb (word16 a (labelEntryAt n + 4)) j)) ∙ ap (λ (x : List ℕ). bitAt (l .out) j || any (λ n. eqb (word16 a (labelEntryAt n + 4)) j) x) (sym (chain-none maxLabels a e) ∙ ap (chainFrom maxLabels a e) (sym (c .loop-test .left))) ∙ l .inv .1 .1 j
+
+pub mark-labels-spec : {M : Type 1} → statement M
+mark-labels-spec =
+    tie.close
+    (tie.spec
+    Inv-loop
+    μ-loop
+    mul-word-at
+    add-word-at
+    word-at-requires
+    loop-holds
+    sub-mark-label
+    mark-label-requires
+    sub-word-at
+    mul-word-at-2
+    add-word-at-2
+    word-at-requires-2
+    loop-less
+    loop-again
+    same-length
+    returns)

@@ -1,0 +1,68 @@
+use Rattle.machine.proofs.Laws.RunShape.{run-shape}
+use Rattle.machine.proofs.Laws.Shaped.{shaped-is}
+use Rattle.machine.proofs.Laws.Rows.{row-width, run-kept, closed}
+use native.Mathlib.Omega.{arith}
+use mathlib.Core.Path.{_∙_, ap}
+use lib.ListN.{length}
+use Rattle.machine.specs.Run.{rowSize, runSize}
+use borrow.Author.Needs.{needs}
+use Rattle.machine.proofs.run.close.close_on.Statement.{statement}
+use Rattle.machine.proofs.run.close.close_on.Tie as tie
+
+depth-requires : tie.Need-depth-requires
+depth-requires c κs = search needs
+
+row-at-requires : tie.Need-row-at-requires
+row-at-requires c κs = let b = c .before .before .before .before in
+    omega (arith, c .depth .ensures .0, run-shape (b .args .a .now) (b .args .run .now) (b .pre .0 .runIsShaped) .deepest)
+
+add-end : tie.Need-add-end
+add-end c = search needs
+
+sub-clear-row : tie.Need-sub-clear-row
+sub-clear-row c = search needs
+
+part-clear-row-start : tie.Need-part-clear-row-start
+part-clear-row-start c = search needs
+
+part-clear-row-end : tie.Need-part-clear-row-end
+unfolding rowSize runSize
+part-clear-row-end c = omega arith
+
+clear-row-requires : tie.Need-clear-row-requires
+unfolding rowSize runSize
+clear-row-requires c κs = let b = c .before .before .before .before .before .before in
+    (shaped-is (b .args .a .now) (b .pre .0 .shaped) .counts .steps, row-width (c .before .row-at .result) rowSize (b .args .run .now) (omega arith))
+
+sub-put16 : tie.Need-sub-put16
+sub-put16 c = search needs
+
+put16-requires : tie.Need-put16-requires
+unfolding rowSize runSize
+put16-requires c κs = let a = c .before .before .before .before .before .before .before .before .before .before in
+    omega (arith, run-kept (c .before .before .before .before .before .row-at .result) rowSize (a .args .run .now) (c .before .before .before .clear-row .last .1 .0) (c .before .before .before .clear-row .kept .1 .0))
+
+same-length : tie.Need-same-length
+same-length c = search needs
+
+returns : tie.Need-returns
+unfolding rowSize
+returns c = let b = c .before .before .before .before .before .before .before .before in
+    let a = b .before .before .before .before .before .args in
+    c .before .before .put16 .ensures ∙ closed (a .a .now) (a .run .now) _ (b .before .depth .result) (b .row-at .result) (b .before .depth .ensures .0) (b .row-at .ensures .0) (c .before .before .before .before .before .before .clear-row .ensures)
+
+pub close-on-spec : {M : Type 1} → statement M
+close-on-spec =
+    tie.close
+    (tie.spec
+    depth-requires
+    row-at-requires
+    add-end
+    sub-clear-row
+    part-clear-row-start
+    part-clear-row-end
+    clear-row-requires
+    sub-put16
+    put16-requires
+    same-length
+    returns)

@@ -1,0 +1,82 @@
+use native.Mathlib.Omega.{arith}
+use mathlib.Core.Path.{_≡_, sym, _∙_, ap}
+use mathlib.Core.List.{List}
+use Prim.Native.Nat.{ℕ, _+_}
+use lib.Seq.{sets}
+use Rattle.notation.specs.Limits.{maxName}
+use Rattle.notation.specs.Layout.{le16}
+use Rattle.machine.specs.Limits.{maxDepth}
+use Rattle.machine.specs.Automaton.{maskSize}
+use Rattle.machine.specs.Run.{rowSize, runSize, matchesAt}
+use Rattle.machine.proofs.Laws.Rows.{row-width, run-kept}
+use Rattle.machine.proofs.Laws.Written.{stored}
+use borrow.Author.Needs.{needs}
+use Rattle.machine.proofs.run.open.store.Statement.{statement}
+use Rattle.machine.proofs.run.open.store.Tie as tie
+
+add-row-at : tie.Need-add-row-at
+unfolding maxDepth
+add-row-at c = omega arith
+
+row-at-requires : tie.Need-row-at-requires
+row-at-requires c κs = search needs
+
+add-end : tie.Need-add-end
+add-end c = search needs
+
+sub-write-row : tie.Need-sub-write-row
+sub-write-row c = search needs
+
+part-write-row-start : tie.Need-part-write-row-start
+part-write-row-start c = search needs
+
+part-write-row-end : tie.Need-part-write-row-end
+unfolding rowSize runSize
+part-write-row-end c = omega arith
+
+write-row-requires : tie.Need-write-row-requires
+unfolding rowSize runSize
+write-row-requires c κs = let a = c .before .before .before .before .before .before .before in
+    (a .pre .1 .0, (row-width (c .before .row-at .result) rowSize (a .args .run .now) (omega arith), (a .pre .1 .1 .1 .0, a .pre .1 .1 .1 .1 .0)))
+
+copy-requires : tie.Need-copy-requires
+unfolding rowSize runSize maskSize
+copy-requires c κs = let a = c .before .before .before .before .before .before .before .before .before .before .before in
+    omega (arith, run-kept (c .before .before .before .before .before .row-at .result) rowSize (a .args .run .now) (c .before .before .before .write-row .last .0) (c .before .before .before .write-row .kept .0), a .pre .1 .1 .1 .1 .1, a .pre .1 .1 .0)
+
+add-put16 : tie.Need-add-put16
+unfolding maxDepth
+add-put16 c = omega arith
+
+put16-requires : tie.Need-put16-requires
+unfolding rowSize runSize
+put16-requires c κs = let a = c .before .before .before .before .before .before .before .before .before .before .before .before .before .before .before in
+    omega (arith, c .before .before .before .copy .kept .0, run-kept (c .before .before .before .before .before .before .before .before .before .row-at .result) rowSize (a .args .run .now) (c .before .before .before .before .before .before .before .write-row .last .0) (c .before .before .before .before .before .before .before .write-row .kept .0), a .pre .1 .1 .0)
+
+same-length : tie.Need-same-length
+same-length c = search needs
+
+returns : tie.Need-returns
+unfolding rowSize matchesAt
+returns c = let b = c .before .before .before .before .before .before .before .before .before .before .before .before in
+    let w = c .before .before .before .before .before .before .before .before .before .before .write-row in
+    let a = b .before .before .before .before .before .before .args in
+    c .before .before .put16 .ensures ∙ ap (λ (l : List ℕ). sets l 0 (le16 (a .d + 1))) (c .before .before .before .before .before .before .copy .ensures)
+    ∙ stored (a .run .now) (w .last .0) (a .matched .now) (a .e .now) (a .active .now) (a .seen .now) (a .d) (b .row-at .result) (a .state) (b .row-at .ensures .0) (w .ensures)
+
+pub store-spec : {M : Type 1} → statement M
+store-spec =
+    tie.close
+    (tie.spec
+    add-row-at
+    row-at-requires
+    add-end
+    sub-write-row
+    part-write-row-start
+    part-write-row-end
+    write-row-requires
+    copy-requires
+    add-put16
+    put16-requires
+    same-length
+    returns)

@@ -1,0 +1,42 @@
+use native.Mathlib.Omega.{arith}
+use mathlib.Core.Path.{_≡_, _∙_, ap}
+use mathlib.Core.List.{List, _++_}
+use Prim.Native.Nat.{ℕ, _+_}
+use lib.ListN.{drop, replicate}
+use lib.Seq.{sets}
+use Rattle.notation.specs.Layout.{le16}
+use Rattle.machine.specs.Automaton.{startAt}
+use Rattle.machine.specs.Run.{rowAt, rowsAt, rowSize, stateIn, runSize}
+use Rattle.machine.proofs.Laws.Given.{within-run, started}
+use borrow.Author.Needs.{needs}
+use Rattle.machine.proofs.run.start.start_on.Statement.{statement}
+use Rattle.machine.proofs.run.start.start_on.Tie as tie
+
+clear-run-requires : tie.Need-clear-run-requires
+clear-run-requires c κs = search needs
+
+add-put16 : tie.Need-add-put16
+add-put16 c = search needs
+
+word-at-requires : tie.Need-word-at-requires
+word-at-requires c κs = search needs
+
+put16-requires : tie.Need-put16-requires
+unfolding rowsAt rowSize stateIn
+put16-requires c κs = let b = c .before .before .before .before .before .before .before .before in
+    omega (arith, within-run, c .before .before .before .before .clear-run .kept .0, b .pre)
+
+same-length : tie.Need-same-length
+same-length c = search needs
+
+returns : tie.Need-returns
+unfolding rowsAt rowSize stateIn startAt
+returns c = let b = c .before .before .before .before .before .before .before .before .before .before .before in
+    c .before .before .put16 .ensures ∙ ap (λ (l : List ℕ). sets l 291 (le16 (c .before .before .before .word-at .result))) (c .before .before .before .before .before .before .before .clear-run .ensures)
+    ∙ ap (λ (n : ℕ). sets (replicate runSize 0 ++ drop runSize (b .args .run .now)) 291 (le16 n)) (c .before .before .before .word-at .ensures .0)
+    ∙ started (b .args .a .now) (b .args .run .now)
+
+pub start-on-spec : {M : Type 1} → statement M
+start-on-spec =
+    tie.close
+    (tie.spec clear-run-requires add-put16 word-at-requires put16-requires same-length returns)

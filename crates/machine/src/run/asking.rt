@@ -1,0 +1,187 @@
+// The calls that ask a run, and change nothing.
+use crate::answers::Asked;
+use crate::answers::Length;
+use crate::bits::bit_in;
+use crate::run::layout::ACTIVE_IN;
+use crate::run::layout::MATCHES_AT;
+use crate::run::refusals;
+use crate::run::shape;
+use crate::shape::size_of;
+use notation::FolderNumber;
+use notation::PathPlace;
+use notation::arith::minus;
+use notation::reads;
+use notation::reads::FolderAt;
+use notation::reads::FolderIndex;
+use notation::reads::PathAt;
+ghost use mathlib.Core.Path.{_≡_};
+ghost use Prim.Native.Nat.{_+_, _-_, _≤_};
+ghost use Rattle.notation.specs.Names.{within};
+ghost use Rattle.machine.specs.Words.{any};
+ghost use Rattle.machine.specs.Folders.{countFrom};
+ghost use Rattle.notation.specs.Reads.{pathAt, folderAt};
+ghost use Rattle.machine.specs.Openable.{Ready};
+ghost use Rattle.machine.specs.RunCalls.{depthOf, activeAt};
+ghost use Rattle.machine.specs.Asking.{answered, hasPath, placeMatched, pathsOfFolder, askRefusal, askPath, askFolder, askStep, askPrefix, askName, nameRefusal};
+
+fn answer(refused: u8, yes: bool) -> Asked
+    ensures { λ r. ⌜ r ≡ answered refused yes ⌝ }
+{
+    if refused != 0 {
+        return Asked::Refused(refused);
+    }
+    if yes {
+        return Asked::Yes;
+    }
+    Asked::No
+}
+
+// The match bit of a path's last step.
+fn place_matched(a: &[u8], run: &[u8], place: usize) -> bool
+    ensures { λ r. ⌜ r ≡ placeMatched (now (a .entry)) (now (run .entry)) place ⌝ }
+{
+    match reads::path_at(a, PathPlace(place)) {
+        PathAt::Path {
+            first,
+            steps,
+            at: _,
+            size: _,
+        } => bit_in(run, MATCHES_AT, minus(first + steps, 1)),
+        PathAt::Missing => false,
+    }
+}
+
+fn has_path(a: &[u8], place: PathPlace) -> bool
+    ensures { λ r. ⌜ r ≡ hasPath (pathAt (now (a .entry)) place) ⌝ }
+{
+    match reads::path_at(a, place) {
+        PathAt::Path {
+            first: _,
+            steps: _,
+            at: _,
+            size: _,
+        } => true,
+        PathAt::Missing => false,
+    }
+}
+
+// Is a path matched?
+pub fn path_matched(a: &[u8], run: &[u8], place: PathPlace) -> Asked
+    ensures { λ r. ⌜ r ≡ askPath (now (a .entry)) (now (run .entry)) place ⌝ }
+{
+    let refused = refusals::ask_refusal(a, run, has_path(a, place));
+    answer(refused, place_matched(a, run, place.0))
+}
+
+// One of `count` paths from place `first` on is matched.
+fn any_matched(a: &[u8], run: &[u8], first: usize, count: usize) -> bool
+    requires { ⌜ (first ≤ 65536) × (count ≤ 65536) ⌝ }
+    ensures { λ r. ⌜ r ≡ any (placeMatched (now (a .entry)) (now (run .entry))) (countFrom first count) ⌝ }
+{
+    let mut i = 0;
+    while i < count {
+        if place_matched(a, run, first + i) {
+            return true;
+        }
+        i += 1;
+    }
+    false
+}
+
+fn folder_paths_matched(a: &[u8], run: &[u8], i: usize) -> bool
+    ensures { λ r. ⌜ r ≡ any (placeMatched (now (a .entry)) (now (run .entry))) (pathsOfFolder (folderAt (now (a .entry)) i)) ⌝ }
+{
+    match reads::folder_at(a, i) {
+        FolderAt::Folder {
+            number: _,
+            first,
+            paths,
+        } => any_matched(a, run, first.0, paths),
+        FolderAt::Missing => false,
+    }
+}
+
+// Is a folder, by its number, matched?
+pub fn folder_matched(a: &[u8], run: &[u8], number: FolderNumber) -> Asked
+    ensures { λ r. ⌜ r ≡ askFolder (now (a .entry)) (now (run .entry)) number ⌝ }
+{
+    match reads::folder_of(a, number) {
+        FolderIndex::At(i) => answer(
+            refusals::ask_refusal(a, run, true),
+            folder_paths_matched(a, run, i),
+        ),
+        FolderIndex::Missing => answer(refusals::ask_refusal(a, run, false), false),
+    }
+}
+
+// Step s, from 1, of a path that begins with step `first`, on the innermost element.
+fn bit_active(a: &[u8], run: &[u8], first: usize, s: usize) -> bool
+    requires { ⌜ (Ready (now a) (now run)) × ((first ≤ 65536) × (s ≤ 65536)) ⌝ }
+    ensures { λ r. ⌜ r ≡ activeAt (now (run .entry)) (depthOf (now (run .entry))) (first + s - 1) ⌝ }
+{
+    let at = shape::row_at(shape::depth(run));
+    bit_in(run, at + ACTIVE_IN, minus(first + s, 1))
+}
+
+fn between(low: usize, high: usize, x: usize) -> bool
+    ensures { λ r. ⌜ r ≡ within low high x ⌝ }
+{
+    if low <= x {
+        return x <= high;
+    }
+    false
+}
+
+fn ask_step(a: &[u8], run: &[u8], first: usize, steps: usize, s: usize) -> Asked
+    requires { ⌜ (first ≤ 65536) × (steps ≤ 65536) ⌝ }
+    ensures { λ r. ⌜ r ≡ answered (askRefusal (now (a .entry)) (now (run .entry)) (within 1 steps s)) (activeAt (now (run .entry)) (depthOf (now (run .entry))) (first + s - 1)) ⌝ }
+{
+    let refused = refusals::ask_refusal(a, run, between(1, steps, s));
+    if refused != 0 {
+        return Asked::Refused(refused);
+    }
+    answer(0, bit_active(a, run, first, s))
+}
+
+// Is step s, from 1, of a path active on the innermost element?
+pub fn step_active(a: &[u8], run: &[u8], place: PathPlace, s: usize) -> Asked
+    ensures { λ r. ⌜ r ≡ askStep (now (a .entry)) (now (run .entry)) place s ⌝ }
+{
+    match reads::path_at(a, place) {
+        PathAt::Path {
+            first,
+            steps,
+            at: _,
+            size: _,
+        } => ask_step(a, run, first, steps, s),
+        PathAt::Missing => answer(refusals::ask_refusal(a, run, false), false),
+    }
+}
+
+// The length of the current prefix (paper 01: the held word).
+pub fn prefix_length(a: &[u8], run: &[u8]) -> Length
+    ensures { λ r. ⌜ r ≡ askPrefix (now (a .entry)) (now (run .entry)) ⌝ }
+{
+    let refused = refusals::ask_refusal(a, run, true);
+    if refused != 0 {
+        return Length::Refused(refused);
+    }
+    Length::Symbols(size_of(a, shape::state_at(run, shape::depth(run))))
+}
+
+// The refusal of the open name at a depth, 0 for none.
+pub fn name_refusal(a: &[u8], run: &[u8], d: usize) -> u8
+    ensures { λ r. ⌜ r ≡ nameRefusal (now (a .entry)) (now (run .entry)) d ⌝ }
+{
+    refusals::ask_refusal(a, run, between(1, shape::depth(run), d))
+}
+
+// The open name at a depth, from 1: a part of the run, empty if refused.
+pub fn open_name<'a, 'r>(a: &'a [u8], run: &'r [u8], d: usize) -> &'r [u8]
+    ensures { λ r. ⌜ now r ≡ askName (now (a .entry)) (now (run .entry)) d ⌝ }
+{
+    if name_refusal(a, run, d) != 0 {
+        return &run[..0];
+    }
+    refusals::stored_name(a, run, d)
+}

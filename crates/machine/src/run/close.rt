@@ -1,0 +1,48 @@
+// A close: the innermost element's row becomes zero.
+use crate::answers::ClosedBy;
+use crate::counters::Counters;
+use crate::run::layout::ROW_SIZE;
+use crate::run::refusals;
+use crate::run::row;
+use crate::run::shape;
+use notation::put;
+ghost use mathlib.Core.Path.{_≡_};
+ghost use Prim.Native.Nat.{_<_};
+ghost use Rattle.machine.specs.RunContracts.{ClosesBy};
+ghost use Rattle.machine.specs.Openable.{Ready};
+ghost use Rattle.machine.specs.RunCalls.{depthOf, closeRun};
+
+// A close that is accepted: for callers that know the shape of automaton and run, and that an element is open. The row of the innermost
+// element is lent to the function that clears it.
+pub fn close_on(a: &[u8], run: &mut [u8])
+    requires { ⌜ (Ready (now a) (now run)) × (0 < depthOf (now run)) ⌝ }
+    ensures { λ _. ⌜ now (run .exit) ≡ closeRun (now (a .entry)) (now (run .entry)) ⌝ }
+{
+    let d = shape::depth(run);
+    let at = shape::row_at(d);
+    let end = at + ROW_SIZE;
+    row::clear_row(a, &mut run[at..end]);
+    put::put16(run, 0, d - 1);
+}
+
+// The close, with the counters by value.
+pub fn close_by(a: &[u8], run: &mut [u8], counters: Counters, e: &[u8]) -> ClosedBy
+    ensures { λ r. ⌜ ClosesBy (now (a .entry)) (now (run .entry)) counters (now (e .entry)) r (now (run .exit)) ⌝ }
+{
+    let refused = refusals::close_refusal(a, run, counters, e);
+    if refused != 0 {
+        return ClosedBy {
+            refusal: refused,
+            counters: counters,
+        };
+    }
+    close_on(a, run);
+    ClosedBy {
+        refusal: 0,
+        counters: Counters {
+            opens: counters.opens,
+            closes: counters.closes + 1,
+            moves: counters.moves,
+        },
+    }
+}

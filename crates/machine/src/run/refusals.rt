@@ -1,0 +1,136 @@
+// The refusals of the calls on a run, each in its order.
+use crate::counters::Counters;
+use crate::layout::AUTOMATON_SIZE;
+use crate::run::layout::MAX_DEPTH;
+use crate::run::layout::MAX_OPENS;
+use crate::run::layout::NAME_IN;
+use crate::run::layout::RUN_SIZE;
+use crate::run::shape;
+use crate::shape::automaton_shaped;
+use notation::names;
+ghost use mathlib.Core.Path.{_≡_};
+ghost use mathlib.Core.Bool.{_&&_};
+ghost use Prim.Native.Nat.{_≤_};
+ghost use Rattle.machine.specs.Shape.{automatonShaped};
+ghost use Rattle.machine.specs.RunCalls.{depthOf, storedName, runShaped, shaped, rootShut, given, callConditions, openRefusal, closeRefusal};
+ghost use Rattle.machine.specs.Asking.{askRefusal};
+ghost use Rattle.machine.specs.Openable.{Ready};
+
+// Automaton and run pass the shape test.
+fn both_shaped(a: &[u8], run: &[u8]) -> bool
+    ensures { λ r. ⌜ r ≡ (automatonShaped (now (a .entry)) && runShaped (now (a .entry)) (now (run .entry))) ⌝ }
+{
+    if automaton_shaped(a) {
+        return shape::run_shaped(a, run);
+    }
+    false
+}
+
+// Automaton, run and counters do.
+fn all_shaped(a: &[u8], run: &[u8], c: Counters) -> bool
+    ensures { λ r. ⌜ r ≡ shaped (now (a .entry)) (now (run .entry)) c ⌝ }
+{
+    if both_shaped(a, run) {
+        return shape::counters_shaped(run, c);
+    }
+    false
+}
+
+// The name in the row of an open element.
+pub fn stored_name<'a, 'r>(a: &'a [u8], run: &'r [u8], d: usize) -> &'r [u8]
+    requires { ⌜ (Ready (now a) (now run)) × (d ≤ depthOf (now run)) ⌝ }
+    ensures { λ r. ⌜ now r ≡ storedName (now (run .entry)) d ⌝ }
+{
+    let from = shape::row_at(d) + NAME_IN;
+    let to = from + shape::name_length(run, d);
+    &run[from..to]
+}
+
+// 1, 14, 9, 5, with which open and close begin.
+fn call_refusal(a: &[u8], run: &[u8], c: Counters, e: &[u8]) -> u8
+    ensures { λ r. ⌜ r ≡ given (callConditions (now (a .entry)) (now (run .entry)) c (now (e .entry))) ⌝ }
+{
+    if a.len() < AUTOMATON_SIZE {
+        return 1;
+    }
+    if run.len() < RUN_SIZE {
+        return 1;
+    }
+    if !all_shaped(a, run, c) {
+        return 14;
+    }
+    if !names::name_form(e) {
+        return 9;
+    }
+    if names::too_long(e) {
+        return 5;
+    }
+    0
+}
+
+// The root is closed.
+fn root_shut(run: &[u8], c: Counters) -> bool
+    ensures { λ r. ⌜ r ≡ rootShut (now (run .entry)) c ⌝ }
+{
+    if c.opens == 0 {
+        return false;
+    }
+    shape::depth(run) == 0
+}
+
+// An open's: 1, 14, 9, 5, 10, 11, 7.
+pub fn open_refusal(a: &[u8], run: &[u8], c: Counters, e: &[u8]) -> u8
+    ensures { λ r. ⌜ r ≡ openRefusal (now (a .entry)) (now (run .entry)) c (now (e .entry)) ⌝ }
+{
+    let first = call_refusal(a, run, c, e);
+    if first != 0 {
+        return first;
+    }
+    if root_shut(run, c) {
+        return 10;
+    }
+    if MAX_DEPTH <= shape::depth(run) {
+        return 11;
+    }
+    if MAX_OPENS <= c.opens {
+        return 7;
+    }
+    0
+}
+
+// A close's: 1, 14, 9, 5, 10, 12.
+pub fn close_refusal(a: &[u8], run: &[u8], c: Counters, e: &[u8]) -> u8
+    ensures { λ r. ⌜ r ≡ closeRefusal (now (a .entry)) (now (run .entry)) c (now (e .entry)) ⌝ }
+{
+    let first = call_refusal(a, run, c, e);
+    if first != 0 {
+        return first;
+    }
+    let d = shape::depth(run);
+    if d == 0 {
+        return 10;
+    }
+    if !names::same_name(stored_name(a, run, d), e) {
+        return 12;
+    }
+    0
+}
+
+// An asking call's: 1, 14 (automaton and run), 13 where what is asked of is not there.
+pub fn ask_refusal(a: &[u8], run: &[u8], there: bool) -> u8
+    ensures { λ r. ⌜ r ≡ askRefusal (now (a .entry)) (now (run .entry)) there ⌝ }
+{
+    if a.len() < AUTOMATON_SIZE {
+        return 1;
+    }
+    if run.len() < RUN_SIZE {
+        return 1;
+    }
+    if !both_shaped(a, run) {
+        return 14;
+    }
+    if there {
+        return 0;
+    }
+    13
+}

@@ -1,0 +1,71 @@
+// A start: a fresh run, whatever the run held.
+use crate::answers::Started;
+use crate::counters::Counters;
+use crate::layout::AUTOMATON_SIZE;
+use crate::layout::START_AT;
+use crate::run::layout::ROWS_AT;
+use crate::run::layout::RUN_SIZE;
+use crate::run::layout::STATE_IN;
+use crate::shape;
+use notation::put;
+use notation::reads;
+ghost use mathlib.Core.Path.{_≡_};
+ghost use mathlib.Core.List.{_++_};
+ghost use Prim.Native.Nat.{_≤_};
+ghost use lib.ListN.{length, drop, replicate};
+ghost use Rattle.machine.specs.Run.{runSize};
+ghost use Rattle.machine.specs.RunCalls.{startRun, startRefusal};
+ghost use Rattle.machine.specs.RunContracts.{StartsBy};
+
+fn clear_run(run: &mut [u8])
+    requires { ⌜ runSize ≤ length (now run) ⌝ }
+    ensures { λ _. ⌜ now (run .exit) ≡ replicate runSize 0 ++ drop runSize (now (run .entry)) ⌝ }
+{
+    put::clear(run, RUN_SIZE);
+}
+
+// A fresh run.
+pub fn start_on(a: &[u8], run: &mut [u8])
+    requires { ⌜ runSize ≤ length (now run) ⌝ }
+    ensures { λ _. ⌜ now (run .exit) ≡ startRun (now (a .entry)) (now (run .entry)) ⌝ }
+{
+    clear_run(run);
+    put::put16(run, ROWS_AT + STATE_IN, reads::word_at(a, START_AT));
+}
+
+fn start_refusal(a: &[u8], run: &[u8]) -> u8
+    ensures { λ r. ⌜ r ≡ startRefusal (now (a .entry)) (now (run .entry)) ⌝ }
+{
+    if a.len() < AUTOMATON_SIZE {
+        return 1;
+    }
+    if run.len() < RUN_SIZE {
+        return 1;
+    }
+    if shape::automaton_shaped(a) {
+        return 0;
+    }
+    14
+}
+
+// The start, with the counters by value.
+pub fn start_by(a: &[u8], run: &mut [u8], counters: Counters) -> Started
+    ensures { λ r. ⌜ StartsBy (now (a .entry)) (now (run .entry)) counters r (now (run .exit)) ⌝ }
+{
+    let refused = start_refusal(a, run);
+    if refused != 0 {
+        return Started {
+            refusal: refused,
+            counters: counters,
+        };
+    }
+    start_on(a, run);
+    Started {
+        refusal: 0,
+        counters: Counters {
+            opens: 0,
+            closes: 0,
+            moves: 0,
+        },
+    }
+}
