@@ -11,7 +11,7 @@ use Rattle.notation.specs.Sets.{FolderSet}
 use Rattle.notation.specs.Accepted.{Accepted}
 use Rattle.notation.specs.Layout.{setSize}
 use Rattle.notation.specs.Scan.{refusalOf}
-use Rattle.notation.specs.ReadSet.{ReadSet, readAnswer}
+use Rattle.notation.specs.ReadSet.{ReadSet}
 use Rattle.notation.proofs.Laws.Refusals.{refusal-not-1}
 use Rattle.notation.proofs.Laws.AcceptedSet.{accepted-set, accepted-is}
 use Rattle.notation.proofs.Laws.ReadAnswer.{answer-refusal, buffer-refused, buffer-accepted}

@@ -2,8 +2,7 @@
 use Prim.Native.Nat.{ℕ, _+_, _≤_}
 use native.Mathlib.Nat.{zero-add}
 use native.Mathlib.Omega.{arith}
-use mathlib.Core.Path.{_≡_, refl, sym, ap, _∙_, subst}
-use mathlib.Core.Bool.{true}
+use mathlib.Core.Path.{_≡_, refl, ap, _∙_, subst}
 use mathlib.Core.List.{List, _++_}
 use lib.ListN.{length, take, drop}
 use lib.Seq.{sets, sets-eq, take-at, drop-at}
@@ -17,7 +16,7 @@ use Rattle.notation.proofs.Laws.AcceptedSet.{accepted-fits}
 use Rattle.notation.proofs.Laws.Reads.{text-len, text-read}
 use Rattle.machine.specs.Automaton.{automatonSize, allLabels, heads, links, masks, startState, automatonOf}
 use Rattle.machine.specs.RunCalls.{given}
-use Rattle.machine.specs.Build.{Built, buildAnswer, SetWritten, writeRefusal, writeAnswer, writeBuffer}
+use Rattle.machine.specs.Build.{Built, SetWritten, writeRefusal, writeAnswer, writeBuffer}
 use Rattle.machine.specs.declared.answers.Written.{Written}
 use Rattle.machine.proofs.Laws.SetReads.{of-set}
 use Rattle.machine.proofs.Laws.BuiltShape.{built-shaped, built-grows}
