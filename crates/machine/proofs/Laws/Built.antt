@@ -104,3 +104,15 @@ module _ (text before : List ℕ) where
           ∙ ap (λ (l : List ℕ). automatonOf s ++ l) (behind-same s acc before);
       keeps = λ n. absurd (n refl);
     }
+
+-- what a build gives: of every accepted text its set's automaton, and 0 of no other
+module _ (text before after : List ℕ) (r : ℕ) (b : Built text before r after) where
+  pub built-accepted : automatonSize ≤ length before → (s : FolderSet) → Accepted text s → (r ≡ 0) × (after ≡ automatonOf s ++ drop automatonSize before)
+  built-accepted h s acc =
+      let z : r ≡ 0 = b .answers ∙ answer-0 (length before) text .1 (h, (s, acc)) in
+      (z, b .leaves z s acc)
+
+  pub built-only : r ≡ 0 → (s : FolderSet) × (Accepted text s × (after ≡ automatonOf s ++ drop automatonSize before))
+  built-only z =
+      let x = answer-0 (length before) text .0 (sym (b .answers) ∙ z) in
+      (x .1 .0, (x .1 .1, b .leaves z (x .1 .0) (x .1 .1)))

@@ -20,7 +20,7 @@ use Rattle.machine.specs.Build.{Built, SetWritten, writeRefusal, writeAn
 use Rattle.machine.specs.declared.answers.Written.{Written}
 use Rattle.machine.proofs.Laws.SetReads.{of-set}
 use Rattle.machine.proofs.Laws.BuiltShape.{built-shaped, built-grows}
-use Rattle.machine.proofs.Laws.Built.{answer-0}
+use Rattle.machine.proofs.Laws.Built.{built-accepted}
 
 module _ (text : List ℕ) (s : FolderSet) (acc : Accepted text s) (rest : List ℕ) where
   fit : Fitting s
@@ -76,6 +76,4 @@ module _ (text : List ℕ) (s : FolderSet) (acc : Accepted text s) (rest : List 
       pub built-again : (before final : List ℕ) (r : ℕ) → automatonSize ≤ length before → Built (take (length text) after) before r final
           → (r ≡ 0) × (final ≡ automatonOf s ++ drop automatonSize before)
       built-again before final r h b =
-          let b' : Built text before r final = subst (λ (l : List ℕ). Built l before r final) written-text b in
-          let z : r ≡ 0 = b' .answers ∙ answer-0 (length before) text .1 (h, (s, acc)) in
-          (z, b' .leaves z s acc)
+          built-accepted text before final r (subst (λ (l : List ℕ). Built l before r final) written-text b) h s acc
