@@ -11,7 +11,7 @@ use Rattle.notation.specs.Sets.{FolderSet}
 use Rattle.notation.specs.Accepted.{Accepted}
 use Rattle.notation.specs.Layout.{setSize}
 use Rattle.notation.specs.Scan.{refusalOf}
-use Rattle.notation.specs.ReadSet.{ReadSet, readAnswer}
+use Rattle.notation.specs.ReadSet.{ReadSet}
 use Rattle.notation.proofs.Laws.Refused.Refusals.{refusal-not-1}
 use Rattle.notation.proofs.Laws.Refused.AcceptedSet.{accepted-set, accepted-is}
 use Rattle.notation.proofs.Laws.Refused.ReadAnswer.{answer-refusal, buffer-refused, buffer-accepted}
@@ -104,3 +104,15 @@ module _ (text before : List ℕ) where
           ∙ ap (λ (l : List ℕ). automatonOf s ++ l) (behind-same s acc before);
       keeps = λ n. absurd (n refl);
     }
+
+-- what a build gives: of every accepted text its set's automaton, and 0 of no other
+module _ (text before after : List ℕ) (r : ℕ) (b : Built text before r after) where
+  pub built-accepted : automatonSize ≤ length before → (s : FolderSet) → Accepted text s → (r ≡ 0) × (after ≡ automatonOf s ++ drop automatonSize before)
+  built-accepted h s acc =
+      let z : r ≡ 0 = b .answers ∙ answer-0 (length before) text .1 (h, (s, acc)) in
+      (z, b .leaves z s acc)
+
+  pub built-only : r ≡ 0 → (s : FolderSet) × (Accepted text s × (after ≡ automatonOf s ++ drop automatonSize before))
+  built-only z =
+      let x = answer-0 (length before) text .0 (sym (b .answers) ∙ z) in
+      (x .1 .0, (x .1 .1, b .leaves z (x .1 .0) (x .1 .1)))

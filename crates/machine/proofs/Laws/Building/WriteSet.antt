@@ -2,8 +2,7 @@
 use Prim.Native.Nat.{ℕ, _+_, _≤_}
 use native.Mathlib.Nat.{zero-add}
 use native.Mathlib.Omega.{arith}
-use mathlib.Core.Path.{_≡_, refl, sym, ap, _∙_, subst}
-use mathlib.Core.Bool.{true}
+use mathlib.Core.Path.{_≡_, refl, ap, _∙_, subst}
 use mathlib.Core.List.{List, _++_}
 use lib.ListN.{length, take, drop}
 use lib.Seq.{sets, sets-eq, take-at, drop-at}
@@ -17,11 +16,11 @@ use Rattle.notation.proofs.Laws.Refused.AcceptedSet.{accepted-fits}
 use Rattle.notation.proofs.Laws.Stored.Reads.{text-len, text-read}
 use Rattle.machine.specs.Automaton.{automatonSize, allLabels, heads, links, masks, startState, automatonOf}
 use Rattle.machine.specs.RunCalls.{given}
-use Rattle.machine.specs.Build.{Built, buildAnswer, SetWritten, writeRefusal, writeAnswer, writeBuffer}
+use Rattle.machine.specs.Build.{Built, SetWritten, writeRefusal, writeAnswer, writeBuffer}
 use Rattle.machine.specs.declared.answers.Written.{Written}
 use Rattle.machine.proofs.Laws.Tables.SetReads.{of-set}
 use Rattle.machine.proofs.Laws.Shapes.BuiltShape.{built-shaped, built-grows}
-use Rattle.machine.proofs.Laws.Building.Built.{answer-0}
+use Rattle.machine.proofs.Laws.Building.Built.{built-accepted}
 
 module _ (text : List ℕ) (s : FolderSet) (acc : Accepted text s) (rest : List ℕ) where
   fit : Fitting s
@@ -77,6 +76,4 @@ module _ (text : List ℕ) (s : FolderSet) (acc : Accepted text s) (rest : List 
       pub built-again : (before final : List ℕ) (r : ℕ) → automatonSize ≤ length before → Built (take (length text) after) before r final
           → (r ≡ 0) × (final ≡ automatonOf s ++ drop automatonSize before)
       built-again before final r h b =
-          let b' : Built text before r final = subst (λ (l : List ℕ). Built l before r final) written-text b in
-          let z : r ≡ 0 = b' .answers ∙ answer-0 (length before) text .1 (h, (s, acc)) in
-          (z, b' .leaves z s acc)
+          built-accepted text before final r (subst (λ (l : List ℕ). Built l before r final) written-text b) h s acc
