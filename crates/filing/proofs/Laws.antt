@@ -28,3 +28,4 @@ pub mod Next
 pub mod RunAt
 pub mod OneDocument
 pub mod AllListed
+pub mod FilingOrder
