@@ -29,3 +29,4 @@ pub mod RunAt
 pub mod OneDocument
 pub mod AllListed
 pub mod FilingOrder
+pub mod FilingRun

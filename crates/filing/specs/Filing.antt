@@ -11,7 +11,7 @@ use Rattle.notation.specs.Names.{Name}
 use Rattle.notation.specs.Sets.{FolderSet}
 use Rattle.notation.specs.Form.{every, nonEmpty}
 use Rattle.notation.specs.Refusals.{Refusal, oversize, foreignByte, torn, looseEnd, numberOf}
-use Rattle.machine.specs.Calls.{asLeft, Call, openCall, closeCall, State, nothingOpen, fresh, refusal, step}
+use Rattle.machine.specs.Calls.{asLeft, Call, openCall, closeCall, State, nothingOpen, fresh, refusal, accepted, step}
 use Rattle.filing.specs.Limits.{maxReportBytes}
 use Rattle.filing.specs.Tokens.{Token, blank, listed, RunOfTokens}
 use Rattle.filing.specs.Reading.{Read, fail, got, readReport}
@@ -59,6 +59,18 @@ fileEvents set m (e ∷ es) = thenFile (fileEvent set m e) (λ m₂. fileEvents 
 unfoldable pub fileTokens : FolderSet → State → List Token → Filed
 fileTokens set m [] = filed m
 fileTokens set m (t ∷ ts) = thenFile (fileEvents set m (eventsOfToken t)) (λ m₂. fileTokens set m₂ ts)
+
+-- the opens and closes of events, in order; and whether the machine accepts a list of calls to the last
+unfoldable pub callsIn : List Event → List Call
+callsIn [] = []
+callsIn (opening n ∷ es) = openCall asLeft n ∷ callsIn es
+callsIn (closing n ∷ es) = closeCall asLeft n ∷ callsIn es
+callsIn (textHere b ∷ es) = callsIn es
+callsIn (commentHere b ∷ es) = callsIn es
+
+unfoldable pub allAccepted : FolderSet → State → List Call → Bool
+allAccepted set m [] = true
+allAccepted set m (call ∷ calls) = accepted m call && allAccepted set (step set m call) calls
 
 -- a report that ends so has no root, or an element is open
 abbrev pub unfinished : State → Bool
