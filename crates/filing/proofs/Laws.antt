@@ -30,3 +30,4 @@ pub mod OneDocument
 pub mod AllListed
 pub mod FilingOrder
 pub mod FilingRun
+pub mod FilingAdded

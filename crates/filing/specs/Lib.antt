@@ -9,3 +9,4 @@ pub mod Reaches
 pub mod Seen
 pub mod Limits
 pub mod Filing
+pub mod Demand2
