@@ -31,3 +31,4 @@ pub mod AllListed
 pub mod FilingOrder
 pub mod FilingRun
 pub mod FilingAdded
+pub mod FilingChildless
