@@ -32,3 +32,4 @@ pub mod FilingOrder
 pub mod FilingRun
 pub mod FilingAdded
 pub mod FilingChildless
+pub mod Demand2
