@@ -33,3 +33,4 @@ pub mod FilingRun
 pub mod FilingAdded
 pub mod FilingChildless
 pub mod Demand2
+pub mod FilingTokens

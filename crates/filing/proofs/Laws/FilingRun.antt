@@ -51,7 +51,7 @@ tokens-events set (t ∷ ts) m =
     then-same (fileEvents set m (eventsOfToken t)) (λ m₂. fileTokens set m₂ ts) (λ m₂. fileEvents set m₂ (eventsOf ts)) (tokens-events set ts)
     ∙ sym (events-append set (eventsOfToken t) (eventsOf ts) m)
 
-unless-filed : (o : Option Refusal) (s n : State) → unless o s ≡ filed n → (o ≡ none) × (s ≡ n)
+pub unless-filed : (o : Option Refusal) (s n : State) → unless o s ≡ filed n → (o ≡ none) × (s ≡ n)
 unless-filed none s n e = (refl, cc)
 unless-filed (some r) s n e = clash (cc)
 
