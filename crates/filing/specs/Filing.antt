@@ -7,7 +7,6 @@ use mathlib.Core.Option.{Option, none, some}
 use mathlib.Core.List.{List, [], _∷_, _++_}
 use lib.Dec.{eqb, ltb}
 use lib.ListN.{length}
-use Rattle.notation.specs.Names.{Name}
 use Rattle.notation.specs.Sets.{FolderSet}
 use Rattle.notation.specs.Form.{every, nonEmpty}
 use Rattle.notation.specs.Refusals.{Refusal, oversize, foreignByte, torn, looseEnd, numberOf}

@@ -1,30 +1,29 @@
 -- Demand 2, whole: of every set, an accepted one too, and of all bytes.
-use Prim.Native.Nat.{ℕ, _+_, _≤_}
+use Prim.Native.Nat.{ℕ, _≤_}
 use mathlib.Core.Path.{_≡_, refl, sym, ap, _∙_, subst}
 use mathlib.Core.Logic.{_↔_}
-use mathlib.Core.Bool.{Bool, true, false, _||_, true≢false}
-use mathlib.Core.List.{List, [], _∷_, List·Memᴰ}
+use mathlib.Core.Bool.{true, false, _||_, true≢false}
+use mathlib.Core.List.{List, [], _∷_}
 use lib.Dec.{eqb}
 use lib.ListN.{length}
 use native.Mathlib.Omega.{arith}
 use Rattle.notation.specs.Names.{Name}
 use Rattle.notation.specs.Form.{nonEmpty}
-use Rattle.notation.specs.Sets.{Path, FolderSet}
+use Rattle.notation.specs.Sets.{FolderSet}
 use Rattle.notation.specs.Activity.{fits}
-use Rattle.notation.specs.Fit.{Fits}
 use Rattle.notation.proofs.Laws.Meaning.Fit.{fits-is}
 use Rattle.machine.specs.Words.{any}
-use Rattle.machine.specs.Calls.{Call, Level, State, openNames, pathAt, fresh, after, run}
-use Rattle.machine.specs.Folders.{placesOf, folderMatched}
+use Rattle.machine.specs.Calls.{Call, Level, State, openNames, pathAt, fresh, run}
+use Rattle.machine.specs.Folders.{folderMatched}
 use Rattle.machine.specs.Elements.{elementsOf, childlessDepths}
 use Rattle.machine.specs.History.{acceptedCalls}
 use Rattle.machine.proofs.Laws.Basics.{any-is, is-any}
 use Rattle.machine.proofs.Laws.Folders.{folder-matched}
 use Rattle.machine.proofs.Laws.Sound.{Sound, sound}
 use Rattle.machine.proofs.Laws.Whole.{whole}
-use Rattle.filing.specs.Document.{Event, eventsOf, eventsIn, TreeOf, documentOf, passed, Report, documentIn, passedIn}
+use Rattle.filing.specs.Document.{Event, eventsOf, TreeOf, passed, Report, documentIn, passedIn}
 use Rattle.filing.specs.NameList.{nameLists}
-use Rattle.filing.specs.Filing.{filed, fileEvents, callsIn, allAccepted, unfinished, fileReport, FiledWith}
+use Rattle.filing.specs.Filing.{filed, fileEvents, callsIn, allAccepted, FiledWith}
 use Rattle.filing.specs.Demand2.{countIn, childlessIn, SelectsElement, FolderSelects, OfDocument, Demand2}
 use Rattle.filing.proofs.Laws.Bytes.{neither}
 use Rattle.filing.proofs.Laws.Balance.{balanced-is}

@@ -1,24 +1,22 @@
 -- Whether a report is filed hangs on no set: what one files, each files.
 use Prim.Native.Nat.{ℕ}
-use mathlib.Core.Path.{_≡_, refl, sym, ap, _∙_, subst}
-use mathlib.Core.Bool.{Bool, true, false, not, _&&_, _||_, cond}
+use mathlib.Core.Path.{_≡_, refl, sym, ap, _∙_}
+use mathlib.Core.Bool.{Bool, true, false, not, _&&_}
 use mathlib.Core.Option.{none}
-use mathlib.Core.List.{List, [], _∷_, _++_, map, List·Memᴰ}
-use lib.Dec.{eqb}
+use mathlib.Core.List.{List, [], _∷_, _++_, map}
 use Rattle.notation.specs.Names.{Name}
 use Rattle.notation.specs.Form.{every, nonEmpty}
-use Rattle.notation.specs.Sets.{Folder, FolderSet, folderNumber}
-use Rattle.notation.specs.Refusals.{Refusal, looseEnd}
+use Rattle.notation.specs.Sets.{FolderSet, folderNumber}
 use Rattle.notation.specs.Accepted.{Accepted}
 use Rattle.notation.proofs.Laws.Refused.AcceptedSet.{accepted-faultless}
 use Rattle.machine.specs.Calls.{asLeft, Call, openCall, closeCall, Level, nameOf, State, fresh, refusal, accepted, step, after, run}
 use Rattle.machine.specs.Folders.{folderMatched, HasFolders}
 use Rattle.machine.proofs.Laws.Steps.{open-accepted-is, close-accepted-is, one-more}
-use Rattle.machine.proofs.Laws.Alike.{Alike, run-alike, same-accepted}
+use Rattle.machine.proofs.Laws.Alike.{run-alike, same-accepted}
 use Rattle.machine.proofs.Laws.Adding.{adding-folders}
 use Rattle.filing.specs.Tokens.{Token, blank}
 use Rattle.filing.specs.Document.{Event, opening, closing, textHere, commentHere, eventsOf}
-use Rattle.filing.specs.Filing.{Filed, refused, filed, thenFile, unless, fileCall, looseText, fileEvents, fileTokens, callsIn, unfinished, fileReport, FiledWith}
+use Rattle.filing.specs.Filing.{filed, thenFile, fileCall, looseText, fileEvents, fileTokens, callsIn, unfinished, fileReport, FiledWith}
 use Rattle.filing.specs.Demand2.{Added}
 use Rattle.filing.proofs.Laws.FilingOrder.{filed-is}
 use Rattle.filing.proofs.Laws.FilingRun.{tokens-events, taken, taken-after}
@@ -78,45 +76,38 @@ module _ (a b : FolderSet) where
   unfolding after
   all-file es n h = taken a Files files-end files-open files-close files-text files-comment es (fresh a) n h [] refl
 
-  -- filed by one set, filed by the other
-  pub filed-both : (bytes : List ℕ) (m : State) → FiledWith a bytes m → (n : State) × FiledWith b bytes n
+  -- filed by one set, filed by the other, with the same tokens
+  pub filed-both : (bytes : List ℕ) (m : State) (f : FiledWith a bytes m) → (n : State) × (fileTokens b (fresh b) (f .run .tokens) ≡ filed n) × (fileReport b bytes ≡ filed n)
   filed-both bytes m f =
       let es = eventsOf (f .run .tokens) in
       let one : fileEvents a (fresh a) es ≡ filed m = sym (tokens-events a (f .run .tokens) (fresh a)) ∙ f .taken in
-      let (n, other) = all-file es m one in (
+      let (n, other) = all-file es m one in
+      let same : fileTokens b (fresh b) (f .run .tokens) ≡ filed n = tokens-events b (f .run .tokens) (fresh b) ∙ other in (
         n,
-        record {
+        same,
+        filed-is b bytes n .1 (record {
           short = f .short;
           run = f .run;
-          taken = tokens-events b (f .run .tokens) (fresh b) ∙ other;
+          taken = same;
           finished =
               ap unfinished (sym (taken-after b es (fresh b) n other)) ∙ sym (same-finished (callsIn es)) ∙ ap unfinished (taken-after a es (fresh a) m one) ∙ f .finished;
-        },
+        }),
       )
 
--- the machine of a filed report is that of its calls
-pub filed-machine : (set : FolderSet) (bytes : List ℕ) (m : State) (f : FiledWith set bytes m) → run set (callsIn (eventsOf (f .run .tokens))) ≡ m
-filed-machine set bytes m f =
-    taken-after set (eventsOf (f .run .tokens)) (fresh set) m (sym (tokens-events set (f .run .tokens) (fresh set)) ∙ f .taken)
+-- the machine at the end is that of the calls
+machine-after : (set : FolderSet) (ts : List Token) (m : State) → fileTokens set (fresh set) ts ≡ filed m → run set (callsIn (eventsOf ts)) ≡ m
+machine-after set ts m h = taken-after set (eventsOf ts) (fresh set) m (sym (tokens-events set ts (fresh set)) ∙ h)
 
 pub added : (set larger : FolderSet) (text bytes : List ℕ) → Accepted text larger → HasFolders larger set → (m : State) → fileReport set bytes ≡ filed m → Added set larger bytes m
 added set larger text bytes acc has m h =
     let f = filed-is set bytes m .0 h in
-    let es = eventsOf (f .run .tokens) in
-    let one : fileEvents set (fresh set) es ≡ filed m = sym (tokens-events set (f .run .tokens) (fresh set)) ∙ f .taken in
-    let (n, other) = all-file set larger es m one in
-    let g : FiledWith larger bytes n = record {
-      short = f .short;
-      run = f .run;
-      taken = tokens-events larger (f .run .tokens) (fresh larger) ∙ other;
-      finished =
-          ap unfinished (sym (taken-after larger es (fresh larger) n other)) ∙ sym (same-finished set larger (callsIn es)) ∙ ap unfinished (taken-after set es (fresh set) m one) ∙ f .finished;
-    } in
+    let ts = f .run .tokens in
+    let (n, taken-too, is) = filed-both set larger bytes m f in
     record {
       machine = n;
-      isFiled = filed-is larger bytes n .1 g;
+      isFiled = is;
       same = λ x i.
-          ap (λ (s : State). folderMatched set s (folderNumber x)) (sym (taken-after set es (fresh set) m one))
-          ∙ adding-folders set larger has (accepted-faultless text larger acc) x i (callsIn es)
-          ∙ ap (λ (s : State). folderMatched larger s (folderNumber x)) (taken-after larger es (fresh larger) n other);
+          ap (λ (s : State). folderMatched set s (folderNumber x)) (sym (machine-after set ts m (f .taken)))
+          ∙ adding-folders set larger has (accepted-faultless text larger acc) x i (callsIn (eventsOf ts))
+          ∙ ap (λ (s : State). folderMatched larger s (folderNumber x)) (machine-after larger ts n taken-too);
     }

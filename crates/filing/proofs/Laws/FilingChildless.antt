@@ -1,6 +1,6 @@
 -- The childless depths that the machine counts over calls are those of the document, and so is the number of elements.
-use Prim.Native.Nat.{ℕ, suc, _+_, _≤_}
-use mathlib.Core.Path.{_≡_, refl, sym, ap, _∙_, subst}
+use Prim.Native.Nat.{ℕ, suc, _+_}
+use mathlib.Core.Path.{_≡_, refl, sym, ap, _∙_}
 use mathlib.Core.Bool.{Bool, true, false, cond}
 use mathlib.Core.List.{List, [], _∷_, _++_, append-assoc, append-nil}
 use lib.Dec.{eqb}
@@ -13,7 +13,7 @@ use Rattle.machine.specs.Calls.{asLeft, Call, openCall, closeCall, State, fresh
 use Rattle.machine.specs.History.{acceptedAfter, acceptedCalls}
 use Rattle.machine.specs.Elements.{Element, element as item, Elements, elements, withChild, opening as openOne, closing as closeOne, elementsOf, sumDepths, childlessDepths}
 use Rattle.filing.specs.Tree.{Node, element, text, comment, Nodes, none, _then_}
-use Rattle.filing.specs.NameList.{listsOf, listsIn, nameLists}
+use Rattle.filing.specs.NameList.{listsOf, listsIn}
 use Rattle.filing.specs.Document.{Event, opening, closing, textHere, commentHere, eventsAt, eventsIn, elementHere, elementsAmong, keep, documentOf}
 use Rattle.filing.specs.Filing.{callsIn, allAccepted}
 use Rattle.filing.specs.Demand2.{countAt, countIn, childlessAt, childlessIn}

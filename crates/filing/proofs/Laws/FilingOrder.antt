@@ -1,12 +1,12 @@
 -- A report is refused with a number exactly when that number's condition holds and none before it in the order does; and is else filed.
 use Prim.Native.Nat.{ℕ, _≤_, _<_}
-use mathlib.Core.Path.{_≡_, refl, sym, ap, _∙_, subst}
+use mathlib.Core.Path.{_≡_, refl, sym, ap, _∙_}
 use mathlib.Core.Logic.{_↔_}
-use mathlib.Core.Bool.{Bool, true, false, not, cond, true≢false, false≢true}
+use mathlib.Core.Bool.{true, false}
 use mathlib.Core.List.{List, [], _∷_, _++_}
 use lib.Dec.{ltb}
 use lib.ListN.{length}
-use borrow.Author.Tests.{ltb-true, ltb-false, lt-ltb, le-ltb, not-true, not-false}
+use borrow.Author.Tests.{ltb-true, ltb-false, lt-ltb, le-ltb}
 use native.Mathlib.Omega.{arith}
 use Rattle.notation.specs.Form.{every}
 use Rattle.notation.specs.Sets.{FolderSet}
@@ -18,11 +18,10 @@ use Rattle.filing.specs.Tokens.{Token, listed, RunOfTokens}
 use Rattle.filing.specs.Reading.{Read, fail, got, readReport}
 use Rattle.filing.specs.Document.{eventsOfToken}
 use Rattle.filing.specs.Filing.{Filed, refused, filed, thenFile, fileEvents, fileTokens, unfinished, fileEnd, fileRun, fileReport, StopsAt, Refused, tooMany, notListed, noRun, atToken, atEnd, FiledWith}
-use Rattle.filing.proofs.Laws.OneRun.{one-run}
 use Rattle.filing.proofs.Laws.ReadSound.{found-run, run-found, none-found}
 use Rattle.filing.proofs.Laws.AllListed.{run-listed}
 
-clash : {A : Type 0} → _≡_ {A = ℕ} 0 1 → A
+pub clash : {A : Type 0} → _≡_ {A = ℕ} 0 1 → A
 clash z = absurd (omega arith)
 
 -- what a result of two parts comes from

@@ -1,33 +1,30 @@
 -- A report that is taken: its calls are all accepted, they are its document's opens and closes in order, and these are balanced with one root.
-use Prim.Native.Nat.{ℕ, zero, suc, _+_, _≤_, _<_}
+use Prim.Native.Nat.{ℕ, suc, _+_, _≤_}
 use mathlib.Core.Path.{_≡_, refl, sym, ap, _∙_, subst}
 use mathlib.Core.Bool.{Bool, true, false, not, _&&_, _||_, cond, and-true, or-false, or-assoc}
 use mathlib.Core.Option.{Option, none, some}
 use mathlib.Core.List.{List, [], _∷_, _++_, map, dropLast}
 use lib.Dec.{eqb, ltb}
 use lib.ListN.{length}
-use borrow.Author.Tests.{lt-ltb, eqb-false, not-true, not-false}
+use borrow.Author.Tests.{lt-ltb, eqb-false, not-false}
 use native.Mathlib.Omega.{arith}
 use Rattle.notation.specs.Names.{Name}
 use Rattle.notation.specs.Form.{every, nonEmpty}
 use Rattle.notation.specs.Sets.{FolderSet}
 use Rattle.notation.specs.Refusals.{Refusal, looseEnd}
-use Rattle.notation.specs.Activity.{sameName, fits}
+use Rattle.notation.specs.Activity.{fits}
 use Rattle.notation.proofs.Laws.Meaning.Fit.{sameName-is}
 use Rattle.machine.specs.Words.{any}
-use Rattle.machine.specs.Calls.{asLeft, Call, openCall, closeCall, Level, level, nameOf, State, openNames, pathAt, nothingOpen, depth, fresh, opened, closedFrom, closed, refusal, accepted, step, after, run}
-use Rattle.machine.proofs.Laws.Basics.{cases}
-use Rattle.machine.proofs.Laws.Calls.{Openable, open-accepted, Closable, close-accepted}
+use Rattle.machine.specs.Calls.{asLeft, openCall, closeCall, Level, level, nameOf, State, openNames, pathAt, fresh, opened, closedFrom, refusal, accepted, step, after}
+use Rattle.machine.proofs.Laws.Calls.{open-accepted, Closable, close-accepted}
 use Rattle.machine.proofs.Laws.Steps.{open-accepted-is, close-accepted-is, step-accepted, step-open-names, step-close-names}
-use Rattle.machine.proofs.Laws.Sound.{Sound, fresh-sound, open-sound, close-sound, sound}
+use Rattle.machine.proofs.Laws.Sound.{Sound, fresh-sound, open-sound, close-sound}
 use Rattle.filing.specs.Tokens.{Token, blank}
 use Rattle.filing.specs.Document.{Event, opening, closing, textHere, commentHere, eventsOfToken, eventsOf, balanced, passed}
 use Rattle.filing.specs.Filing.{Filed, refused, filed, thenFile, unless, fileCall, looseText, fileEvent, fileEvents, fileTokens, callsIn, allAccepted, unfinished}
-use Rattle.filing.proofs.Laws.Bytes.{left, right, join, neither}
-use Rattle.filing.proofs.Laws.FilingOrder.{both-filed}
-
-clash : {A : Type 0} → _≡_ {A = ℕ} 0 1 → A
-clash z = absurd (omega arith)
+use Rattle.filing.proofs.Laws.Bytes.{join, neither}
+use Rattle.filing.proofs.Laws.Passed.{last-off}
+use Rattle.filing.proofs.Laws.FilingOrder.{clash, both-filed}
 
 then-more : (f : Filed) (k k₂ g : State → Filed) → ((m : State) → k m ≡ thenFile (k₂ m) g) → thenFile f k ≡ thenFile (thenFile f k₂) g
 then-more (refused r) k k₂ g h = refl
@@ -168,11 +165,6 @@ unfolding fresh
 fresh-balanced set es n h u = taken-balanced set es (fresh set) n h (fresh-sound set) u
 
 -- Matches and opens: the open names right after each open are those passed
-
-last-off : (l : List Name) (n : Name) → dropLast (l ++ (n ∷ [])) ≡ l
-last-off [] n = refl
-last-off (a ∷ []) n = refl
-last-off (a ∷ b ∷ l) n = ap (_∷_ a) (last-off (b ∷ l) n)
 
 close-names : (set : FolderSet) (m : State) (e : Name) → accepted m (closeCall asLeft e) ≡ true → dropLast (openNames m) ≡ openNames (step set m (closeCall asLeft e))
 close-names set m e a = ap dropLast (step-close-names set m e a) ∙ last-off (openNames (step set m (closeCall asLeft e))) e

@@ -1,12 +1,11 @@
 -- On what a token is refused: a start tag on open's conditions in their order, an end tag on close's, an empty-element tag on open's (its close
 -- is never refused), text where it is not blank and nothing is open, and a comment or the declaration never.
 use Prim.Native.Nat.{ℕ}
-use mathlib.Core.Path.{_≡_, refl, sym, ap, _∙_, subst}
+use mathlib.Core.Path.{_≡_, refl, sym, ap, _∙_}
 use mathlib.Core.Logic.{_↔_}
 use mathlib.Core.Bool.{Bool, true, false, cond}
 use mathlib.Core.Option.{Option, none, some, Option·none-ne-some}
 use mathlib.Core.List.{List, [], _∷_}
-use native.Mathlib.Omega.{arith}
 use Rattle.notation.specs.Names.{Name}
 use Rattle.notation.specs.Sets.{FolderSet}
 use Rattle.notation.specs.Refusals.{Refusal, looseEnd}
@@ -17,12 +16,9 @@ use Rattle.machine.proofs.Laws.Calls.{open-accepted}
 use Rattle.machine.proofs.Laws.Steps.{refusal-is, open-accepted-is, step-accepted}
 use Rattle.filing.specs.Tokens.{Part, Attribute, declaration, comment, startTag, emptyTag, endTag, text, printParts}
 use Rattle.filing.specs.Document.{eventsOfToken, closing}
-use Rattle.filing.specs.Filing.{Filed, refused, filed, thenFile, unless, fileCall, looseText, fileEvents}
-use Rattle.filing.proofs.Laws.FilingOrder.{first-refused}
+use Rattle.filing.specs.Filing.{refused, filed, thenFile, unless, fileCall, looseText, fileEvents}
+use Rattle.filing.proofs.Laws.FilingOrder.{clash, first-refused}
 use Rattle.filing.proofs.Laws.FilingRun.{unless-filed}
-
-clash : {A : Type 0} → _≡_ {A = ℕ} 0 1 → A
-clash z = absurd (omega arith)
 
 call-refused : (o : Option Refusal) (s : State) (r : Refusal) → (thenFile (unless o s) (λ m. filed m) ≡ refused r) ↔ (o ≡ some r)
 call-refused none s r = (λ e. clash (cc), λ e. absurd (Option·none-ne-some r e))
