@@ -13,7 +13,7 @@ use Rattle.filing.specs.Document.{Event, closing, eventsOf, eventsAt, ev
 use Rattle.filing.proofs.Laws.Trees.Select.{selects-some}
 use Rattle.filing.proofs.Laws.Trees.Listed.{listed-is}
 
-last-off : (l : List Name) (n : Name) → dropLast (l ++ (n ∷ [])) ≡ l
+pub last-off : (l : List Name) (n : Name) → dropLast (l ++ (n ∷ [])) ≡ l
 last-off [] n = refl
 last-off (a ∷ []) n = refl
 last-off (a ∷ b ∷ l) n = ap (_∷_ a) (last-off (b ∷ l) n)
