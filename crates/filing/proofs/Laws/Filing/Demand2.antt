@@ -18,21 +18,21 @@ use Rattle.machine.specs.Folders.{folderMatched}
 use Rattle.machine.specs.Elements.{elementsOf, childlessDepths}
 use Rattle.machine.specs.History.{acceptedCalls}
 use Rattle.machine.proofs.Laws.Basics.{any-is, is-any}
-use Rattle.machine.proofs.Laws.Folders.{folder-matched}
-use Rattle.machine.proofs.Laws.Sound.{Sound, sound}
-use Rattle.machine.proofs.Laws.Whole.{whole}
+use Rattle.machine.proofs.Laws.Machine.Folders.{folder-matched}
+use Rattle.machine.proofs.Laws.Machine.Sound.{Sound, sound}
+use Rattle.machine.proofs.Laws.Machine.Whole.{whole}
 use Rattle.filing.specs.Document.{Event, eventsOf, TreeOf, passed, Report, documentIn, passedIn}
 use Rattle.filing.specs.NameList.{nameLists}
 use Rattle.filing.specs.Filing.{filed, fileEvents, callsIn, allAccepted, FiledWith}
 use Rattle.filing.specs.Demand2.{countIn, childlessIn, SelectsElement, FolderSelects, OfDocument, Demand2}
-use Rattle.filing.proofs.Laws.Bytes.{neither}
-use Rattle.filing.proofs.Laws.Balance.{balanced-is}
-use Rattle.filing.proofs.Laws.Passed.{passed-is}
-use Rattle.filing.proofs.Laws.OneDocument.{one-document, report-selects}
-use Rattle.filing.proofs.Laws.FilingOrder.{refused-is, filed-is}
-use Rattle.filing.proofs.Laws.FilingRun.{tokens-events, taken-after, taken-accepted, fresh-balanced, taken-matched, taken-opens}
-use Rattle.filing.proofs.Laws.FilingChildless.{count-in, calls-childless}
-use Rattle.filing.proofs.Laws.FilingAdded.{added}
+use Rattle.filing.proofs.Laws.Read.Bytes.{neither}
+use Rattle.filing.proofs.Laws.Trees.Balance.{balanced-is}
+use Rattle.filing.proofs.Laws.Trees.Passed.{passed-is}
+use Rattle.filing.proofs.Laws.Trees.OneDocument.{one-document, report-selects}
+use Rattle.filing.proofs.Laws.Filing.FilingOrder.{refused-is, filed-is}
+use Rattle.filing.proofs.Laws.Filing.FilingRun.{tokens-events, taken-after, taken-accepted, fresh-balanced, taken-matched, taken-opens}
+use Rattle.filing.proofs.Laws.Filing.FilingChildless.{count-in, calls-childless}
+use Rattle.filing.proofs.Laws.Filing.FilingAdded.{added}
 
 fresh-matched : (set : FolderSet) (place : ℕ) (l : List (List Name)) → (fresh set .matched place || any (fits (pathAt set place)) l) ≡ any (fits (pathAt set place)) l
 unfolding fresh

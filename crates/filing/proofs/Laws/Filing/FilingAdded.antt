@@ -11,15 +11,15 @@ use Rattle.notation.specs.Accepted.{Accepted}
 use Rattle.notation.proofs.Laws.Refused.AcceptedSet.{accepted-faultless}
 use Rattle.machine.specs.Calls.{asLeft, Call, openCall, closeCall, Level, nameOf, State, fresh, refusal, accepted, step, after, run}
 use Rattle.machine.specs.Folders.{folderMatched, HasFolders}
-use Rattle.machine.proofs.Laws.Steps.{open-accepted-is, close-accepted-is, one-more}
-use Rattle.machine.proofs.Laws.Alike.{run-alike, same-accepted}
-use Rattle.machine.proofs.Laws.Adding.{adding-folders}
+use Rattle.machine.proofs.Laws.Machine.Steps.{open-accepted-is, close-accepted-is, one-more}
+use Rattle.machine.proofs.Laws.Machine.Alike.{run-alike, same-accepted}
+use Rattle.machine.proofs.Laws.Machine.Adding.{adding-folders}
 use Rattle.filing.specs.Tokens.{Token, blank}
 use Rattle.filing.specs.Document.{Event, opening, closing, textHere, commentHere, eventsOf}
 use Rattle.filing.specs.Filing.{filed, thenFile, fileCall, looseText, fileEvents, fileTokens, callsIn, unfinished, fileReport, FiledWith}
 use Rattle.filing.specs.Demand2.{Added}
-use Rattle.filing.proofs.Laws.FilingOrder.{filed-is}
-use Rattle.filing.proofs.Laws.FilingRun.{tokens-events, taken, taken-after}
+use Rattle.filing.proofs.Laws.Filing.FilingOrder.{filed-is}
+use Rattle.filing.proofs.Laws.Filing.FilingRun.{tokens-events, taken, taken-after}
 
 some-names : (l : List Level) → nonEmpty (map nameOf l) ≡ nonEmpty l
 some-names [] = refl

@@ -12,13 +12,13 @@ use Rattle.notation.specs.Refusals.{Refusal, looseEnd}
 use Rattle.notation.proofs.Laws.Meaning.Fit.{sameName-is}
 use Rattle.machine.specs.Order.{FirstOf, first}
 use Rattle.machine.specs.Calls.{asLeft, Call, openCall, closeCall, State, openOrder, closeOrder, opened, refusal, accepted, step}
-use Rattle.machine.proofs.Laws.Calls.{open-accepted}
-use Rattle.machine.proofs.Laws.Steps.{refusal-is, open-accepted-is, step-accepted}
+use Rattle.machine.proofs.Laws.Machine.Calls.{open-accepted}
+use Rattle.machine.proofs.Laws.Machine.Steps.{refusal-is, open-accepted-is, step-accepted}
 use Rattle.filing.specs.Tokens.{Part, Attribute, declaration, comment, startTag, emptyTag, endTag, text, printParts}
 use Rattle.filing.specs.Document.{eventsOfToken, closing}
 use Rattle.filing.specs.Filing.{refused, filed, thenFile, unless, fileCall, looseText, fileEvents}
-use Rattle.filing.proofs.Laws.FilingOrder.{clash, first-refused}
-use Rattle.filing.proofs.Laws.FilingRun.{unless-filed}
+use Rattle.filing.proofs.Laws.Filing.FilingOrder.{clash, first-refused}
+use Rattle.filing.proofs.Laws.Filing.FilingRun.{unless-filed}
 
 call-refused : (o : Option Refusal) (s : State) (r : Refusal) → (thenFile (unless o s) (λ m. filed m) ≡ refused r) ↔ (o ≡ some r)
 call-refused none s r = (λ e. clash (cc), λ e. absurd (Option·none-ne-some r e))

@@ -17,7 +17,7 @@ use Rattle.filing.specs.NameList.{listsOf, listsIn}
 use Rattle.filing.specs.Document.{Event, opening, closing, textHere, commentHere, eventsAt, eventsIn, elementHere, elementsAmong, keep, documentOf}
 use Rattle.filing.specs.Filing.{callsIn, allAccepted}
 use Rattle.filing.specs.Demand2.{countAt, countIn, childlessAt, childlessIn}
-use Rattle.filing.proofs.Laws.Bytes.{left, right}
+use Rattle.filing.proofs.Laws.Read.Bytes.{left, right}
 
 -- as many elements as name lists
 mutual

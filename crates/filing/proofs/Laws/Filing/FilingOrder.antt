@@ -18,8 +18,8 @@ use Rattle.filing.specs.Tokens.{Token, listed, RunOfTokens}
 use Rattle.filing.specs.Reading.{Read, fail, got, readReport}
 use Rattle.filing.specs.Document.{eventsOfToken}
 use Rattle.filing.specs.Filing.{Filed, refused, filed, thenFile, fileEvents, fileTokens, unfinished, fileEnd, fileRun, fileReport, StopsAt, Refused, tooMany, notListed, noRun, atToken, atEnd, FiledWith}
-use Rattle.filing.proofs.Laws.ReadSound.{found-run, run-found, none-found}
-use Rattle.filing.proofs.Laws.AllListed.{run-listed}
+use Rattle.filing.proofs.Laws.Read.ReadSound.{found-run, run-found, none-found}
+use Rattle.filing.proofs.Laws.Printed.AllListed.{run-listed}
 
 pub clash : {A : Type 0} → _≡_ {A = ℕ} 0 1 → A
 clash z = absurd (omega arith)
