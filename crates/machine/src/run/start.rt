@@ -70,7 +70,7 @@ pub fn start_by(a: &[u8], run: &mut [u8], counters: Counters) -> Started
     }
 }
 
-// The start: a fresh run and zero counters, or a refusal that leaves both as they were.
+// The start, on counters that are lent.
 pub fn start(a: &[u8], run: &mut [u8], counters: &mut Counters) -> u8
     ensures { λ r. ⌜ Starts (now (a .entry)) (now (run .entry)) (now (counters .entry)) r (now (run .exit)) (now (counters .exit)) ⌝ }
 {
