@@ -78,3 +78,4 @@ pub mod Accepting
 pub mod Build
 pub mod Built
 pub mod WriteSet
+pub mod Lent
