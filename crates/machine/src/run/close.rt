@@ -8,7 +8,7 @@ use crate::run::shape;
 use notation::put;
 ghost use mathlib.Core.Path.{_≡_};
 ghost use Prim.Native.Nat.{_<_};
-ghost use Rattle.machine.specs.RunContracts.{ClosesBy};
+ghost use Rattle.machine.specs.RunContracts.{Closes, ClosesBy};
 ghost use Rattle.machine.specs.Openable.{Ready};
 ghost use Rattle.machine.specs.RunCalls.{depthOf, closeRun};
 
@@ -45,4 +45,13 @@ pub fn close_by(a: &[u8], run: &mut [u8], counters: Counters, e: &[u8]) -> Close
             moves: counters.moves,
         },
     }
+}
+
+// The close, on counters that are lent.
+pub fn close(a: &[u8], run: &mut [u8], counters: &mut Counters, e: &[u8]) -> u8
+    ensures { λ r. ⌜ Closes (now (a .entry)) (now (run .entry)) (now (counters .entry)) (now (e .entry)) r (now (run .exit)) (now (counters .exit)) ⌝ }
+{
+    let done = close_by(a, run, *counters, e);
+    *counters = done.counters;
+    done.refusal
 }

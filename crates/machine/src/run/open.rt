@@ -20,7 +20,7 @@ ghost use lib.ListN.{length, take};
 ghost use Rattle.notation.specs.Limits.{maxName, maxSteps};
 ghost use Rattle.machine.specs.Limits.{maxDepth};
 ghost use Rattle.machine.specs.Automaton.{maskSize, hash};
-ghost use Rattle.machine.specs.RunContracts.{OpensBy};
+ghost use Rattle.machine.specs.RunContracts.{Opens, OpensBy};
 ghost use Rattle.machine.specs.Openable.{Openable, Ready};
 ghost use Rattle.machine.specs.Run.{runSize};
 ghost use Rattle.machine.specs.RunCalls.{depthOf, usedBytes, usedBits, nowActive, nowSeen, nowMatched, openRun, openWalk, storedOpen};
@@ -127,4 +127,13 @@ pub fn open_by(a: &[u8], run: &mut [u8], counters: Counters, e: &[u8]) -> Opened
             moves: counters.moves + walked.moves,
         },
     }
+}
+
+// The open, on counters that are lent.
+pub fn open(a: &[u8], run: &mut [u8], counters: &mut Counters, e: &[u8]) -> Opened
+    ensures { λ r. ⌜ Opens (now (a .entry)) (now (run .entry)) (now (counters .entry)) (now (e .entry)) r (now (run .exit)) (now (counters .exit)) ⌝ }
+{
+    let done = open_by(a, run, *counters, e);
+    *counters = done.counters;
+    done.answer
 }

@@ -15,7 +15,7 @@ ghost use Prim.Native.Nat.{_≤_};
 ghost use lib.ListN.{length, drop, replicate};
 ghost use Rattle.machine.specs.Run.{runSize};
 ghost use Rattle.machine.specs.RunCalls.{startRun, startRefusal};
-ghost use Rattle.machine.specs.RunContracts.{StartsBy};
+ghost use Rattle.machine.specs.RunContracts.{Starts, StartsBy};
 
 fn clear_run(run: &mut [u8])
     requires { ⌜ runSize ≤ length (now run) ⌝ }
@@ -68,4 +68,13 @@ pub fn start_by(a: &[u8], run: &mut [u8], counters: Counters) -> Started
             moves: 0,
         },
     }
+}
+
+// The start, on counters that are lent.
+pub fn start(a: &[u8], run: &mut [u8], counters: &mut Counters) -> u8
+    ensures { λ r. ⌜ Starts (now (a .entry)) (now (run .entry)) (now (counters .entry)) r (now (run .exit)) (now (counters .exit)) ⌝ }
+{
+    let done = start_by(a, run, *counters);
+    *counters = done.counters;
+    done.refusal
 }
