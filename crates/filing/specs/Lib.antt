@@ -7,3 +7,6 @@ pub mod Reading
 pub mod Document
 pub mod Reaches
 pub mod Seen
+pub mod Limits
+pub mod Filing
+pub mod Demand2

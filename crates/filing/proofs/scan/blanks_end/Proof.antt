@@ -7,7 +7,7 @@ use borrow.Author.Tests.{not-true, not-false}
 use lib.ListN.{length, drop}
 use Rattle.filing.specs.Tokens.{blank}
 use Rattle.filing.specs.Reading.{front}
-use Rattle.filing.proofs.Laws.Steps.{span-no, span-yes, span-end}
+use Rattle.filing.proofs.Laws.Trees.Steps.{span-no, span-yes, span-end}
 use Rattle.filing.proofs.scan.blanks_end.Statement.{statement}
 use Rattle.filing.proofs.scan.blanks_end.Tie as tie
 

@@ -2,7 +2,7 @@
 use mathlib.Core.Path.{sym, ap}
 use borrow.Author.Tests.{le-leb, lt-leb}
 use Rattle.filing.specs.Tokens.{listed}
-use Rattle.filing.proofs.Laws.ByteTests.{listed-last}
+use Rattle.filing.proofs.Laws.Read.ByteTests.{listed-last}
 use Rattle.filing.proofs.scan.listed.Statement.{statement}
 use Rattle.filing.proofs.scan.listed.Tie as tie
 

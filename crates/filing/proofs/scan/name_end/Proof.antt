@@ -7,7 +7,7 @@ use borrow.Author.Tests.{not-true, not-false}
 use lib.ListN.{length, drop}
 use Rattle.notation.specs.Names.{inName}
 use Rattle.filing.specs.Reading.{front}
-use Rattle.filing.proofs.Laws.Steps.{span-no, span-yes, span-end}
+use Rattle.filing.proofs.Laws.Trees.Steps.{span-no, span-yes, span-end}
 use Rattle.filing.proofs.scan.name_end.Statement.{statement}
 use Rattle.filing.proofs.scan.name_end.Tie as tie
 

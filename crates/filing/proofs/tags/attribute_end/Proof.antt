@@ -1,6 +1,6 @@
 -- `filing::tags::attribute_end` meets its contract.
 use mathlib.Core.Path.{sym, _∙_}
-use Rattle.filing.proofs.Laws.Offsets.{attribute-no, attribute-no₂, attribute-to, name-bound, mark-bound}
+use Rattle.filing.proofs.Laws.Read.Offsets.{attribute-no, attribute-no₂, attribute-to, name-bound, mark-bound}
 use borrow.Author.Needs.{needs}
 use Rattle.filing.proofs.tags.attribute_end.Statement.{statement}
 use Rattle.filing.proofs.tags.attribute_end.Tie as tie

@@ -1,5 +1,5 @@
 -- `filing::tags::mark_end` meets its contract.
-use Rattle.filing.proofs.Laws.Offsets.{mark-none, mark-no, mark-to}
+use Rattle.filing.proofs.Laws.Read.Offsets.{mark-none, mark-no, mark-to}
 use borrow.Author.Needs.{needs}
 use Rattle.filing.proofs.tags.mark_end.Statement.{statement}
 use Rattle.filing.proofs.tags.mark_end.Tie as tie

@@ -1,7 +1,7 @@
 -- `filing::tags::name_reach` meets its contract.
 use mathlib.Core.Path.{sym, _∙_}
 use borrow.Author.Tests.{not-true, not-false}
-use Rattle.filing.proofs.Laws.Offsets.{name-none, name-no, name-to}
+use Rattle.filing.proofs.Laws.Read.Offsets.{name-none, name-no, name-to}
 use borrow.Author.Needs.{needs}
 use Rattle.filing.proofs.tags.name_reach.Statement.{statement}
 use Rattle.filing.proofs.tags.name_reach.Tie as tie

@@ -1,6 +1,6 @@
 -- `filing::tags::quoted_end` meets its contract.
 use mathlib.Core.Path.{sym, _∙_}
-use Rattle.filing.proofs.Laws.Offsets.{quoted-no, quoted-none, quoted-off, quoted-to}
+use Rattle.filing.proofs.Laws.Read.Offsets.{quoted-no, quoted-none, quoted-off, quoted-to}
 use borrow.Author.Needs.{needs}
 use Rattle.filing.proofs.tags.quoted_end.Statement.{statement}
 use Rattle.filing.proofs.tags.quoted_end.Tie as tie

@@ -1,6 +1,6 @@
 -- `filing::tags::reference_end` meets its contract: the first of the five words that stands there.
 use mathlib.Core.Path.{sym, _∙_}
-use Rattle.filing.proofs.Laws.Reaches.{reference₁, reference₂, reference₃, reference₄, reference₅, reference₆}
+use Rattle.filing.proofs.Laws.Read.Reaches.{reference₁, reference₂, reference₃, reference₄, reference₅, reference₆}
 use borrow.Author.Needs.{needs}
 use Rattle.filing.proofs.tags.reference_end.Statement.{statement}
 use Rattle.filing.proofs.tags.reference_end.Tie as tie

@@ -1,6 +1,6 @@
 -- `filing::tags::value_after` meets its contract.
 use mathlib.Core.Path.{_∙_}
-use Rattle.filing.proofs.Laws.Offsets.{value-none, value-double, value-single, value-no}
+use Rattle.filing.proofs.Laws.Read.Offsets.{value-none, value-double, value-single, value-no}
 use borrow.Author.Needs.{needs}
 use Rattle.filing.proofs.tags.value_after.Statement.{statement}
 use Rattle.filing.proofs.tags.value_after.Tie as tie

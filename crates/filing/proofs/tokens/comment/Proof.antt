@@ -2,7 +2,7 @@
 use mathlib.Core.Path.{sym, _∙_}
 use native.Mathlib.Omega.{arith}
 use borrow.Author.Tests.{not-true, not-false}
-use Rattle.filing.proofs.Laws.Comments.{comment-off, comment-bound, comment-no, comment-to}
+use Rattle.filing.proofs.Laws.Read.Comments.{comment-off, comment-bound, comment-no, comment-to}
 use borrow.Author.Needs.{needs}
 use Rattle.filing.proofs.tokens.comment.Statement.{statement}
 use Rattle.filing.proofs.tokens.comment.Tie as tie

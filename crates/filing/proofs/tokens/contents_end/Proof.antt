@@ -4,7 +4,7 @@ use mathlib.Core.Path.{_≡_, refl, sym, _∙_}
 use native.Mathlib.Omega.{arith}
 use borrow.Author.Tests.{not-true, not-false}
 use lib.ListN.{length}
-use Rattle.filing.proofs.Laws.Comments.{Contents, close-to, close-no, close-fits, foreign, onwards, unclosed}
+use Rattle.filing.proofs.Laws.Read.Comments.{Contents, close-to, close-no, close-fits, foreign, onwards, unclosed}
 use borrow.Author.Needs.{needs}
 use Rattle.filing.proofs.tokens.contents_end.Statement.{statement}
 use Rattle.filing.proofs.tokens.contents_end.Tie as tie

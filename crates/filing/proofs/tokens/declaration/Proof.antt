@@ -1,7 +1,7 @@
 -- `filing::tokens::declaration` meets its contract.
 use mathlib.Core.Path.{sym, _∙_}
 use Rattle.filing.specs.Tokens.{declarationBytes}
-use Rattle.filing.proofs.Laws.TokenAt.{declared-to, declared-no}
+use Rattle.filing.proofs.Laws.Read.TokenAt.{declared-to, declared-no}
 use borrow.Author.Needs.{needs}
 use Rattle.filing.proofs.tokens.declaration.Statement.{statement}
 use Rattle.filing.proofs.tokens.declaration.Tie as tie

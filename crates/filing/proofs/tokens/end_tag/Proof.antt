@@ -1,7 +1,7 @@
 -- `filing::tokens::end_tag` meets its contract.
 use mathlib.Core.Path.{sym, _∙_}
-use Rattle.filing.proofs.Laws.Offsets.{name-bound}
-use Rattle.filing.proofs.Laws.Tags.{end-no, end-no₂, end-to}
+use Rattle.filing.proofs.Laws.Read.Offsets.{name-bound}
+use Rattle.filing.proofs.Laws.Read.Tags.{end-no, end-no₂, end-to}
 use borrow.Author.Needs.{needs}
 use Rattle.filing.proofs.tokens.end_tag.Statement.{statement}
 use Rattle.filing.proofs.tokens.end_tag.Tie as tie

@@ -5,7 +5,7 @@ use native.Mathlib.Omega.{arith}
 use lib.ListN.{length}
 use Rattle.filing.specs.Reading.{readReport}
 use Rattle.filing.specs.Seen.{isGot}
-use Rattle.filing.proofs.Laws.RunAt.{RunFrom, run-torn, run-late, run-next, run-first, run-end}
+use Rattle.filing.proofs.Laws.Read.RunAt.{RunFrom, run-torn, run-late, run-next, run-first, run-end}
 use borrow.Author.Needs.{needs}
 use Rattle.filing.proofs.tokens.is_run.Statement.{statement}
 use Rattle.filing.proofs.tokens.is_run.Tie as tie

@@ -2,8 +2,8 @@
 use Prim.Native.Nat.{_+_}
 use mathlib.Core.Path.{sym, _∙_}
 use native.Mathlib.Omega.{arith}
-use Rattle.filing.proofs.Laws.Offsets.{name-bound}
-use Rattle.filing.proofs.Laws.Tags.{tag-no, tag-no₂, inside-bound, tag-to}
+use Rattle.filing.proofs.Laws.Read.Offsets.{name-bound}
+use Rattle.filing.proofs.Laws.Read.Tags.{tag-no, tag-no₂, inside-bound, tag-to}
 use borrow.Author.Needs.{needs}
 use Rattle.filing.proofs.tokens.tag.Statement.{statement}
 use Rattle.filing.proofs.tokens.tag.Tie as tie

@@ -1,5 +1,5 @@
 -- `filing::tokens::tag_name` meets its contract: the part between the offsets is the name.
-use Rattle.filing.proofs.Laws.TagName.{name-cut}
+use Rattle.filing.proofs.Laws.Read.TagName.{name-cut}
 use borrow.Author.Needs.{needs}
 use Rattle.filing.proofs.tokens.tag_name.Statement.{statement}
 use Rattle.filing.proofs.tokens.tag_name.Tie as tie

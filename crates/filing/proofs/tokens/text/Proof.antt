@@ -8,7 +8,7 @@ use lib.ListN.{length, drop}
 use mathlib.Core.Bool.{Bool, true, false}
 use Rattle.filing.specs.Reading.{readText}
 use Rattle.filing.specs.Seen.{foundOf}
-use Rattle.filing.proofs.Laws.Texts.{TextFrom, text-start, text-less, text-end, text-foreign, text-amp-no, text-amp, text-section, text-plain}
+use Rattle.filing.proofs.Laws.Read.Texts.{TextFrom, text-start, text-less, text-end, text-foreign, text-amp-no, text-amp, text-section, text-plain}
 use borrow.Author.Needs.{needs}
 use Rattle.filing.proofs.tokens.text.Statement.{statement}
 use Rattle.filing.proofs.tokens.text.Tie as tie

@@ -1,6 +1,6 @@
 -- `filing::tokens::token_at` meets its contract: the first two bytes tell which token is read.
 use mathlib.Core.Path.{_∙_}
-use Rattle.filing.proofs.Laws.TokenAt.{token-none, token-text, token-short, token-comment, token-end, token-declaration, token-tag}
+use Rattle.filing.proofs.Laws.Read.TokenAt.{token-none, token-text, token-short, token-comment, token-end, token-declaration, token-tag}
 use borrow.Author.Needs.{needs}
 use Rattle.filing.proofs.tokens.token_at.Statement.{statement}
 use Rattle.filing.proofs.tokens.token_at.Tie as tie

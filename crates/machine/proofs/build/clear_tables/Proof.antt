@@ -8,7 +8,7 @@ use Rattle.machine.proofs.build.clear_tables.Tie as tie
 
 clear-between-requires : tie.Need-clear-between-requires
 unfolding automatonSize
-clear-between-requires c κs = (omega arith, c .before .before .pre)
+clear-between-requires c κs = (omega arith, omega arith)
 
 same-length : tie.Need-same-length
 same-length c = search needs

@@ -2,7 +2,7 @@
 -- `shape::heads_shaped`: what was tested so far passed.
 use borrow.Author.Tests.{not-true, not-false}
 use Rattle.machine.specs.Automaton.{hashes}
-use Rattle.machine.proofs.Laws.AllBelow.{all-none, all-more, all-fails}
+use Rattle.machine.proofs.Laws.Bytes.AllBelow.{all-none, all-more, all-fails}
 use Rattle.machine.specs.Shape.{allBelow, headShaped}
 use native.Mathlib.Omega.{arith}
 use mathlib.Core.Bool.{true}

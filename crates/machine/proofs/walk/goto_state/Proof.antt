@@ -1,6 +1,6 @@
 -- `walk::goto_state`: the search from the head is the search from the place that the loop has come to.
-use Rattle.machine.proofs.Laws.Goto.{hash-small, goto-end}
-use Rattle.machine.proofs.Laws.Fuel.{goto-turn}
+use Rattle.machine.proofs.Laws.Tables.Goto.{hash-small, goto-end}
+use Rattle.machine.proofs.Laws.Tables.Fuel.{goto-turn}
 use Rattle.machine.specs.Walkable.{Searchable}
 use Rattle.machine.specs.Tables.{headAt, nextAt, follows, gotoFrom, goto}
 use Rattle.machine.specs.Automaton.{hashes, hash, headsAt, linksAt, linkSize}

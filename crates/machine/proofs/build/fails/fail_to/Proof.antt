@@ -1,5 +1,5 @@
 -- `build::fails::fail_to`: no parent, or the walk from the parent's failure state.
-use Rattle.machine.proofs.Laws.Fuel.{fail-state}
+use Rattle.machine.proofs.Laws.Tables.Fuel.{fail-state}
 use borrow.Author.Tests.{eq-eqb, ne-eqb}
 use Rattle.machine.specs.Fails.{failTo, Growing}
 use Rattle.machine.specs.Tables.{parentAt, failOf}

@@ -1,6 +1,6 @@
 -- `build::fails::fails`: the links of the words of the lengths so far are stored.
 use native.Mathlib.Numerals.{add-one}
-use Rattle.machine.proofs.Laws.Growing.{grows-to}
+use Rattle.machine.proofs.Laws.Building.Growing.{grows-to}
 use Rattle.machine.specs.Fails.{failedBelow, failedTo, Growing}
 use Rattle.notation.specs.Reads.{labelCount}
 use Rattle.notation.specs.Limits.{maxSteps}

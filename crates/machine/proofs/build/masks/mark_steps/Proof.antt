@@ -1,4 +1,4 @@
-use Rattle.machine.proofs.Laws.Marking.{steps-start, steps-turn, steps-end}
+use Rattle.machine.proofs.Laws.Building.Marking.{steps-start, steps-turn, steps-end}
 use Rattle.machine.specs.Masks.{markSteps}
 use lib.ListN.{length}
 use lib.Dec.{eqb}

@@ -1,4 +1,4 @@
-use Rattle.machine.proofs.Laws.Marking.{rooted-start, rooted-here, rooted-later, rooted-end}
+use Rattle.machine.proofs.Laws.Building.Marking.{rooted-start, rooted-here, rooted-later, rooted-end}
 use Rattle.machine.specs.Masks.{anyRooted}
 use Prim.Native.Nat.{_-_, _≤_}
 use native.Mathlib.Omega.{arith}

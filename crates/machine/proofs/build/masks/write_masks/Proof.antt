@@ -1,5 +1,5 @@
 use borrow.Author.Needs.{needs}
-use Rattle.machine.proofs.Laws.Marking.{paths-start, paths-turn, paths-end}
+use Rattle.machine.proofs.Laws.Building.Marking.{paths-start, paths-turn, paths-end}
 use Rattle.machine.specs.Masks.{markPaths, withMasks}
 use lib.ListN.{length}
 use Prim.Native.Nat.{ℕ, _-_, _≤_}

@@ -10,7 +10,7 @@ use Rattle.machine.specs.Tables.{goto}
 use Rattle.machine.specs.Walkable.{Searchable}
 use Rattle.machine.specs.Parents.{Passed, wordStored, labelled}
 use Rattle.machine.specs.declared.build.parents.Place.{Place}
-use Rattle.machine.proofs.Laws.Elsewhere.{searchable-stored}
+use Rattle.machine.proofs.Laws.Building.Elsewhere.{searchable-stored}
 use borrow.Author.Needs.{needs}
 use Rattle.machine.proofs.build.parents.put_word.Statement.{statement}
 use Rattle.machine.proofs.build.parents.put_word.Tie as tie

@@ -6,7 +6,7 @@ use borrow.Author.Needs.{needs}
 use Rattle.machine.specs.Words.{any}
 use Rattle.machine.specs.Folders.{countFrom}
 use Rattle.machine.specs.Asking.{placeMatched}
-use Rattle.machine.proofs.Laws.Answered.{any-none, any-here, any-next}
+use Rattle.machine.proofs.Laws.Running.Answered.{any-none, any-here, any-next}
 use Rattle.machine.proofs.run.asking.any_matched.Statement.{statement}
 use Rattle.machine.proofs.run.asking.any_matched.Tie as tie
 

@@ -6,8 +6,8 @@ use Rattle.notation.specs.Names.{within}
 use Rattle.machine.specs.Asking.{askRefusal, answered}
 use Rattle.machine.specs.RunCalls.{depthOf, activeAt}
 use Rattle.machine.specs.declared.answers.Asked.{Asked}
-use Rattle.machine.proofs.Laws.Answered.{refused-asked, step-low}
-use Rattle.machine.proofs.Laws.Given.{may-ask}
+use Rattle.machine.proofs.Laws.Running.Answered.{refused-asked, step-low}
+use Rattle.machine.proofs.Laws.Shapes.Given.{may-ask}
 use borrow.Author.Needs.{needs}
 use Rattle.machine.proofs.run.asking.ask_step.Statement.{statement}
 use Rattle.machine.proofs.run.asking.ask_step.Tie as tie

@@ -6,9 +6,9 @@ use Rattle.machine.specs.Tables.{sizeOf}
 use Rattle.machine.specs.RunCalls.{depthOf, stateAt}
 use Rattle.machine.specs.Asking.{askRefusal, askPrefix, measured}
 use Rattle.machine.specs.declared.answers.Length.{Length}
-use Rattle.machine.proofs.Laws.Answered.{refused-length}
-use Rattle.machine.proofs.Laws.Given.{may-ask}
-use Rattle.machine.proofs.Laws.RunShape.{run-shape}
+use Rattle.machine.proofs.Laws.Running.Answered.{refused-length}
+use Rattle.machine.proofs.Laws.Shapes.Given.{may-ask}
+use Rattle.machine.proofs.Laws.Shapes.RunShape.{run-shape}
 use borrow.Author.Needs.{needs}
 use Rattle.machine.proofs.run.asking.prefix_length.Statement.{statement}
 use Rattle.machine.proofs.run.asking.prefix_length.Tie as tie

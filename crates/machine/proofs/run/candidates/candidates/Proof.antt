@@ -13,7 +13,7 @@ use Rattle.machine.specs.Automaton.{maskSize, masksAt, automatonSize}
 use Rattle.machine.specs.Bits.{bitAt, bitIn}
 use Rattle.machine.specs.Chain.{chainLabels}
 use Rattle.machine.specs.RunCalls.{candidate}
-use Rattle.machine.proofs.Laws.BitRows.{bit-copied}
+use Rattle.machine.proofs.Laws.Bytes.BitRows.{bit-copied}
 use Rattle.machine.proofs.run.candidates.candidates.Statement.{statement}
 use Rattle.machine.proofs.run.candidates.candidates.Tie as tie
 

@@ -10,7 +10,7 @@ use Rattle.notation.specs.Limits.{maxLabels, maxPaths, maxSteps}
 use Rattle.notation.specs.Reads.{word16, labelEntryAt, labelName}
 use Rattle.machine.specs.Bits.{bitAt}
 use Rattle.machine.specs.Automaton.{maskSize}
-use Rattle.machine.proofs.Laws.BitRows.{any-one, or-none}
+use Rattle.machine.proofs.Laws.Bytes.BitRows.{any-one, or-none}
 use borrow.Author.Needs.{needs}
 use Rattle.machine.proofs.run.candidates.mark_label.Statement.{statement}
 use Rattle.machine.proofs.run.candidates.mark_label.Tie as tie

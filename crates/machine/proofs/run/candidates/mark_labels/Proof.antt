@@ -13,9 +13,9 @@ use Rattle.machine.specs.Automaton.{hashes, hash, headsAt, linksAt, link
 use Rattle.machine.specs.Tables.{headAt, nextAt}
 use Rattle.machine.specs.Bits.{bitAt}
 use Rattle.machine.specs.Chain.{chainFrom, chainLabels}
-use Rattle.machine.proofs.Laws.Goto.{hash-small}
-use Rattle.machine.proofs.Laws.BitRows.{or-none}
-use Rattle.machine.proofs.Laws.ChainTurns.{chain-none, left, low, rises, marked}
+use Rattle.machine.proofs.Laws.Tables.Goto.{hash-small}
+use Rattle.machine.proofs.Laws.Bytes.BitRows.{or-none}
+use Rattle.machine.proofs.Laws.Tables.ChainTurns.{chain-none, left, low, rises, marked}
 use Rattle.machine.proofs.run.candidates.mark_labels.Statement.{statement}
 use Rattle.machine.proofs.run.candidates.mark_labels.Tie as tie
 

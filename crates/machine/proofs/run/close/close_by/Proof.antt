@@ -4,8 +4,8 @@ use mathlib.Core.Bool.{true, false}
 use lib.Dec.{eqb}
 use borrow.Author.Tests.{eq-eqb, ne-eqb, eqb-false}
 use Rattle.machine.specs.RunCalls.{closeRefusal, closeCounters, depthOf}
-use Rattle.machine.proofs.Laws.Given.{may-close}
-use Rattle.machine.proofs.Laws.CounterShape.{closes-fit}
+use Rattle.machine.proofs.Laws.Shapes.Given.{may-close}
+use Rattle.machine.proofs.Laws.Shapes.CounterShape.{closes-fit}
 use borrow.Author.Needs.{needs}
 use Rattle.machine.proofs.run.close.close_by.Statement.{statement}
 use Rattle.machine.proofs.run.close.close_by.Tie as tie

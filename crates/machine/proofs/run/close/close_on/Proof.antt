@@ -1,6 +1,6 @@
-use Rattle.machine.proofs.Laws.RunShape.{run-shape}
-use Rattle.machine.proofs.Laws.Shaped.{shaped-is}
-use Rattle.machine.proofs.Laws.Rows.{row-width, run-kept, closed}
+use Rattle.machine.proofs.Laws.Shapes.RunShape.{run-shape}
+use Rattle.machine.proofs.Laws.Shapes.Shaped.{shaped-is}
+use Rattle.machine.proofs.Laws.Running.Rows.{row-width, run-kept, closed}
 use native.Mathlib.Omega.{arith}
 use mathlib.Core.Path.{_∙_, ap}
 use lib.ListN.{length}

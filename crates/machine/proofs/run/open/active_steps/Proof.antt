@@ -8,7 +8,7 @@ use Rattle.notation.specs.Limits.{maxPaths, maxSteps}
 use Rattle.machine.specs.Automaton.{maskSize, tabulate, byteOf}
 use Rattle.machine.specs.Bits.{bitAt}
 use Rattle.machine.specs.RunCalls.{usedBytes, permitted}
-use Rattle.machine.proofs.Laws.Written.{active-is}
+use Rattle.machine.proofs.Laws.Running.Written.{active-is}
 use borrow.Author.Needs.{needs}
 use Rattle.machine.proofs.run.open.active_steps.Statement.{statement}
 use Rattle.machine.proofs.run.open.active_steps.Tie as tie

@@ -1,4 +1,4 @@
-use Rattle.machine.proofs.Laws.Written.{all-marked, seen-is, match-is}
+use Rattle.machine.proofs.Laws.Running.Written.{all-marked, seen-is, match-is}
 use native.Mathlib.Omega.{arith}
 use mathlib.Core.Path.{_≡_, sym, _∙_, ap}
 use mathlib.Core.List.{List}

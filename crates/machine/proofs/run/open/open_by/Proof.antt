@@ -10,8 +10,8 @@ use Rattle.machine.specs.RunCalls.{openRefusal, openCounters, openWalk}
 use Rattle.machine.specs.declared.counters.Counters.{Counters}
 use Rattle.machine.specs.declared.answers.Opened.{Opened}
 use Rattle.machine.specs.declared.walk.Walk.{Walk}
-use Rattle.machine.proofs.Laws.Given.{may-open}
-use Rattle.machine.proofs.Laws.CounterShape.{moves-fit, refused-answer, accepted-answer}
+use Rattle.machine.proofs.Laws.Shapes.Given.{may-open}
+use Rattle.machine.proofs.Laws.Shapes.CounterShape.{moves-fit, refused-answer, accepted-answer}
 use borrow.Author.Needs.{needs}
 use Rattle.machine.proofs.run.open.open_by.Statement.{statement}
 use Rattle.machine.proofs.run.open.open_by.Tie as tie

@@ -1,4 +1,4 @@
-use Rattle.machine.proofs.Laws.ChainTurns.{openable}
+use Rattle.machine.proofs.Laws.Tables.ChainTurns.{openable}
 use Rattle.machine.specs.declared.walk.Walk.{Walk}
 use native.Mathlib.Omega.{arith}
 use mathlib.Core.Path.{_≡_, sym, _∙_, ap}
@@ -6,9 +6,9 @@ use Prim.Native.Nat.{ℕ, suc, _≤_}
 use Rattle.notation.specs.Reads.{labelCount}
 use Rattle.machine.specs.RunCalls.{depthOf, stateAt, usedBits, nowActive, nowSeen, nowMatched, storedOpen}
 use Rattle.machine.specs.Tables.{walkOver}
-use Rattle.machine.proofs.Laws.RunShape.{run-shape}
-use Rattle.machine.proofs.Laws.Fuel.{size-within}
-use Rattle.machine.proofs.Laws.Written.{opened}
+use Rattle.machine.proofs.Laws.Shapes.RunShape.{run-shape}
+use Rattle.machine.proofs.Laws.Tables.Fuel.{size-within}
+use Rattle.machine.proofs.Laws.Running.Written.{opened}
 use borrow.Author.Needs.{needs}
 use Rattle.machine.proofs.run.open.open_on.Statement.{statement}
 use Rattle.machine.proofs.run.open.open_on.Tie as tie

@@ -8,8 +8,8 @@ use Rattle.notation.specs.Layout.{le16}
 use Rattle.machine.specs.Limits.{maxDepth}
 use Rattle.machine.specs.Automaton.{maskSize}
 use Rattle.machine.specs.Run.{rowSize, runSize, matchesAt}
-use Rattle.machine.proofs.Laws.Rows.{row-width, run-kept}
-use Rattle.machine.proofs.Laws.Written.{stored}
+use Rattle.machine.proofs.Laws.Running.Rows.{row-width, run-kept}
+use Rattle.machine.proofs.Laws.Running.Written.{stored}
 use borrow.Author.Needs.{needs}
 use Rattle.machine.proofs.run.open.store.Statement.{statement}
 use Rattle.machine.proofs.run.open.store.Tie as tie

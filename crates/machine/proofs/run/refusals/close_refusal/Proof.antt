@@ -6,7 +6,7 @@ use Prim.Native.Nat.{ℕ}
 use borrow.Author.Tests.{eq-eqb, ne-eqb, not-true, not-false}
 use Rattle.notation.specs.Activity.{sameName}
 use Rattle.machine.specs.RunCalls.{given, storedName, depthOf}
-use Rattle.machine.proofs.Laws.Given.{close-first, close-then, may-call}
+use Rattle.machine.proofs.Laws.Shapes.Given.{close-first, close-then, may-call}
 use borrow.Author.Needs.{needs}
 use Rattle.machine.proofs.run.refusals.close_refusal.Statement.{statement}
 use Rattle.machine.proofs.run.refusals.close_refusal.Tie as tie

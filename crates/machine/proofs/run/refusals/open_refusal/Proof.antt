@@ -2,7 +2,7 @@ use mathlib.Core.Path.{_≡_, sym, _∙_}
 use borrow.Author.Tests.{le-leb, lt-leb}
 use Rattle.machine.specs.Limits.{maxDepth, maxOpens}
 use Rattle.machine.specs.RunCalls.{given}
-use Rattle.machine.proofs.Laws.Given.{open-first, open-then}
+use Rattle.machine.proofs.Laws.Shapes.Given.{open-first, open-then}
 use borrow.Author.Needs.{needs}
 use Rattle.machine.proofs.run.refusals.open_refusal.Statement.{statement}
 use Rattle.machine.proofs.run.refusals.open_refusal.Tie as tie

@@ -6,7 +6,7 @@ use Prim.Native.Nat.{ℕ, _+_, _-_}
 use lib.ListN.{take, drop}
 use Rattle.notation.specs.Limits.{maxName}
 use Rattle.machine.specs.Run.{rowSize, runSize, nameIn, rowAt}
-use Rattle.machine.proofs.Laws.RunShape.{run-shape}
+use Rattle.machine.proofs.Laws.Shapes.RunShape.{run-shape}
 use borrow.Author.Needs.{needs}
 use Rattle.machine.proofs.run.refusals.stored_name.Statement.{statement}
 use Rattle.machine.proofs.run.refusals.stored_name.Tie as tie

@@ -6,7 +6,7 @@ use lib.ListN.{length, set, replicate, length-set}
 use lib.Seq.{sets}
 use Rattle.notation.specs.Limits.{maxName}
 use Rattle.machine.specs.Run.{rowSize}
-use Rattle.machine.proofs.Laws.Written.{name-written}
+use Rattle.machine.proofs.Laws.Running.Written.{name-written}
 use borrow.Author.Needs.{needs}
 use Rattle.machine.proofs.run.row.write_name.Statement.{statement}
 use Rattle.machine.proofs.run.row.write_name.Tie as tie

@@ -4,7 +4,7 @@ use Rattle.notation.specs.Limits.{maxName}
 use Rattle.machine.specs.Automaton.{maskSize}
 use Rattle.machine.specs.Run.{rowSize, stateIn, activeIn, seenIn}
 use Rattle.machine.specs.RunCalls.{rowFrom}
-use Rattle.machine.proofs.Laws.Written.{head-written}
+use Rattle.machine.proofs.Laws.Running.Written.{head-written}
 use borrow.Author.Needs.{needs}
 use Rattle.machine.proofs.run.row.write_row.Statement.{statement}
 use Rattle.machine.proofs.run.row.write_row.Tie as tie

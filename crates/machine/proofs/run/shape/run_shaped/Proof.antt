@@ -7,8 +7,8 @@ use borrow.Author.Needs.{needs}
 use Rattle.machine.specs.Limits.{maxDepth}
 use Rattle.machine.specs.Shape.{allBelow}
 use Rattle.machine.specs.RunCalls.{depthOf, rowShaped}
-use Rattle.machine.proofs.Laws.AllBelow.{all-none, all-more}
-use Rattle.machine.proofs.Laws.RunShape.{too-deep, bad-row, all-rows}
+use Rattle.machine.proofs.Laws.Bytes.AllBelow.{all-none, all-more}
+use Rattle.machine.proofs.Laws.Shapes.RunShape.{too-deep, bad-row, all-rows}
 use Rattle.machine.proofs.run.shape.run_shaped.Statement.{statement}
 use Rattle.machine.proofs.run.shape.run_shaped.Tie as tie
 

@@ -4,7 +4,7 @@ use mathlib.Core.Bool.{true, false}
 use lib.Dec.{eqb}
 use borrow.Author.Tests.{eq-eqb, ne-eqb}
 use Rattle.machine.specs.RunCalls.{startRefusal}
-use Rattle.machine.proofs.Laws.Given.{may-start}
+use Rattle.machine.proofs.Laws.Shapes.Given.{may-start}
 use borrow.Author.Needs.{needs}
 use Rattle.machine.proofs.run.start.start_by.Statement.{statement}
 use Rattle.machine.proofs.run.start.start_by.Tie as tie

@@ -7,7 +7,7 @@ use lib.Seq.{sets}
 use Rattle.notation.specs.Layout.{le16}
 use Rattle.machine.specs.Automaton.{startAt}
 use Rattle.machine.specs.Run.{rowAt, rowsAt, rowSize, stateIn, runSize}
-use Rattle.machine.proofs.Laws.Given.{within-run, started}
+use Rattle.machine.proofs.Laws.Shapes.Given.{within-run, started}
 use borrow.Author.Needs.{needs}
 use Rattle.machine.proofs.run.start.start_on.Statement.{statement}
 use Rattle.machine.proofs.run.start.start_on.Tie as tie

@@ -3,7 +3,7 @@ use mathlib.Core.Path.{_∙_, ap}
 use Prim.Native.Nat.{ℕ, _+_, _*_}
 use Rattle.machine.specs.Automaton.{maskSize}
 use Rattle.machine.specs.Bits.{bitOf, bitIn}
-use Rattle.machine.proofs.Laws.ByteSteps.{last-before-none, last-before}
+use Rattle.machine.proofs.Laws.Bytes.ByteSteps.{last-before-none, last-before}
 use borrow.Author.Needs.{needs}
 use Rattle.machine.proofs.run.steps.byte_before.Statement.{statement}
 use Rattle.machine.proofs.run.steps.byte_before.Tie as tie

@@ -3,7 +3,7 @@ use mathlib.Core.Path.{_∙_, ap}
 use Prim.Native.Nat.{ℕ, _+_, _*_}
 use Rattle.machine.specs.Automaton.{maskSize, masksAt}
 use Rattle.machine.specs.Bits.{bitOf}
-use Rattle.machine.proofs.Laws.ByteSteps.{byte-bit}
+use Rattle.machine.proofs.Laws.Bytes.ByteSteps.{byte-bit}
 use borrow.Author.Needs.{needs}
 use Rattle.machine.proofs.run.steps.mask_byte.Statement.{statement}
 use Rattle.machine.proofs.run.steps.mask_byte.Tie as tie

@@ -7,7 +7,7 @@ use borrow.Author.Needs.{needs}
 use Rattle.machine.specs.Automaton.{maskSize, byteOf, tabulate}
 use Rattle.machine.specs.Bits.{bitOf, bitIn, bitAt}
 use Rattle.machine.specs.RunCalls.{permitted, maskBit, seenAt, matchedAt}
-use Rattle.machine.proofs.Laws.ByteSteps.{byte-at-bit, row-none, row-more, join-and, join-or}
+use Rattle.machine.proofs.Laws.Bytes.ByteSteps.{byte-at-bit, row-none, row-more, join-and, join-or}
 use Rattle.machine.specs.Run.{matchesAt}
 use Rattle.machine.proofs.run.steps.match_row.Statement.{statement}
 use Rattle.machine.proofs.run.steps.match_row.Tie as tie

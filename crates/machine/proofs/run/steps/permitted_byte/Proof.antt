@@ -6,7 +6,7 @@ use mathlib.Core.Bool.{Bool, true, false, _||_, _&&_}
 use Prim.Native.Nat.{ℕ, _+_, _*_}
 use Rattle.machine.specs.Run.{activeIn, seenIn, rowSize, runSize}
 use Rattle.machine.specs.Bits.{bitOf, bitIn}
-use Rattle.machine.proofs.Laws.ByteSteps.{join-and, join-or}
+use Rattle.machine.proofs.Laws.Bytes.ByteSteps.{join-and, join-or}
 use borrow.Author.Needs.{needs}
 use Rattle.machine.proofs.run.steps.permitted_byte.Statement.{statement}
 use Rattle.machine.proofs.run.steps.permitted_byte.Tie as tie

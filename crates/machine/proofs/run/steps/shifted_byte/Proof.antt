@@ -3,7 +3,7 @@ use mathlib.Core.Path.{_∙_, ap}
 use Prim.Native.Nat.{ℕ, _+_, _*_}
 use Rattle.machine.specs.Automaton.{maskSize}
 use Rattle.machine.specs.Bits.{bitBefore}
-use Rattle.machine.proofs.Laws.ByteSteps.{shifted-bit}
+use Rattle.machine.proofs.Laws.Bytes.ByteSteps.{shifted-bit}
 use borrow.Author.Needs.{needs}
 use Rattle.machine.proofs.run.steps.shifted_byte.Statement.{statement}
 use Rattle.machine.proofs.run.steps.shifted_byte.Tie as tie

@@ -1,0 +1,6 @@
+pub mod FilingOrder
+pub mod FilingTokens
+pub mod FilingRun
+pub mod FilingAdded
+pub mod FilingChildless
+pub mod Demand2

@@ -1,0 +1,5 @@
+pub mod AttributesBack
+pub mod PartsBack
+pub mod ReadBack
+pub mod OneRun
+pub mod AllListed

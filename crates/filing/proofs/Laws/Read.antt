@@ -1,0 +1,17 @@
+pub mod ByteTests
+pub mod Bytes
+pub mod Chain
+pub mod Comments
+pub mod Holds
+pub mod Inside
+pub mod Next
+pub mod Offsets
+pub mod PartsSound
+pub mod Reaches
+pub mod ReadSound
+pub mod RunAt
+pub mod TagName
+pub mod Tags
+pub mod Texts
+pub mod TokenAt
+pub mod Values

@@ -1,0 +1,8 @@
+pub mod Balance
+pub mod Listed
+pub mod OneDocument
+pub mod Passed
+pub mod Places
+pub mod Select
+pub mod SelectTable
+pub mod Steps

@@ -1,0 +1,15 @@
+pub mod Accepting
+pub mod Elsewhere
+pub mod Chains
+pub mod Placed
+pub mod Parents
+pub mod Growing
+pub mod Staged
+pub mod Fails
+pub mod Marking
+pub mod Masked
+pub mod Started
+pub mod Finished
+pub mod Build
+pub mod Built
+pub mod WriteSet

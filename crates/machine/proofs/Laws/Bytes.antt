@@ -1,0 +1,10 @@
+pub mod Bits
+pub mod BitRows
+pub mod ByteBits
+pub mod ByteSteps
+pub mod WithBit
+pub mod MaskRows
+pub mod Tabulate
+pub mod Stores
+pub mod AllBelow
+pub mod Finding

@@ -1,0 +1,4 @@
+pub mod Words
+pub mod Labels
+pub mod Prefix
+pub mod Walk

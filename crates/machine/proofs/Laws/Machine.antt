@@ -1,0 +1,14 @@
+pub mod Order
+pub mod Steps
+pub mod Calls
+pub mod History
+pub mod Sound
+pub mod Matches
+pub mod Folders
+pub mod Answers
+pub mod Childless
+pub mod Moves
+pub mod Adding
+pub mod Alike
+pub mod Examples
+pub mod Whole

@@ -1,0 +1,16 @@
+pub mod RunBytes
+pub mod PathSteps
+pub mod LabelSteps
+pub mod FullPaths
+pub mod FolderPlaces
+pub mod RowStores
+pub mod Rows
+pub mod OpenBits
+pub mod Opening
+pub mod Starting
+pub mod Written
+pub mod Answered
+pub mod Asking
+pub mod Means
+pub mod Following
+pub mod Demand3

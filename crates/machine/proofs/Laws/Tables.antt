@@ -1,0 +1,12 @@
+pub mod Assembled
+pub mod SetReads
+pub mod Linked
+pub mod Linking
+pub mod Goto
+pub mod States
+pub mod Fuel
+pub mod Searched
+pub mod Walked
+pub mod ChainPlaces
+pub mod ChainTurns
+pub mod Compiled
