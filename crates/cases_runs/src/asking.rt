@@ -1,23 +1,38 @@
 // The asking calls at their edges.
 use crate::calls;
+use machine::counters::Counters;
 
-pub fn all() {
-    let mut a = [0u8; 65536];
-    let mut run = [0u8; 65536];
+pub fn all(a: &mut [u8], run: &mut [u8]) {
     let set = b"(folders\n(folder 1 (/a//b))\n(folder 9999 (//a))\n)\n";
-    let mut c = calls::fresh(b"asking", &mut a, &mut run, set);
-    c = calls::open(&a, &mut run, c, b"a");
-    paths(&a, &run);
-    c = calls::open(&a, &mut run, c, b"b");
-    paths(&a, &run);
-    steps(&a, &run);
-    names(&a, &run);
-    c = calls::close(&a, &mut run, c, b"b");
-    steps(&a, &run);
-    names(&a, &run);
-    c = calls::close(&a, &mut run, c, b"a");
-    names(&a, &run);
-    calls::prefix(&a, &run);
+    let c = calls::fresh(b"asking", a, run, set);
+    all2(a, run, c);
+}
+
+fn all2(a: &[u8], run: &mut [u8], start: Counters) {
+    let mut c = calls::open(a, run, start, b"a");
+    paths(a, run);
+    c = calls::open(a, run, c, b"b");
+    all3(a, run, c);
+}
+
+fn all3(a: &[u8], run: &mut [u8], start: Counters) {
+    paths(a, run);
+    steps(a, run);
+    names(a, run);
+    all4(a, run, start);
+}
+
+fn all4(a: &[u8], run: &mut [u8], start: Counters) {
+    let c = calls::close(a, run, start, b"b");
+    steps(a, run);
+    names(a, run);
+    all5(a, run, c);
+}
+
+fn all5(a: &[u8], run: &mut [u8], start: Counters) {
+    let c = calls::close(a, run, start, b"a");
+    names(a, run);
+    calls::prefix(a, run);
     calls::counters(c);
 }
 

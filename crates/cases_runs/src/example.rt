@@ -1,25 +1,44 @@
 // The worked example, with every asking call after each call.
 use crate::calls;
+use machine::counters::Counters;
 
-pub fn all() {
-    let mut a = [0u8; 65536];
-    let mut run = [0u8; 65536];
+pub fn all(a: &mut [u8], run: &mut [u8]) {
     let set = b"(folders\n(folder 3 (//clock/drift) (/lock/*/drift))\n(folder 8 (//*/lock))\n)\n";
-    let mut c = calls::fresh(b"the worked example", &mut a, &mut run, set);
-    ask(&a, &run);
-    c = calls::open(&a, &mut run, c, b"lock");
-    ask(&a, &run);
-    c = calls::open(&a, &mut run, c, b"clock");
-    ask(&a, &run);
-    c = calls::open(&a, &mut run, c, b"drift");
-    ask(&a, &run);
-    calls::counters(c);
-    c = calls::close(&a, &mut run, c, b"drift");
-    ask(&a, &run);
-    c = calls::close(&a, &mut run, c, b"clock");
-    c = calls::close(&a, &mut run, c, b"lock");
-    ask(&a, &run);
-    calls::counters(c);
+    let c = calls::fresh(b"the worked example", a, run, set);
+    all2(a, run, c);
+}
+
+fn all2(a: &[u8], run: &mut [u8], start: Counters) {
+    ask(a, run);
+    let c = calls::open(a, run, start, b"lock");
+    ask(a, run);
+    all3(a, run, c);
+}
+
+fn all3(a: &[u8], run: &mut [u8], start: Counters) {
+    let mut c = calls::open(a, run, start, b"clock");
+    ask(a, run);
+    c = calls::open(a, run, c, b"drift");
+    all4(a, run, c);
+}
+
+fn all4(a: &[u8], run: &mut [u8], start: Counters) {
+    ask(a, run);
+    calls::counters(start);
+    let c = calls::close(a, run, start, b"drift");
+    all5(a, run, c);
+}
+
+fn all5(a: &[u8], run: &mut [u8], start: Counters) {
+    ask(a, run);
+    let mut c = calls::close(a, run, start, b"clock");
+    c = calls::close(a, run, c, b"lock");
+    all6(a, run, c);
+}
+
+fn all6(a: &[u8], run: &[u8], start: Counters) {
+    ask(a, run);
+    calls::counters(start);
 }
 
 fn ask(a: &[u8], run: &[u8]) {

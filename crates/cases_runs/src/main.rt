@@ -8,10 +8,20 @@ mod sizes;
 mod strange;
 
 fn main() {
-    errs::all();
-    example::all();
-    edges::all();
-    asking::all();
-    strange::all();
+    let mut a = [0u8; 65536];
+    let mut run = [0u8; 65536];
+    all(&mut a, &mut run);
     sizes::all();
+}
+
+fn all(a: &mut [u8], run: &mut [u8]) {
+    errs::all(a, run);
+    example::all(a, run);
+    more(a, run);
+}
+
+fn more(a: &mut [u8], run: &mut [u8]) {
+    edges::all(a, run);
+    asking::all(a, run);
+    strange::all(a, run);
 }
