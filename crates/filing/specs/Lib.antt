@@ -10,3 +10,4 @@ pub mod Seen
 pub mod Limits
 pub mod Filing
 pub mod Demand2
+pub mod FileCall

@@ -10,7 +10,8 @@ use Rattle.machine.specs.Automaton.{automatonSize}
 use Rattle.machine.specs.Walkable.{Walkable}
 use Rattle.machine.specs.Shape.{automatonShaped}
 use Rattle.machine.specs.Run.{runSize}
-use Rattle.machine.specs.RunCalls.{runShaped}
+use Rattle.machine.specs.RunCalls.{runShaped, countersShaped}
+use Rattle.machine.specs.declared.counters.Counters.{Counters}
 
 pub record Ready (a run : List ℕ) : Type 0 where
   pub size : automatonSize ≤ length a
@@ -24,3 +25,8 @@ pub record Openable (a : List ℕ) : Type 0 where
   pub steps : stepCount a ≤ maxPaths * maxSteps
   pub step : (l : ℕ) → l < labelCount a → word16 a (labelEntryAt l + 4) < stepCount a
   pub size : automatonSize ≤ length a
+
+-- what a report's calls keep from token to token: automaton, run and counters of their size that pass the shape test
+pub record Usable (a run : List ℕ) (c : Counters) : Type 0 where
+  pub ready : Ready a run
+  pub counts : countersShaped run c ≡ true
