@@ -4,3 +4,4 @@ pub mod FilingRun
 pub mod FilingAdded
 pub mod FilingChildless
 pub mod Demand2
+pub mod FilingStored
