@@ -5,3 +5,5 @@ pub mod FilingAdded
 pub mod FilingChildless
 pub mod Demand2
 pub mod FilingStored
+pub mod FilingAlike
+pub mod FromBytes

@@ -122,7 +122,7 @@ module _ (s : FolderSet) (a : List ℕ) (means : Means s a) (rest : List ℕ) wh
   fresh-stored bytes = cases (ltb maxReportBytes (length bytes)) (λ t. rw t) (λ t. cases (every listed bytes) (λ l. rw (t, l) (run-stored (readReport bytes))) (λ l. rw (t, l)))
 
 -- what a start leaves is the fresh run
-start-stored : (s : FolderSet) (a : List ℕ) → Means s a → (buffer : List ℕ) → started a buffer ≡ leftOf s (drop runSize buffer) (fresh s)
+pub start-stored : (s : FolderSet) (a : List ℕ) → Means s a → (buffer : List ℕ) → started a buffer ≡ leftOf s (drop runSize buffer) (fresh s)
 unfolding leftAfter after
 start-stored s a means buffer = left-by s a means buffer []
 
