@@ -3,7 +3,7 @@
 use Prim.Native.Nat.{ℕ, _≤_, _<_}
 use mathlib.Core.Path.{_≡_}
 use mathlib.Core.Logic.{_↔_}
-use mathlib.Core.List.{List, _++_, List·Memᴰ}
+use mathlib.Core.List.{List, [], _∷_, _++_, List·Memᴰ}
 use lib.ListN.{length, drop}
 use Rattle.notation.specs.Sets.{Folder, FolderSet, folderNumber}
 use Rattle.notation.specs.Form.{pathsOf}
@@ -48,12 +48,17 @@ pub record SameFolders (s : FolderSet) (answer : ℕ) (a run' : List ℕ) (other
   pub answers : other ≡ answer
   pub folders : (f : Folder) → List·Memᴰ f s → askFolder b run₂ (record { 0 = folderNumber f }) ≡ askFolder a run' (record { 0 = folderNumber f })
 
+-- 0, and the numbers with which a report itself is refused: not 1 and 14, which are of what is lent
+abbrev pub reportNumbers : List ℕ
+reportNumbers = 0 ∷ 2 ∷ 5 ∷ 7 ∷ 8 ∷ 9 ∷ 10 ∷ 11 ∷ 12 ∷ []
+
 -- all of demand 2, of a set, its automaton, the bytes lent, and what the call answers and leaves
 pub record Demand2Bytes (s : FolderSet) (a report run : List ℕ) (answer : ℕ) (run' : List ℕ) (c' : Counters) : Type 0 where
   -- refused with a number exactly when its condition holds and no earlier one does, filed exactly when none does
   pub refusals : (r : Refusal) → (answer ≡ numberOf r) ↔ Refused s report r
   pub filings : (answer ≡ 0) ↔ ((m : State) × FiledWith s report m)
-  -- a refused report leaves a fresh run
+  pub numbers : List·Memᴰ answer reportNumbers
+  -- a refused report leaves a fresh run, a filed one what its document says
   pub refusedLeaves : (answer ≡ 0 → ⊥) → (run' ≡ startRun a run) × (c' ≡ noCounters)
   pub filedLeaves : answer ≡ 0 → FiledReport s a report run run' c'
   -- adding folders changes no other folder's matches while the larger set is accepted

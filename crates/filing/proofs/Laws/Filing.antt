@@ -6,4 +6,5 @@ pub mod FilingChildless
 pub mod Demand2
 pub mod FilingStored
 pub mod FilingAlike
+pub mod FilingNumbers
 pub mod FromBytes

@@ -37,10 +37,11 @@ use Rattle.filing.specs.Document.{eventsOf, documentIn}
 use Rattle.filing.specs.Filing.{Filed, refused, filed, numberGiven, callsIn, fileReport}
 use Rattle.filing.specs.Demand2.{childlessIn, SelectsElement, FolderSelects, OfDocument}
 use Rattle.filing.specs.FileCall.{numberLeft, leftIn, fileLeft, Files}
-use Rattle.filing.specs.FiledReport.{FiledReport, Demand2Bytes}
+use Rattle.filing.specs.FiledReport.{FiledReport, reportNumbers, Demand2Bytes}
 use Rattle.filing.proofs.Laws.Filing.FilingOrder.{refused-is, filed-is}
 use Rattle.filing.proofs.Laws.Filing.FilingAdded.{added}
 use Rattle.filing.proofs.Laws.Filing.FilingAlike.{same-number}
+use Rattle.filing.proofs.Laws.Filing.FilingNumbers.{given-among}
 use Rattle.filing.proofs.Laws.Filing.FilingStored.{storedOf, start-stored, report-stored}
 use Rattle.filing.proofs.Laws.Filing.Demand2.{of-document}
 
@@ -227,6 +228,7 @@ demand2-bytes text s acc behind lent long c report answer run' c' f =
         λ e. let (m, h) = given-filed (fileReport s report) (sym is ∙ e) in (m, filed-is s report m .0 h),
         λ h. is ∙ ap numberGiven (filed-is s report (h .0) .1 (h .1)),
       );
+      numbers = subst (λ (n : ℕ). List·Memᴰ n reportNumbers) (sym is) (given-among s report);
       refusedLeaves = refused-leaves s a w lent long c report answer run' c' f (fileReport s report) refl;
       filedLeaves = λ e.
           let (m, h) = given-filed (fileReport s report) (sym is ∙ e) in
