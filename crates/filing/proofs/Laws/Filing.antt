@@ -4,3 +4,7 @@ pub mod FilingRun
 pub mod FilingAdded
 pub mod FilingChildless
 pub mod Demand2
+pub mod FilingStored
+pub mod FilingAlike
+pub mod FilingNumbers
+pub mod FromBytes
