@@ -30,7 +30,7 @@ fn add(buffer: &mut [u8], at: usize, piece: &[u8]) -> usize {
     if buffer.len() - at < piece.len() {
         return at;
     }
-    notation::put::copy(buffer, at, piece);
+    notation::store::copy(buffer, at, piece);
     at + piece.len()
 }
 

@@ -1,5 +1,5 @@
 // Reports: their bytes, tokens and tags. The document tree and XPath 1.0 stand in specs.
 
-pub mod scan;
-pub mod tags;
+mod scan;
+mod tags;
 pub mod tokens;

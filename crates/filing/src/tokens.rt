@@ -31,7 +31,7 @@ pub enum Found {
 }
 
 // A start or empty-element tag, whose `<` stands at the offset.
-pub fn tag(s: &[u8], at: usize) -> Found
+fn tag(s: &[u8], at: usize) -> Found
     requires { ⌜ at < length (now s) ⌝ }
     ensures { λ r. ⌜ r ≡ foundOf (length (now (s .entry))) at (readTag (drop (at + 1) (now (s .entry)))) ⌝ }
 {
@@ -46,7 +46,7 @@ pub fn tag(s: &[u8], at: usize) -> Found
 }
 
 // The end of such a tag: `>` or `/>`.
-pub fn tag_end(s: &[u8], from: usize, to: usize, e: usize) -> Found
+fn tag_end(s: &[u8], from: usize, to: usize, e: usize) -> Found
     requires { ⌜ e ≤ length (now s) ⌝ }
     ensures { λ r. ⌜ r ≡ tagEndOf (now (s .entry)) from to e ⌝ }
 {
@@ -70,7 +70,7 @@ pub fn tag_end(s: &[u8], from: usize, to: usize, e: usize) -> Found
 }
 
 // An end tag, whose `</` stands at the offset.
-pub fn end_tag(s: &[u8], at: usize) -> Found
+fn end_tag(s: &[u8], at: usize) -> Found
     requires { ⌜ at + 2 ≤ length (now s) ⌝ }
     ensures { λ r. ⌜ r ≡ foundOf (length (now (s .entry))) at (readEndTag (drop (at + 2) (now (s .entry)))) ⌝ }
 {
@@ -85,7 +85,7 @@ pub fn end_tag(s: &[u8], at: usize) -> Found
 }
 
 // `--` stands at the offset.
-pub fn dashes(s: &[u8], at: usize) -> bool
+fn dashes(s: &[u8], at: usize) -> bool
     requires { ⌜ at ≤ length (now s) ⌝ }
     ensures { λ r. ⌜ r ≡ begins (45 ∷ 45 ∷ []) (drop at (now (s .entry))) ⌝ }
 {
@@ -93,7 +93,7 @@ pub fn dashes(s: &[u8], at: usize) -> bool
 }
 
 // `-->` stands at the offset.
-pub fn comment_close(s: &[u8], at: usize) -> bool
+fn comment_close(s: &[u8], at: usize) -> bool
     requires { ⌜ at ≤ length (now s) ⌝ }
     ensures { λ r. ⌜ r ≡ begins (45 ∷ 45 ∷ 62 ∷ []) (drop at (now (s .entry))) ⌝ }
 {
@@ -101,7 +101,7 @@ pub fn comment_close(s: &[u8], at: usize) -> bool
 }
 
 // `]]>` stands at the offset.
-pub fn section_close(s: &[u8], at: usize) -> bool
+fn section_close(s: &[u8], at: usize) -> bool
     requires { ⌜ at ≤ length (now s) ⌝ }
     ensures { λ r. ⌜ r ≡ begins (93 ∷ 93 ∷ 62 ∷ []) (drop at (now (s .entry))) ⌝ }
 {
@@ -109,7 +109,7 @@ pub fn section_close(s: &[u8], at: usize) -> bool
 }
 
 // The contents of a comment, with the `-->` after them.
-pub fn contents_end(s: &[u8], at: usize) -> Reach
+fn contents_end(s: &[u8], at: usize) -> Reach
     requires { ⌜ at ≤ length (now s) ⌝ }
     ensures { λ r. ⌜ r ≡ reachOf (length (now (s .entry))) (readContents (drop at (now (s .entry)))) ⌝ }
 {
@@ -130,7 +130,7 @@ pub fn contents_end(s: &[u8], at: usize) -> Reach
 }
 
 // A comment, whose `<!` stands at the offset.
-pub fn comment(s: &[u8], at: usize) -> Found
+fn comment(s: &[u8], at: usize) -> Found
     requires { ⌜ at + 2 ≤ length (now s) ⌝ }
     ensures { λ r. ⌜ r ≡ foundOf (length (now (s .entry))) at (readComment (drop (at + 2) (now (s .entry)))) ⌝ }
 {
@@ -144,7 +144,7 @@ pub fn comment(s: &[u8], at: usize) -> Found
     }
 }
 
-pub fn both(a: bool, b: bool) -> bool
+fn both(a: bool, b: bool) -> bool
     ensures { λ r. ⌜ r ≡ (a && b) ⌝ }
 {
     if a {
@@ -154,7 +154,7 @@ pub fn both(a: bool, b: bool) -> bool
 }
 
 // A text, up to the next `<` or the end.
-pub fn text(s: &[u8], at: usize) -> Found
+fn text(s: &[u8], at: usize) -> Found
     requires { ⌜ at ≤ length (now s) ⌝ }
     ensures { λ r. ⌜ r ≡ foundOf (length (now (s .entry))) at (readText (drop at (now (s .entry)))) ⌝ }
 {
@@ -188,7 +188,7 @@ pub fn text(s: &[u8], at: usize) -> Found
 }
 
 // A text is not empty.
-pub fn text_found(at: usize, end: usize, all: bool) -> Found
+fn text_found(at: usize, end: usize, all: bool) -> Found
     ensures { λ r. ⌜ r ≡ textFound at end all ⌝ }
 {
     if at < end {
@@ -198,7 +198,7 @@ pub fn text_found(at: usize, end: usize, all: bool) -> Found
 }
 
 // The declaration, at the offset.
-pub fn declaration(s: &[u8], at: usize) -> Found
+fn declaration(s: &[u8], at: usize) -> Found
     requires { ⌜ at ≤ length (now s) ⌝ }
     ensures { λ r. ⌜ r ≡ declarationAt (now (s .entry)) at ⌝ }
 {

@@ -1,13 +1,13 @@
 // Building an automaton: a set is read into its first bytes, and a pass for each of its tables makes the others behind it.
-pub mod chains;
-pub mod fails;
-pub mod masks;
-pub mod parents;
+mod chains;
+mod fails;
+mod masks;
+mod parents;
 
 use crate::layout::AUTOMATON_SIZE;
 use notation::layout::SET_SIZE;
-use notation::put;
 use notation::read::read_set;
+use notation::store::clear;
 ghost use mathlib.Core.Path.{_≡_};
 ghost use mathlib.Core.List.{_++_};
 ghost use Prim.Native.Nat.{_-_, _≤_};
@@ -21,7 +21,7 @@ fn clear_between(part: &mut [u8], from: usize, to: usize)
     requires { ⌜ (from ≤ to) × (to ≤ length (now part)) ⌝ }
     ensures { λ _. ⌜ now (part .exit) ≡ take from (now (part .entry)) ++ (replicate (to - from) 0 ++ drop to (now (part .entry))) ⌝ }
 {
-    put::clear(&mut part[from..to], to - from);
+    clear(&mut part[from..to], to - from);
 }
 
 // Zeros behind the read set.

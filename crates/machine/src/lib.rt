@@ -1,10 +1,11 @@
 // The shared machine of a folder set: its automaton, its run and the calls on them.
 pub mod answers;
-pub mod bits;
+mod bits;
 pub mod build;
 pub mod counters;
+mod hash;
 pub mod layout;
 pub mod run;
 pub mod shape;
-pub mod walk;
+mod walk;
 pub mod write;

@@ -1,11 +1,12 @@
 // The calls on a run (paper 01: the tray).
 pub mod asking;
-pub mod candidates;
+mod candidates;
 pub mod close;
 pub mod layout;
 pub mod open;
-pub mod refusals;
-pub mod row;
+mod refusals;
+mod row;
+mod rows;
 pub mod shape;
 pub mod start;
-pub mod steps;
+mod steps;

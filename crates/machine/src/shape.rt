@@ -12,6 +12,7 @@ use crate::layout::HEADS_AT;
 use crate::layout::LINK_SIZE;
 use crate::layout::LINKS_AT;
 use crate::layout::START_AT;
+use crate::walk::size_of;
 use notation::layout::FOLDER_SIZE;
 use notation::layout::FOLDERS_AT;
 use notation::layout::LABEL_SIZE;
@@ -52,18 +53,6 @@ fn between(low: usize, high: usize, x: usize) -> bool
     ensures { λ r. ⌜ r ≡ within low high x ⌝ }
 {
     both(low <= x, x <= high)
-}
-
-// The length of the word of state `q`.
-pub fn size_of(a: &[u8], q: usize) -> usize
-    requires { ⌜ q < 65536 ⌝ }
-    ensures { λ r. ⌜ (r ≡ sizeOf (now (a .entry)) q) × (r < 65536) ⌝ }
-{
-    if q < 2 {
-        q
-    } else {
-        word_at(a, LINKS_AT + LINK_SIZE * (q - 2) + 6)
-    }
 }
 
 fn counts_shaped(a: &[u8]) -> bool

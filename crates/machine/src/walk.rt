@@ -18,6 +18,18 @@ pub struct Walk {
     pub state: usize,
 }
 
+// The length of the word of state `q`.
+pub fn size_of(a: &[u8], q: usize) -> usize
+    requires { ⌜ q < 65536 ⌝ }
+    ensures { λ r. ⌜ (r ≡ sizeOf (now (a .entry)) q) × (r < 65536) ⌝ }
+{
+    if q < 2 {
+        q
+    } else {
+        word_at(a, LINKS_AT + LINK_SIZE * (q - 2) + 6)
+    }
+}
+
 // Whether label `l` ends the word of state `q` followed by `e`.
 fn follows_label(a: &[u8], q: usize, e: &[u8], l: usize) -> bool
     requires { ⌜ l < 65536 ⌝ }

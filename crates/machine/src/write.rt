@@ -3,8 +3,8 @@ use crate::answers::Written;
 use crate::layout::AUTOMATON_SIZE;
 use crate::shape::automaton_shaped;
 use notation::limits::MAX_SET_BYTES;
-use notation::put;
 use notation::reads;
+use notation::store::copy;
 ghost use Rattle.machine.specs.Build.{SetWritten};
 
 // Writes the text of an automaton's set and answers its length, or the number of the refusal: 1 for a short automaton or buffer, 14 for
@@ -19,7 +19,7 @@ pub fn write_set(automaton: &[u8], out: &mut [u8]) -> Written
         return Written::Refused(1);
     }
     if automaton_shaped(automaton) {
-        put::copy(out, 0, reads::text(automaton));
+        copy(out, 0, reads::text(automaton));
         return Written::Bytes(reads::text_len(automaton));
     }
     Written::Refused(14)

@@ -3,10 +3,11 @@ pub mod arith;
 pub mod layout;
 pub mod limits;
 pub mod names;
-pub mod put;
+mod put;
 pub mod read;
 pub mod reads;
-pub mod scan;
+mod scan;
+pub mod store;
 pub mod write;
 
 // A path's place: its index among all paths of the set.

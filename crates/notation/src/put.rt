@@ -1,4 +1,4 @@
-// Writing a read set into its buffer: zeros, the text, and an entry of each table.
+// Writing a read set into its buffer: an entry of each table.
 use crate::arith::minus;
 use crate::layout::FOLDER_SIZE;
 use crate::layout::FOLDERS_AT;
@@ -11,6 +11,8 @@ use crate::names;
 use crate::scan::Mode;
 use crate::scan::Scan;
 use crate::scan::Tally;
+use crate::store::put_pair;
+use crate::store::put16;
 ghost use mathlib.Core.Path.{_≡_};
 ghost use mathlib.Core.List.{_++_};
 ghost use mathlib.Core.Bool.{cond};
@@ -23,50 +25,6 @@ ghost use Rattle.notation.specs.Limits.{maxPaths, maxSteps, maxLabels};
 ghost use Rattle.notation.specs.Layout.{le16, setSize};
 ghost use Rattle.notation.specs.Put.{putFolder, putStep, putPath, putTest, putLabel, put, Within};
 ghost use Rattle.notation.specs.Scan.{folderRead, pathRead, labelRead, starRead, counted};
-
-// Zeros in the first n bytes.
-pub fn clear(part: &mut [u8], n: usize)
-    requires { ⌜ n ≤ length (now part) ⌝ }
-    ensures { λ _. ⌜ now (part .exit) ≡ replicate n 0 ++ drop n (now (part .entry)) ⌝ }
-{
-    let mut i = 0;
-    while i < n {
-        part[i] = 0;
-        i += 1;
-    }
-}
-
-// The bytes of a slice, from `at` on.
-pub fn copy(part: &mut [u8], at: usize, bytes: &[u8])
-    requires { ⌜ at + length (now bytes) ≤ length (now part) ⌝ }
-    ensures { λ _. ⌜ now (part .exit) ≡ sets (now (part .entry)) at (now (bytes .entry)) ⌝ }
-{
-    let mut i = 0;
-    while i < bytes.len() {
-        part[at + i] = bytes[i];
-        i += 1;
-    }
-}
-
-// A number of two bytes, the lower first.
-pub fn put16(part: &mut [u8], at: usize, v: usize)
-    requires { ⌜ at + 2 ≤ length (now part) ⌝ }
-    ensures { λ _. ⌜ now (part .exit) ≡ sets (now (part .entry)) at (le16 v) ⌝ }
-{
-    part[at] = (v % 256) as u8;
-    part[at + 1] = (v / 256 % 256) as u8;
-}
-
-// Two such numbers, one after the other.
-pub fn put_pair(part: &mut [u8], at: usize, v: usize, w: usize)
-    requires { ⌜ at + 4 ≤ length (now part) ⌝ }
-    ensures { λ _. ⌜ now (part .exit) ≡ sets (now (part .entry)) at (le16 v ++ le16 w) ⌝ }
-{
-    part[at] = (v % 256) as u8;
-    part[at + 1] = (v / 256 % 256) as u8;
-    part[at + 2] = (w % 256) as u8;
-    part[at + 3] = (w / 256 % 256) as u8;
-}
 
 fn put_folder(part: &mut [u8], t: Tally, number: usize)
     requires { ⌜ (t .folders < maxPaths) × (setSize ≤ length (now part)) ⌝ }

@@ -5,6 +5,7 @@ use crate::put;
 use crate::scan;
 use crate::scan::Scan;
 use crate::scan::Tally;
+use crate::store;
 ghost use mathlib.Core.Path.{_≡_};
 ghost use mathlib.Core.List.{_++_};
 ghost use Prim.Native.Nat.{_≤_};
@@ -37,16 +38,16 @@ fn put_counts(part: &mut [u8], size: usize, t: Tally)
     requires { ⌜ setSize ≤ length (now part) ⌝ }
     ensures { λ _. ⌜ now (part .exit) ≡ sets (now (part .entry)) 0 (tallied size t) ⌝ }
 {
-    put::put_pair(part, 0, size, t.folders);
-    put::put_pair(part, 4, t.paths, t.steps);
-    put::put16(part, 8, t.labels);
+    store::put_pair(part, 0, size, t.folders);
+    store::put_pair(part, 4, t.paths, t.steps);
+    store::put16(part, 8, t.labels);
 }
 
 fn clear_set(part: &mut [u8])
     requires { ⌜ setSize ≤ length (now part) ⌝ }
     ensures { λ _. ⌜ now (part .exit) ≡ replicate setSize 0 ++ drop setSize (now (part .entry)) ⌝ }
 {
-    put::clear(part, SET_SIZE);
+    store::clear(part, SET_SIZE);
 }
 
 // An accepted text, laid out.
@@ -55,7 +56,7 @@ fn fill(text: &[u8], part: &mut [u8])
     ensures { λ _. ⌜ now (part .exit) ≡ partRead (now (text .entry)) ++ drop setSize (now (part .entry)) ⌝ }
 {
     clear_set(part);
-    put::copy(part, TEXT_AT, text);
+    store::copy(part, TEXT_AT, text);
     let s = fill_tables(text, part);
     let t = s.tally;
     put_counts(part, text.len(), t);

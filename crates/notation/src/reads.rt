@@ -1,12 +1,13 @@
 // What is stored of a read set: cheap calls on any part of a buffer that keeps one. They answer by what is stored.
 ghost use mathlib.Core.Path.{_≡_};
 ghost use mathlib.Core.Bool.{true};
-ghost use Prim.Native.Nat.{_-_, _<_, min};
+ghost use Prim.Native.Nat.{_-_, _<_};
 ghost use lib.ListN.{getD};
 ghost use Rattle.notation.specs.Limits.{maxPaths};
 ghost use Rattle.notation.specs.Reads.{word16, textLen, folderCount, pathCount, stepCount, labelCount, present, pathsEnd, folderAt, pathAt, stepAt, labelAt, textSlice, textOf, pathText, labelName, folderOf, folderTop, pathTop, labelTop};
 use crate::FolderNumber;
 use crate::PathPlace;
+use crate::arith::least;
 use crate::arith::minus;
 use crate::layout::FOLDER_COUNT_AT;
 use crate::layout::FOLDER_SIZE;
@@ -267,10 +268,4 @@ pub fn folder_of(part: &[u8], number: FolderNumber) -> FolderIndex
         i += 1;
     }
     FolderIndex::Missing
-}
-
-fn least(a: usize, b: usize) -> usize
-    ensures { λ r. ⌜ r ≡ min a b ⌝ }
-{
-    if a < b { a } else { b }
 }

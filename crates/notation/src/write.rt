@@ -1,6 +1,6 @@
 // Writing a stored set back: its text, into a buffer.
-use crate::put;
 use crate::reads;
+use crate::store;
 ghost use Rattle.notation.specs.WriteText.{WriteText};
 
 pub enum Written {
@@ -19,6 +19,6 @@ pub fn write_text(part: &[u8], out: &mut [u8]) -> Written
     if out.len() < size {
         return Written::Short;
     }
-    put::copy(out, 0, text);
+    store::copy(out, 0, text);
     Written::Bytes(size)
 }

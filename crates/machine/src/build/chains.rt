@@ -1,35 +1,18 @@
 // The chains of labels with the same hash.
+use crate::hash::hash_of;
 use crate::layout::HEADS_AT;
 use crate::layout::LINK_SIZE;
 use crate::layout::LINKS_AT;
 use notation::limits::MAX_LABELS;
-use notation::put::put16;
 use notation::reads;
+use notation::store::put16;
 ghost use mathlib.Core.Path.{_≡_};
 ghost use Prim.Native.Nat.{_≤_, _<_, min};
 ghost use lib.ListN.{length};
 ghost use Rattle.notation.specs.Limits.{maxLabels};
 ghost use Rattle.notation.specs.Reads.{labelCount};
-ghost use Rattle.machine.specs.Automaton.{automatonSize, hash};
+ghost use Rattle.machine.specs.Automaton.{automatonSize};
 ghost use Rattle.machine.specs.Chains.{linked, chained};
-
-fn wide(b: u8) -> usize
-    ensures { λ r. ⌜ (r ≡ b) × (r < 256) ⌝ }
-{
-    b as usize
-}
-
-pub fn hash_of(e: &[u8]) -> usize
-    ensures { λ r. ⌜ (r ≡ hash (now (e .entry))) × (r < 256) ⌝ }
-{
-    let mut h = 0;
-    let mut i = 0;
-    while i < e.len() {
-        h = (31 * h + wide(e[i])) % 256;
-        i += 1;
-    }
-    h
-}
 
 // Label l becomes the first of its chain.
 fn link_label(part: &mut [u8], l: usize)

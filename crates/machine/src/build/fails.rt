@@ -4,16 +4,16 @@ ghost use Prim.Native.Nat.{suc, _<_};
 ghost use Rattle.notation.specs.Limits.{maxSteps};
 ghost use Rattle.notation.specs.Reads.{labelCount};
 ghost use Rattle.machine.specs.Fails.{failTo, failedIf, failedBelow, failedTo, Growing};
-use crate::build::chains::hash_of;
+use crate::hash::hash_of;
 use crate::layout::LINK_SIZE;
 use crate::layout::LINKS_AT;
 use crate::walk::fail_of;
 use crate::walk::walk_from;
 use notation::limits::MAX_STEPS;
-use notation::put::put16;
 use notation::reads::label_name;
 use notation::reads::labels;
 use notation::reads::word_at;
+use notation::store::put16;
 
 // The state of the failure link of label `l`: the open's walk from its parent's.
 fn fail_to(a: &[u8], l: usize) -> usize

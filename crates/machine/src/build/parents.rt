@@ -1,15 +1,15 @@
 // Each label's parent and the length of its word, step by step in set order.
-use crate::build::chains::hash_of;
+use crate::hash::hash_of;
 use crate::layout::LINK_SIZE;
 use crate::layout::LINKS_AT;
-use crate::shape::size_of;
 use crate::walk::goto_state;
+use crate::walk::size_of;
 use notation::PathPlace;
 use notation::limits::MAX_LABELS;
-use notation::put::put16;
 use notation::reads;
 use notation::reads::PathAt;
 use notation::reads::StepAt;
+use notation::store::put16;
 ghost use mathlib.Core.Path.{_≡_};
 ghost use Prim.Native.Nat.{suc, _+_, _≤_, _<_};
 ghost use lib.ListN.{length};

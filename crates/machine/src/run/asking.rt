@@ -5,8 +5,9 @@ use crate::bits::bit_in;
 use crate::run::layout::ACTIVE_IN;
 use crate::run::layout::MATCHES_AT;
 use crate::run::refusals;
+use crate::run::rows;
 use crate::run::shape;
-use crate::shape::size_of;
+use crate::walk::size_of;
 use notation::FolderNumber;
 use notation::PathPlace;
 use notation::arith::minus;
@@ -119,7 +120,7 @@ fn bit_active(a: &[u8], run: &[u8], first: usize, s: usize) -> bool
     requires { ⌜ (Ready (now a) (now run)) × ((first ≤ 65536) × (s ≤ 65536)) ⌝ }
     ensures { λ r. ⌜ r ≡ activeAt (now (run .entry)) (depthOf (now (run .entry))) (first + s - 1) ⌝ }
 {
-    let at = shape::row_at(shape::depth(run));
+    let at = rows::row_at(shape::depth(run));
     bit_in(run, at + ACTIVE_IN, minus(first + s, 1))
 }
 
@@ -166,7 +167,7 @@ pub fn prefix_length(a: &[u8], run: &[u8]) -> Length
     if refused != 0 {
         return Length::Refused(refused);
     }
-    Length::Symbols(size_of(a, shape::state_at(run, shape::depth(run))))
+    Length::Symbols(size_of(a, rows::state_at(run, shape::depth(run))))
 }
 
 // The refusal of the open name at a depth, 0 for none.

@@ -8,8 +8,8 @@ use crate::run::row;
 use notation::layout::LABEL_SIZE;
 use notation::layout::LABELS_AT;
 use notation::names;
-use notation::put;
 use notation::reads;
+use notation::store::copy;
 ghost use mathlib.Core.Path.{_≡_};
 ghost use mathlib.Core.Bool.{_||_};
 ghost use Prim.Native.Nat.{ℕ, _+_, _*_, _/_, _≤_, _<_};
@@ -60,6 +60,6 @@ pub fn candidates(out: &mut [u8], a: &[u8], e: &[u8], h: usize)
 {
     let from = MASKS_AT;
     let end = from + row::used_bytes(a);
-    put::copy(out, 0, &a[from..end]);
+    copy(out, 0, &a[from..end]);
     mark_labels(out, a, e, h);
 }

@@ -4,8 +4,9 @@ use crate::counters::Counters;
 use crate::run::layout::ROW_SIZE;
 use crate::run::refusals;
 use crate::run::row;
+use crate::run::rows;
 use crate::run::shape;
-use notation::put;
+use notation::store::put16;
 ghost use mathlib.Core.Path.{_≡_};
 ghost use Prim.Native.Nat.{_<_};
 ghost use Rattle.machine.specs.RunContracts.{Closes, ClosesBy};
@@ -14,15 +15,15 @@ ghost use Rattle.machine.specs.RunCalls.{depthOf, closeRun};
 
 // A close that is accepted: for callers that know the shape of automaton and run, and that an element is open. The row of the innermost
 // element is lent to the function that clears it.
-pub fn close_on(a: &[u8], run: &mut [u8])
+fn close_on(a: &[u8], run: &mut [u8])
     requires { ⌜ (Ready (now a) (now run)) × (0 < depthOf (now run)) ⌝ }
     ensures { λ _. ⌜ now (run .exit) ≡ closeRun (now (a .entry)) (now (run .entry)) ⌝ }
 {
     let d = shape::depth(run);
-    let at = shape::row_at(d);
+    let at = rows::row_at(d);
     let end = at + ROW_SIZE;
     row::clear_row(a, &mut run[at..end]);
-    put::put16(run, 0, d - 1);
+    put16(run, 0, d - 1);
 }
 
 // The close, for callers that know that automaton, run and counters pass the shape test.

@@ -1,19 +1,21 @@
 // An open: the walk, and the new element's row.
 use crate::answers::Opened;
 use crate::answers::OpenedBy;
-use crate::build::chains;
 use crate::counters::Counters;
+use crate::hash::hash_of;
 use crate::layout::MASK_SIZE;
 use crate::run::candidates;
 use crate::run::layout::MATCHES_AT;
 use crate::run::layout::ROW_SIZE;
 use crate::run::refusals;
 use crate::run::row;
+use crate::run::rows;
 use crate::run::shape;
 use crate::run::steps;
 use crate::walk;
 use crate::walk::Walk;
-use notation::put;
+use notation::store::copy;
+use notation::store::put16;
 ghost use mathlib.Core.Path.{_≡_};
 ghost use Prim.Native.Nat.{suc, _≤_, _<_};
 ghost use lib.ListN.{length, take};
@@ -38,11 +40,11 @@ fn store(
     requires { ⌜ (d < maxDepth) × ((length (now e) ≤ maxName) × ((runSize ≤ length (now run)) × ((length (now active) ≤ maskSize) × ((length (now seen) ≤ maskSize) × (length (now matched) ≤ maskSize))))) ⌝ }
     ensures { λ _. ⌜ now (run .exit) ≡ storedOpen (now (run .entry)) d (now (e .entry)) state (now (active .entry)) (now (seen .entry)) (now (matched .entry)) ⌝ }
 {
-    let at = shape::row_at(d + 1);
+    let at = rows::row_at(d + 1);
     let end = at + ROW_SIZE;
     row::write_row(&mut run[at..end], e, state, active, seen);
-    put::copy(run, MATCHES_AT, matched);
-    put::put16(run, 0, d + 1);
+    copy(run, MATCHES_AT, matched);
+    put16(run, 0, d + 1);
 }
 
 // The same of the used part of each row of bits.
@@ -96,13 +98,13 @@ fn mark(a: &[u8], run: &mut [u8], e: &[u8], h: usize, d: usize, state: usize)
 }
 
 // An open that is accepted: for callers that know the shape of automaton and run, and that the name may be opened.
-pub fn open_on(a: &[u8], run: &mut [u8], e: &[u8]) -> Walk
+fn open_on(a: &[u8], run: &mut [u8], e: &[u8]) -> Walk
     requires { ⌜ (Ready (now a) (now run)) × ((depthOf (now run) < maxDepth) × (length (now e) ≤ maxName)) ⌝ }
     ensures { λ r. ⌜ (r ≡ openWalk (now (a .entry)) (now (run .entry)) (now (e .entry))) × ((r .moves ≤ suc maxSteps) × (now (run .exit) ≡ openRun (now (a .entry)) (now (run .entry)) (now (e .entry)))) ⌝ }
 {
-    let h = chains::hash_of(e);
+    let h = hash_of(e);
     let d = shape::depth(run);
-    let walked = walk::walk_from(a, shape::state_at(run, d), e, h);
+    let walked = walk::walk_from(a, rows::state_at(run, d), e, h);
     mark(a, run, e, h, d, walked.state);
     walked
 }

@@ -5,6 +5,7 @@ use crate::run::layout::MAX_DEPTH;
 use crate::run::layout::MAX_OPENS;
 use crate::run::layout::NAME_IN;
 use crate::run::layout::RUN_SIZE;
+use crate::run::rows;
 use crate::run::shape;
 use crate::shape::automaton_shaped;
 use notation::names;
@@ -41,8 +42,8 @@ pub fn stored_name<'a, 'r>(a: &'a [u8], run: &'r [u8], d: usize) -> &'r [u8]
     requires { ⌜ (Ready (now a) (now run)) × (d ≤ depthOf (now run)) ⌝ }
     ensures { λ r. ⌜ now r ≡ storedName (now (run .entry)) d ⌝ }
 {
-    let from = shape::row_at(d) + NAME_IN;
-    let to = from + shape::name_length(run, d);
+    let from = rows::row_at(d) + NAME_IN;
+    let to = from + rows::name_length(run, d);
     &run[from..to]
 }
 

@@ -4,8 +4,9 @@ use crate::run::layout::NAME_IN;
 use crate::run::layout::SEEN_IN;
 use crate::run::layout::STATE_IN;
 use notation::limits::MAX_NAME;
-use notation::put;
 use notation::reads;
+use notation::store::copy;
+use notation::store::put16;
 ghost use mathlib.Core.Path.{_≡_};
 ghost use Prim.Native.Nat.{_+_, _*_, _≤_};
 ghost use mathlib.Core.List.{_∷_};
@@ -63,7 +64,7 @@ fn write_name(row: &mut [u8], e: &[u8])
 {
     let n = e.len();
     row[0] = n as u8;
-    put::copy(row, NAME_IN, e);
+    copy(row, NAME_IN, e);
     clear_from(row, NAME_IN + n, MAX_NAME - n);
 }
 
@@ -73,7 +74,7 @@ pub fn write_row(row: &mut [u8], e: &[u8], state: usize, active: &[u8], seen: &[
     ensures { λ _. ⌜ now (row .exit) ≡ rowFrom (now (e .entry)) state (now (active .entry)) (now (seen .entry)) (now (row .entry)) ⌝ }
 {
     write_name(row, e);
-    put::put16(row, STATE_IN, state);
-    put::copy(row, ACTIVE_IN, active);
-    put::copy(row, SEEN_IN, seen);
+    put16(row, STATE_IN, state);
+    copy(row, ACTIVE_IN, active);
+    copy(row, SEEN_IN, seen);
 }

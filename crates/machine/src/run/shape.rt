@@ -1,47 +1,21 @@
-// The shape test of a run and of its counters, and what is stored of a run.
+// The shape test of a run and of its counters.
 use crate::counters::Counters;
 use crate::run::layout::MAX_DEPTH;
 use crate::run::layout::MAX_OPENS;
-use crate::run::layout::ROW_SIZE;
-use crate::run::layout::ROWS_AT;
-use crate::run::layout::STATE_IN;
+use crate::run::rows::name_length;
+use crate::run::rows::state_at;
 use notation::limits::MAX_NAME;
 use notation::reads;
 ghost use mathlib.Core.Path.{_≡_};
-ghost use Prim.Native.Nat.{_<_, _≤_, _+_, _*_};
+ghost use Prim.Native.Nat.{_<_, _≤_};
 ghost use Rattle.machine.specs.Limits.{maxDepth};
-ghost use Rattle.machine.specs.Run.{rowAt, rowsAt, rowSize, runSize};
-ghost use Rattle.machine.specs.RunCalls.{depthOf, nameLength, stateAt, rowShaped, runShaped, countersShaped};
+ghost use Rattle.machine.specs.RunCalls.{depthOf, rowShaped, runShaped, countersShaped};
 
 // The count of open elements.
 pub fn depth(run: &[u8]) -> usize
     ensures { λ r. ⌜ (r ≡ depthOf (now (run .entry))) × (r < 65536) ⌝ }
 {
     reads::word_at(run, 0)
-}
-
-// Where the row of a depth stands.
-pub fn row_at(d: usize) -> usize
-    requires { ⌜ d ≤ maxDepth ⌝ }
-    ensures { λ r. ⌜ (r ≡ rowAt d) × (r + rowSize ≤ runSize) ⌝ }
-{
-    ROWS_AT + ROW_SIZE * d
-}
-
-// The length of the name in the row of a depth.
-pub fn name_length(run: &[u8], d: usize) -> usize
-    requires { ⌜ d ≤ maxDepth ⌝ }
-    ensures { λ r. ⌜ (r ≡ nameLength (now (run .entry)) d) × (r < 256) ⌝ }
-{
-    reads::byte_at(run, row_at(d))
-}
-
-// The state in the row of a depth.
-pub fn state_at(run: &[u8], d: usize) -> usize
-    requires { ⌜ d ≤ maxDepth ⌝ }
-    ensures { λ r. ⌜ (r ≡ stateAt (now (run .entry)) d) × (r < 65536) ⌝ }
-{
-    reads::word_at(run, row_at(d) + STATE_IN)
 }
 
 fn row_shaped(a: &[u8], run: &[u8], d: usize) -> bool

@@ -7,8 +7,9 @@ use crate::run::layout::ROWS_AT;
 use crate::run::layout::RUN_SIZE;
 use crate::run::layout::STATE_IN;
 use crate::shape;
-use notation::put;
 use notation::reads;
+use notation::store::clear;
+use notation::store::put16;
 ghost use mathlib.Core.Path.{_≡_};
 ghost use mathlib.Core.List.{_++_};
 ghost use Prim.Native.Nat.{_≤_};
@@ -21,7 +22,7 @@ fn clear_run(run: &mut [u8])
     requires { ⌜ runSize ≤ length (now run) ⌝ }
     ensures { λ _. ⌜ now (run .exit) ≡ replicate runSize 0 ++ drop runSize (now (run .entry)) ⌝ }
 {
-    put::clear(run, RUN_SIZE);
+    clear(run, RUN_SIZE);
 }
 
 // A fresh run.
@@ -30,7 +31,7 @@ pub fn start_on(a: &[u8], run: &mut [u8])
     ensures { λ _. ⌜ now (run .exit) ≡ startRun (now (a .entry)) (now (run .entry)) ⌝ }
 {
     clear_run(run);
-    put::put16(run, ROWS_AT + STATE_IN, reads::word_at(a, START_AT));
+    put16(run, ROWS_AT + STATE_IN, reads::word_at(a, START_AT));
 }
 
 fn start_refusal(a: &[u8], run: &[u8]) -> u8

@@ -5,7 +5,7 @@ use crate::layout::MASKS_AT;
 use crate::run::layout::ACTIVE_IN;
 use crate::run::layout::MATCHES_AT;
 use crate::run::layout::SEEN_IN;
-use crate::run::shape;
+use crate::run::rows;
 use notation::reads;
 ghost use mathlib.Core.Path.{_≡_};
 ghost use mathlib.Core.Bool.{_&&_, _||_};
@@ -76,7 +76,7 @@ fn permitted_byte(a: &[u8], run: &[u8], d: usize, j: usize) -> usize
     requires { ⌜ (d ≤ maxDepth) × (j < maskSize) ⌝ }
     ensures { λ r. ⌜ (r < 256) × ((k : ℕ) → k < 8 → bitOf r k ≡ permitted (now (a .entry)) (now (run .entry)) d (8 * j + k)) ⌝ }
 {
-    let at = shape::row_at(d);
+    let at = rows::row_at(d);
     let child = bits::both(mask_byte(a, 1, j), shifted_byte(run, at + ACTIVE_IN, j));
     let descendant = bits::both(mask_byte(a, 2, j), shifted_byte(run, at + SEEN_IN, j));
     bits::either(child, bits::either(descendant, first_byte(a, d, j)))
@@ -99,7 +99,7 @@ pub fn seen_row(out: &mut [u8], active: &[u8], run: &[u8], d: usize, used: usize
     requires { ⌜ (d ≤ maxDepth) × ((used ≤ maskSize) × (used ≤ length (now out))) ⌝ }
     ensures { λ _. ⌜ take used (now (out .exit)) ≡ tabulate (byteOf (λ i. seenAt (now (run .entry)) d i || bitAt (now (active .entry)) i)) used ⌝ }
 {
-    let base = shape::row_at(d) + SEEN_IN;
+    let base = rows::row_at(d) + SEEN_IN;
     let mut j = 0;
     while j < used {
         out[j] = narrow(bits::either(bits_byte(run, base, j), reads::byte_at(active, j)));

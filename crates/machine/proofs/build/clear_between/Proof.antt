@@ -1,4 +1,4 @@
-use Prim.Native.Nat.{ℕ, _-_, _≤_}
+use Prim.Native.Nat.{ℕ, _-_, _≤_, min}
 use native.Mathlib.Omega.{arith}
 use mathlib.Core.Path.{_≡_}
 use mathlib.Core.List.{List, [], _++_, append-nil}
@@ -8,12 +8,13 @@ use borrow.Author.Needs.{needs}
 use Rattle.machine.proofs.build.clear_between.Statement.{statement}
 use Rattle.machine.proofs.build.clear_between.Tie as tie
 
-between : (from to : ℕ) (xs ys : List ℕ) → from ≤ to → to ≤ length xs → ys ≡ replicate (to - from) 0 ++ drop (to - from) (midOf from (to - from) xs)
+between : (from to : ℕ) (xs ys : List ℕ) → from ≤ to → to ≤ length xs → ys ≡ replicate (min (to - from) (length (midOf from (to - from) xs))) 0 ++ drop (to - from) (midOf from (to - from) xs)
     → putMid from (to - from) xs ys ≡ take from xs ++ (replicate (to - from) 0 ++ drop to xs)
 between from to xs ys h k e =
     let few : length (midOf from (to - from) xs) ≤ to - from = omega (arith, mid-len from to xs k) in
+    let all : min (to - from) (length (midOf from (to - from) xs)) ≡ to - from = omega (arith, mid-len from to xs k) in
     let d : drop (to - from) (midOf from (to - from) xs) ≡ [] = drop-of-length-le (midOf from (to - from) xs) few in
-    rw (e, d, append-nil, post-is from to xs h)
+    rw (e, all, d, append-nil, post-is from to xs h)
 
 sub-clear : tie.Need-sub-clear
 sub-clear c = search needs
@@ -28,7 +29,7 @@ sub-clear-2 : tie.Need-sub-clear-2
 sub-clear-2 c = search needs
 
 clear-requires : tie.Need-clear-requires
-clear-requires c κs = let a = c .before .before .args in omega (arith, mid-len (a .from) (a .to) (a .part .now) (c .before .before .pre .1))
+clear-requires c κs = search needs
 
 same-length : tie.Need-same-length
 same-length c = search needs

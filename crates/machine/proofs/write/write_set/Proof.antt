@@ -1,6 +1,5 @@
 -- `write::write_set`: the four answers, by what is known at each.
 use Prim.Native.Nat.{ℕ, _<_, _≤_}
-use native.Mathlib.Omega.{arith}
 use mathlib.Core.Path.{_≡_, sym, _∙_}
 use mathlib.Core.Bool.{true, false}
 use mathlib.Core.List.{List}
@@ -9,7 +8,6 @@ use lib.Seq.{sets}
 use borrow.Author.Tests.{lt-ltb, le-ltb}
 use Rattle.notation.specs.Limits.{maxSetBytes}
 use Rattle.notation.specs.Reads.{textLen, textOf}
-use Rattle.notation.proofs.Laws.Refused.WriteBack.{text-within}
 use Rattle.machine.specs.Automaton.{automatonSize}
 use Rattle.machine.specs.RunCalls.{given}
 use Rattle.machine.specs.Shape.{automatonShaped}
@@ -58,8 +56,7 @@ text-requires : tie.Need-text-requires
 text-requires c κs = search needs
 
 copy-requires : tie.Need-copy-requires
-unfolding maxSetBytes
-copy-requires c κs = rw (c .text .ensures) (omega (arith, text-within (c .before .before .before .before .before .before .before .before .args .automaton .now), c .before .before .before .before .if2 .left))
+copy-requires c κs = search needs
 
 text-len-requires : tie.Need-text-len-requires
 text-len-requires c κs = search needs

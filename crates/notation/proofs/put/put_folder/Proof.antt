@@ -1,4 +1,4 @@
-use Rattle.notation.specs.Layout.{foldersAt, folderSize, setSize}
+use Rattle.notation.specs.Layout.{foldersAt, folderSize}
 use Rattle.notation.specs.Put.{putFolder}
 use Rattle.notation.specs.Limits.{maxPaths}
 use native.Mathlib.Omega.{arith}
@@ -15,8 +15,7 @@ unfolding maxPaths
 add-put-pair c = omega arith
 
 put-pair-requires : tie.Need-put-pair-requires
-unfolding maxPaths setSize
-put-pair-requires c κs = omega arith
+put-pair-requires c κs = search needs
 
 same-length : tie.Need-same-length
 same-length c = search needs

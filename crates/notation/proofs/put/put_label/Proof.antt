@@ -1,6 +1,6 @@
 use native.Mathlib.Numerals.{towards-suc}
 use mathlib.Core.Path.{_∙_}
-use Rattle.notation.specs.Layout.{labelsAt, labelSize, setSize}
+use Rattle.notation.specs.Layout.{labelsAt, labelSize}
 use Rattle.notation.specs.Put.{putLabel}
 use Rattle.notation.specs.Limits.{maxLabels}
 use native.Mathlib.Omega.{arith}
@@ -20,16 +20,14 @@ minus-requires : tie.Need-minus-requires
 minus-requires c κs = search needs
 
 put-pair-requires : tie.Need-put-pair-requires
-unfolding maxLabels setSize
-put-pair-requires c κs = omega arith
+put-pair-requires c κs = search needs
 
 add-put16 : tie.Need-add-put16
 unfolding maxLabels
 add-put16 c = omega arith
 
 put16-requires : tie.Need-put16-requires
-unfolding maxLabels setSize
-put16-requires c κs = omega (arith, c .before .before .before .put-pair .kept .0)
+put16-requires c κs = search needs
 
 same-length : tie.Need-same-length
 same-length c = search needs

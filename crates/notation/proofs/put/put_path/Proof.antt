@@ -1,6 +1,6 @@
 use native.Mathlib.Numerals.{towards-suc}
 use mathlib.Core.Path.{_∙_}
-use Rattle.notation.specs.Layout.{pathsAt, pathSize, setSize}
+use Rattle.notation.specs.Layout.{pathsAt, pathSize}
 use Rattle.notation.specs.Put.{putPath}
 use Rattle.notation.specs.Limits.{maxPaths}
 use native.Mathlib.Omega.{arith}
@@ -26,16 +26,14 @@ minus-requires-2 : tie.Need-minus-requires-2
 minus-requires-2 c κs = search needs
 
 put-pair-requires : tie.Need-put-pair-requires
-unfolding maxPaths setSize
-put-pair-requires c κs = omega arith
+put-pair-requires c κs = search needs
 
 add-put-pair : tie.Need-add-put-pair
 unfolding maxPaths
 add-put-pair c = omega arith
 
 put-pair-requires-2 : tie.Need-put-pair-requires-2
-unfolding maxPaths setSize
-put-pair-requires-2 c κs = omega (arith, c .before .before .before .put-pair .kept .0)
+put-pair-requires-2 c κs = search needs
 
 same-length : tie.Need-same-length
 same-length c = search needs

@@ -1,7 +1,6 @@
 use Rattle.notation.proofs.Laws.Fill.Filled.{part-is}
 use lib.ListN.{drop}
 use mathlib.Core.Path.{_∙_}
-use Rattle.notation.specs.Limits.{maxSetBytes}
 use Rattle.notation.specs.Layout.{setSize, textAt}
 use native.Mathlib.Omega.{arith}
 use borrow.Author.Needs.{needs}
@@ -12,8 +11,7 @@ clear-set-requires : tie.Need-clear-set-requires
 clear-set-requires c κs = search needs
 
 copy-requires : tie.Need-copy-requires
-unfolding setSize maxSetBytes
-copy-requires c κs = omega (arith, c .before .before .before .clear-set .kept .0)
+copy-requires c κs = search needs
 
 fill-tables-requires : tie.Need-fill-tables-requires
 fill-tables-requires c κs = (c .before .before .before .before .before .before .before .before .before .before .before .pre .0, c .before .before .before .before .before .before .before .before .before .before .before .pre .1, omega (arith, c .before .before .before .copy .kept .0, c .before .before .before .before .before .before .before .clear-set .kept .0))

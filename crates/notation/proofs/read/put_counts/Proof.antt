@@ -1,21 +1,16 @@
 use mathlib.Core.Path.{_∙_}
-use Rattle.notation.specs.Layout.{setSize}
-use native.Mathlib.Omega.{arith}
 use borrow.Author.Needs.{needs}
 use Rattle.notation.proofs.read.put_counts.Statement.{statement}
 use Rattle.notation.proofs.read.put_counts.Tie as tie
 
 put-pair-requires : tie.Need-put-pair-requires
-unfolding setSize
-put-pair-requires c κs = omega arith
+put-pair-requires c κs = search needs
 
 put-pair-requires-2 : tie.Need-put-pair-requires-2
-unfolding setSize
-put-pair-requires-2 c κs = omega (arith, c .before .before .before .put-pair .kept .0)
+put-pair-requires-2 c κs = search needs
 
 put16-requires : tie.Need-put16-requires
-unfolding setSize
-put16-requires c κs = omega (arith, c .before .before .before .put-pair2 .kept .0, c .before .before .before .before .before .before .before .put-pair .kept .0)
+put16-requires c κs = search needs
 
 same-length : tie.Need-same-length
 same-length c = search needs

@@ -9,7 +9,7 @@ use Rattle.machine.specs.Tables.{headAt}
 use Rattle.machine.specs.Chains.{linked}
 use lib.Seq.{sets}
 use Rattle.notation.specs.Limits.{maxLabels}
-use Rattle.machine.specs.Automaton.{automatonSize, headsAt, linksAt, linkSize, hash}
+use Rattle.machine.specs.Automaton.{headsAt, linksAt, linkSize, hash}
 use borrow.Author.Needs.{needs}
 use Rattle.machine.proofs.build.chains.link_label.Statement.{statement}
 use Rattle.machine.proofs.build.chains.link_label.Tie as tie
@@ -42,8 +42,7 @@ unfolding maxLabels
 add-put16 c = omega arith
 
 put16-requires : tie.Need-put16-requires
-unfolding maxLabels automatonSize
-put16-requires c κs = omega arith
+put16-requires c κs = search needs
 
 mul-put16-2 : tie.Need-mul-put16-2
 mul-put16-2 c = search needs
@@ -56,8 +55,7 @@ unfolding maxLabels
 add-put16-3 c = omega arith
 
 put16-requires-2 : tie.Need-put16-requires-2
-unfolding maxLabels automatonSize
-put16-requires-2 c κs = omega arith
+put16-requires-2 c κs = search needs
 
 same-length : tie.Need-same-length
 same-length c = search needs

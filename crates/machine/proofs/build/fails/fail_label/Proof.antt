@@ -4,7 +4,7 @@ use lib.Seq.{sets}
 use borrow.Author.Tests.{eq-eqb, ne-eqb}
 use Rattle.machine.specs.Fails.{failTo, failedIf}
 use Rattle.machine.specs.Tables.{sizeAt}
-use Rattle.machine.specs.Automaton.{automatonSize, linksAt, linkSize}
+use Rattle.machine.specs.Automaton.{linksAt, linkSize}
 use Rattle.notation.specs.Limits.{maxLabels}
 use native.Mathlib.Omega.{arith}
 use mathlib.Core.List.{List}
@@ -49,8 +49,7 @@ unfolding maxLabels
 add-put16-2 c = omega (arith, c .before .before .before .before .before .before .before .pre .1, c .before .before .before .before .before .before .before .pre .0 .walkable .searchable .few)
 
 put16-requires : tie.Need-put16-requires
-unfolding maxLabels automatonSize
-put16-requires c κs = omega (arith, c .before .before .before .before .before .before .before .pre .1, c .before .before .before .before .before .before .before .pre .0 .walkable .searchable .few, c .before .before .before .before .before .before .before .pre .0 .room)
+put16-requires c κs = search needs
 
 same-length : tie.Need-same-length
 same-length c = search needs

@@ -1,6 +1,5 @@
 use Rattle.machine.specs.Masks.{withStart}
-use Rattle.machine.specs.Automaton.{automatonSize, startAt}
-use native.Mathlib.Omega.{arith}
+use Rattle.machine.specs.Automaton.{startAt}
 use mathlib.Core.Path.{_∙_}
 use borrow.Author.Needs.{needs}
 use Rattle.machine.proofs.build.masks.write_start.Statement.{statement}
@@ -10,8 +9,7 @@ start-state-requires : tie.Need-start-state-requires
 start-state-requires c κs = search needs
 
 put16-requires : tie.Need-put16-requires
-unfolding automatonSize
-put16-requires c κs = omega arith
+put16-requires c κs = search needs
 
 same-length : tie.Need-same-length
 same-length c = search needs

@@ -6,7 +6,7 @@ use native.Mathlib.Omega.{arith}
 use lib.Seq.{sets}
 use Rattle.notation.specs.Limits.{maxLabels}
 use Rattle.notation.specs.Layout.{le16}
-use Rattle.machine.specs.Automaton.{automatonSize, linksAt, linkSize}
+use Rattle.machine.specs.Automaton.{linksAt, linkSize}
 use Rattle.machine.specs.Tables.{sizeOf}
 use Rattle.machine.specs.Parents.{wordStored}
 use borrow.Author.Needs.{needs}
@@ -36,16 +36,14 @@ unfolding maxLabels
 add-put16 c = omega arith
 
 put16-requires : tie.Need-put16-requires
-unfolding maxLabels automatonSize
-put16-requires c κs = omega arith
+put16-requires c κs = search needs
 
 add-put16-2 : tie.Need-add-put16-2
 unfolding maxLabels
 add-put16-2 c = omega arith
 
 put16-requires-2 : tie.Need-put16-requires-2
-unfolding maxLabels automatonSize
-put16-requires-2 c κs = omega arith
+put16-requires-2 c κs = search needs
 
 same-length : tie.Need-same-length
 same-length c = search needs

@@ -1,7 +1,7 @@
-use lib.ListN.{take, drop, length-take, length}
+use lib.ListN.{length}
 use Prim.Native.Nat.{_-_, ℕ, _+_, _*_, _≤_, _<_}
 use native.Mathlib.Omega.{arith}
-use mathlib.Core.Path.{_≡_, refl, sym, _∙_, ap}
+use mathlib.Core.Path.{_∙_, ap}
 use mathlib.Core.Bool.{Bool, _||_}
 use mathlib.Core.List.{List}
 use lib.Dec.{eqb}
@@ -10,7 +10,7 @@ use Rattle.notation.specs.Limits.{maxPaths, maxSteps}
 use Rattle.notation.specs.Reads.{word16, labelEntryAt}
 use Rattle.machine.specs.Words.{any}
 use Rattle.machine.specs.Automaton.{maskSize, masksAt, automatonSize}
-use Rattle.machine.specs.Bits.{bitAt, bitIn}
+use Rattle.machine.specs.Bits.{bitAt}
 use Rattle.machine.specs.Chain.{chainLabels}
 use Rattle.machine.specs.RunCalls.{candidate}
 use Rattle.machine.proofs.Laws.Bytes.BitRows.{bit-copied}
@@ -35,9 +35,7 @@ unfolding maxPaths maxSteps automatonSize
 part-copy-end c = omega (arith, c .before .before .before .before .before .pre .1 .0 .steps, c .before .before .before .before .before .pre .1 .0 .size)
 
 copy-requires : tie.Need-copy-requires
-unfolding maxPaths maxSteps automatonSize maskSize
-copy-requires c κs = let b = c .before .before .before .before .before .before in
-    omega (arith, length-take (34826 + c .before .before .used-bytes .result - 34826) (drop 34826 (b .args .a .now)), b .pre .0, b .pre .1 .0 .steps)
+copy-requires c κs = search needs
 
 mark-labels-requires : tie.Need-mark-labels-requires
 mark-labels-requires c κs = let b = c .before .before .before .before .before .before .before .before .before .before in

@@ -1,9 +1,8 @@
 use Rattle.machine.proofs.Laws.Shapes.RunShape.{run-shape}
 use Rattle.machine.proofs.Laws.Shapes.Shaped.{shaped-is}
-use Rattle.machine.proofs.Laws.Running.Rows.{row-width, run-kept, closed}
+use Rattle.machine.proofs.Laws.Running.Rows.{row-width, closed}
 use native.Mathlib.Omega.{arith}
-use mathlib.Core.Path.{_∙_, ap}
-use lib.ListN.{length}
+use mathlib.Core.Path.{_∙_}
 use Rattle.machine.specs.Run.{rowSize, runSize}
 use borrow.Author.Needs.{needs}
 use Rattle.machine.proofs.run.close.close_on.Statement.{statement}
@@ -38,9 +37,7 @@ sub-put16 : tie.Need-sub-put16
 sub-put16 c = search needs
 
 put16-requires : tie.Need-put16-requires
-unfolding rowSize runSize
-put16-requires c κs = let a = c .before .before .before .before .before .before .before .before .before .before in
-    omega (arith, run-kept (c .before .before .before .before .before .row-at .result) rowSize (a .args .run .now) (c .before .before .before .clear-row .last .1 .0) (c .before .before .before .clear-row .kept .1 .0))
+put16-requires c κs = search needs
 
 same-length : tie.Need-same-length
 same-length c = search needs

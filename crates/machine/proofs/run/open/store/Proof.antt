@@ -1,14 +1,12 @@
 use native.Mathlib.Omega.{arith}
-use mathlib.Core.Path.{_≡_, sym, _∙_, ap}
+use mathlib.Core.Path.{_∙_, ap}
 use mathlib.Core.List.{List}
 use Prim.Native.Nat.{ℕ, _+_}
 use lib.Seq.{sets}
-use Rattle.notation.specs.Limits.{maxName}
 use Rattle.notation.specs.Layout.{le16}
 use Rattle.machine.specs.Limits.{maxDepth}
-use Rattle.machine.specs.Automaton.{maskSize}
 use Rattle.machine.specs.Run.{rowSize, runSize, matchesAt}
-use Rattle.machine.proofs.Laws.Running.Rows.{row-width, run-kept}
+use Rattle.machine.proofs.Laws.Running.Rows.{row-width}
 use Rattle.machine.proofs.Laws.Running.Written.{stored}
 use borrow.Author.Needs.{needs}
 use Rattle.machine.proofs.run.open.store.Statement.{statement}
@@ -40,18 +38,14 @@ write-row-requires c κs = let a = c .before .before .before .before .before .be
     (a .pre .1 .0, (row-width (c .before .row-at .result) rowSize (a .args .run .now) (omega arith), (a .pre .1 .1 .1 .0, a .pre .1 .1 .1 .1 .0)))
 
 copy-requires : tie.Need-copy-requires
-unfolding rowSize runSize maskSize
-copy-requires c κs = let a = c .before .before .before .before .before .before .before .before .before .before .before in
-    omega (arith, run-kept (c .before .before .before .before .before .row-at .result) rowSize (a .args .run .now) (c .before .before .before .write-row .last .0) (c .before .before .before .write-row .kept .0), a .pre .1 .1 .1 .1 .1, a .pre .1 .1 .0)
+copy-requires c κs = search needs
 
 add-put16 : tie.Need-add-put16
 unfolding maxDepth
 add-put16 c = omega arith
 
 put16-requires : tie.Need-put16-requires
-unfolding rowSize runSize
-put16-requires c κs = let a = c .before .before .before .before .before .before .before .before .before .before .before .before .before .before .before in
-    omega (arith, c .before .before .before .copy .kept .0, run-kept (c .before .before .before .before .before .before .before .before .before .row-at .result) rowSize (a .args .run .now) (c .before .before .before .before .before .before .before .write-row .last .0) (c .before .before .before .before .before .before .before .write-row .kept .0), a .pre .1 .1 .0)
+put16-requires c κs = search needs
 
 same-length : tie.Need-same-length
 same-length c = search needs

@@ -1,8 +1,8 @@
 use native.Mathlib.Omega.{arith}
-use mathlib.Core.Path.{_≡_, sym, _∙_, ap}
+use mathlib.Core.Path.{_∙_, ap}
 use mathlib.Core.List.{List}
 use Prim.Native.Nat.{ℕ, _+_, _-_}
-use lib.ListN.{length, set, replicate, length-set}
+use lib.ListN.{length, replicate, length-set}
 use lib.Seq.{sets}
 use Rattle.notation.specs.Limits.{maxName}
 use Rattle.machine.specs.Run.{rowSize}
@@ -20,8 +20,7 @@ unfolding rowSize
 slice-write-row c = omega arith
 
 copy-requires : tie.Need-copy-requires
-unfolding rowSize maxName
-copy-requires c κs = simp length-set (omega arith)
+copy-requires c κs = search needs
 
 add-clear-from : tie.Need-add-clear-from
 add-clear-from c = search needs

@@ -1,8 +1,5 @@
-use native.Mathlib.Omega.{arith}
-use mathlib.Core.Path.{_≡_, sym, _∙_, ap}
-use Rattle.notation.specs.Limits.{maxName}
-use Rattle.machine.specs.Automaton.{maskSize}
-use Rattle.machine.specs.Run.{rowSize, stateIn, activeIn, seenIn}
+use mathlib.Core.Path.{_∙_}
+use Rattle.machine.specs.Run.{stateIn, activeIn, seenIn}
 use Rattle.machine.specs.RunCalls.{rowFrom}
 use Rattle.machine.proofs.Laws.Running.Written.{head-written}
 use borrow.Author.Needs.{needs}
@@ -13,18 +10,13 @@ write-name-requires : tie.Need-write-name-requires
 write-name-requires c κs = search needs
 
 put16-requires : tie.Need-put16-requires
-unfolding rowSize
-put16-requires c κs = omega (arith, c .before .before .before .write-name .kept .0)
+put16-requires c κs = search needs
 
 copy-requires : tie.Need-copy-requires
-unfolding rowSize maskSize
-copy-requires c κs = let a = c .before .before .before .before .before .before .before .before .before .before .before .before .before in
-    omega (arith, c .before .before .before .put16 .kept .0, c .before .before .before .before .before .before .before .write-name .kept .0, a .pre .1 .1 .0)
+copy-requires c κs = search needs
 
 copy-requires-2 : tie.Need-copy-requires-2
-unfolding rowSize maskSize
-copy-requires-2 c κs = let a = c .before .before .before .before .before .before .before .before .before .before .before .before .before .before .before .before .before in
-    omega (arith, c .before .before .before .copy .kept .0, c .before .before .before .before .before .before .before .put16 .kept .0, c .before .before .before .before .before .before .before .before .before .before .before .write-name .kept .0, a .pre .1 .1 .1)
+copy-requires-2 c κs = search needs
 
 same-length : tie.Need-same-length
 same-length c = search needs

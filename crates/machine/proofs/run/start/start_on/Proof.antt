@@ -1,13 +1,12 @@
-use native.Mathlib.Omega.{arith}
-use mathlib.Core.Path.{_≡_, _∙_, ap}
+use mathlib.Core.Path.{_∙_, ap}
 use mathlib.Core.List.{List, _++_}
 use Prim.Native.Nat.{ℕ, _+_}
 use lib.ListN.{drop, replicate}
 use lib.Seq.{sets}
 use Rattle.notation.specs.Layout.{le16}
 use Rattle.machine.specs.Automaton.{startAt}
-use Rattle.machine.specs.Run.{rowAt, rowsAt, rowSize, stateIn, runSize}
-use Rattle.machine.proofs.Laws.Shapes.Given.{within-run, started}
+use Rattle.machine.specs.Run.{rowsAt, rowSize, stateIn, runSize}
+use Rattle.machine.proofs.Laws.Shapes.Given.{started}
 use borrow.Author.Needs.{needs}
 use Rattle.machine.proofs.run.start.start_on.Statement.{statement}
 use Rattle.machine.proofs.run.start.start_on.Tie as tie
@@ -22,9 +21,7 @@ word-at-requires : tie.Need-word-at-requires
 word-at-requires c κs = search needs
 
 put16-requires : tie.Need-put16-requires
-unfolding rowsAt rowSize stateIn
-put16-requires c κs = let b = c .before .before .before .before .before .before .before .before in
-    omega (arith, within-run, c .before .before .before .before .clear-run .kept .0, b .pre)
+put16-requires c κs = search needs
 
 same-length : tie.Need-same-length
 same-length c = search needs

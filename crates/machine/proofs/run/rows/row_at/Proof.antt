@@ -1,8 +1,8 @@
 use native.Mathlib.Omega.{arith}
 use Rattle.machine.specs.Limits.{maxDepth}
 use Rattle.machine.specs.Run.{rowsAt, rowSize, runSize}
-use Rattle.machine.proofs.run.shape.row_at.Statement.{statement}
-use Rattle.machine.proofs.run.shape.row_at.Tie as tie
+use Rattle.machine.proofs.run.rows.row_at.Statement.{statement}
+use Rattle.machine.proofs.run.rows.row_at.Tie as tie
 
 mul-result : tie.Need-mul-result
 unfolding maxDepth

@@ -1,8 +1,8 @@
 use native.Mathlib.Omega.{arith}
-use Rattle.machine.specs.Run.{rowsAt, rowSize, runSize, stateIn}
+use Rattle.machine.specs.Run.{rowSize, runSize, stateIn}
 use borrow.Author.Needs.{needs}
-use Rattle.machine.proofs.run.shape.state_at.Statement.{statement}
-use Rattle.machine.proofs.run.shape.state_at.Tie as tie
+use Rattle.machine.proofs.run.rows.state_at.Statement.{statement}
+use Rattle.machine.proofs.run.rows.state_at.Tie as tie
 
 row-at-requires : tie.Need-row-at-requires
 row-at-requires c κs = search needs

@@ -8,8 +8,8 @@ use borrow.Author.Needs.{needs}
 use lib.ListN.{length, getD, drop, drop-of-length-le}
 use lib.Seq.{drop-cons}
 use Rattle.machine.specs.Automaton.{hash, hashFrom}
-use Rattle.machine.proofs.build.chains.hash_of.Statement.{statement}
-use Rattle.machine.proofs.build.chains.hash_of.Tie as tie
+use Rattle.machine.proofs.hash.hash_of.Statement.{statement}
+use Rattle.machine.proofs.hash.hash_of.Tie as tie
 
 more : (e : List ℕ) (h i b : ℕ) → i < length e → b ≡ getD e i 0 → hashFrom ((31 * h + b) % 256) (drop (i + 1) e) ≡ hashFrom h (drop i e)
 unfolding hashFrom

@@ -1,7 +1,6 @@
-use native.Mathlib.Omega.{arith}
 use borrow.Author.Needs.{needs}
-use Rattle.machine.proofs.run.shape.name_length.Statement.{statement}
-use Rattle.machine.proofs.run.shape.name_length.Tie as tie
+use Rattle.machine.proofs.run.rows.name_length.Statement.{statement}
+use Rattle.machine.proofs.run.rows.name_length.Tie as tie
 
 row-at-requires : tie.Need-row-at-requires
 row-at-requires c κs = search needs

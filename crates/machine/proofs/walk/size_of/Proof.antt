@@ -6,8 +6,8 @@ use mathlib.Core.List.{List}
 use mathlib.Core.Path.{_≡_, refl, sym, _∙_}
 use Prim.Native.Nat.{ℕ, zero, suc, _-_, _≤_, _<_}
 use borrow.Author.Needs.{needs}
-use Rattle.machine.proofs.shape.size_of.Statement.{statement}
-use Rattle.machine.proofs.shape.size_of.Tie as tie
+use Rattle.machine.proofs.walk.size_of.Statement.{statement}
+use Rattle.machine.proofs.walk.size_of.Tie as tie
 
 small : (a : List ℕ) (q : ℕ) → q < 2 → q ≡ sizeOf a q
 unfolding sizeOf

@@ -1,0 +1,22 @@
+// The hash of a name: every byte of it, 31 h + b modulo 256.
+ghost use mathlib.Core.Path.{_≡_};
+ghost use Prim.Native.Nat.{_<_};
+ghost use Rattle.machine.specs.Automaton.{hash};
+
+fn wide(b: u8) -> usize
+    ensures { λ r. ⌜ (r ≡ b) × (r < 256) ⌝ }
+{
+    b as usize
+}
+
+pub fn hash_of(e: &[u8]) -> usize
+    ensures { λ r. ⌜ (r ≡ hash (now (e .entry))) × (r < 256) ⌝ }
+{
+    let mut h = 0;
+    let mut i = 0;
+    while i < e.len() {
+        h = (31 * h + wide(e[i])) % 256;
+        i += 1;
+    }
+    h
+}
