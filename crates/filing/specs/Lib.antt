@@ -11,3 +11,6 @@ pub mod Limits
 pub mod Filing
 pub mod Demand2
 pub mod FileCall
+pub mod Listing
+pub mod Page
+pub mod Listed
