@@ -1,5 +1,10 @@
-// Reports: their bytes, tokens and tags. The document tree and XPath 1.0 stand in specs.
+// Reports: their bytes, tokens and tags; what the filing program prints. The document tree and XPath 1.0 stand in specs.
 
 mod scan;
 mod tags;
+pub mod limits;
+pub mod listing;
+pub mod page;
+pub mod scan;
+pub mod tags;
 pub mod tokens;
