@@ -15,3 +15,4 @@ pub mod FiledReport
 pub mod Listing
 pub mod Page
 pub mod Listed
+pub mod Taking

@@ -8,3 +8,5 @@ pub mod FilingStored
 pub mod FilingAlike
 pub mod FilingNumbers
 pub mod FromBytes
+pub mod Restart
+pub mod Taking
