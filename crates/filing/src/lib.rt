@@ -1,13 +1,9 @@
-// Reports: their bytes, tokens and tags; what the filing program prints. The document tree and XPath 1.0 stand in specs.
+// Reports: their bytes, tokens and tags; filing them, and what the filing program prints. The document tree and XPath 1.0 stand in specs.
 
-mod scan;
-mod tags;
 pub mod limits;
 pub mod listing;
-pub mod page;
-// Reports: their bytes, tokens and tags, and filing them. The document tree and XPath 1.0 stand in specs.
-
+mod page;
 pub mod report;
-pub mod scan;
-pub mod tags;
+mod scan;
+mod tags;
 pub mod tokens;

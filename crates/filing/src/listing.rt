@@ -12,9 +12,9 @@ use machine::run::shape::counters_shaped;
 use machine::run::shape::run_shaped;
 use machine::shape::automaton_shaped;
 use notation::PathPlace;
-use notation::put;
 use notation::reads;
 use notation::reads::FolderAt;
+use notation::store::copy;
 ghost use mathlib.Core.Path.{_≡_};
 ghost use mathlib.Core.List.{_++_};
 ghost use Prim.Native.Nat.{_≤_};
@@ -171,7 +171,7 @@ fn deliver(page: &[u8], pen: Pen, out: &mut [u8]) -> Written
         return Written::Refused(1);
     }
     let at = pen.at;
-    put::copy(out, 0, &page[..at]);
+    copy(out, 0, &page[..at]);
     Written::Bytes(at)
 }
 

@@ -1,5 +1,5 @@
 // A page that is written piece by piece. A piece that has no room is left out, and so are all after it.
-use notation::put;
+use notation::store::copy;
 ghost use mathlib.Core.List.{[], _∷_};
 ghost use Prim.Native.Nat.{_+_, _<_};
 ghost use Rattle.notation.specs.Print.{decimal};
@@ -27,7 +27,7 @@ pub fn emit(page: &mut [u8], pen: Pen, piece: &[u8]) -> Pen
             fits: false,
         };
     }
-    put::copy(page, at, piece);
+    copy(page, at, piece);
     Pen {
         at: at + size,
         fits: true,

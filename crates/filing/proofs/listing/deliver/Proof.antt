@@ -17,8 +17,7 @@ slice-aggregate-copy c = let a = c .before .before .before .before .before .befo
     sym (length-take-le (a .pen .at) (a .page .now) (c .before .before .before .before .before .before .pre .1))
 
 copy-requires : tie.Need-copy-requires
-copy-requires c κs = let a = c .before .before .before .before .before .before .args in
-    omega (arith, length-take-le (a .pen .at) (a .page .now) (c .before .before .before .before .before .before .pre .1), c .before .before .before .before .before .before .pre .0)
+copy-requires c κs = search needs
 
 same-length : tie.Need-same-length
 same-length c = search needs
