@@ -1,13 +1,7 @@
 use native.Mathlib.Omega.{arith}
-use mathlib.Core.Path.{_≡_, sym, _∙_, ap}
-use mathlib.Core.List.{List}
-use Prim.Native.Nat.{ℕ, _+_}
-use lib.Seq.{sets}
-use Rattle.notation.specs.Limits.{maxName}
-use Rattle.notation.specs.Layout.{le16}
+use mathlib.Core.Path.{_∙_}
 use Rattle.machine.specs.Limits.{maxDepth}
-use Rattle.machine.specs.Automaton.{maskSize}
-use Rattle.machine.specs.Run.{rowSize, runSize, matchesAt}
+use Rattle.machine.specs.Run.{rowSize, runSize}
 use Rattle.machine.proofs.Laws.Running.Rows.{row-width, run-kept}
 use Rattle.machine.proofs.Laws.Running.Written.{stored}
 use borrow.Author.Needs.{needs}
@@ -36,13 +30,8 @@ part-write-row-end c = omega arith
 
 write-row-requires : tie.Need-write-row-requires
 unfolding rowSize runSize
-write-row-requires c κs = let a = c .before .before .before .before .before .before .before in
-    (a .pre .1 .0, (row-width (c .before .row-at .result) rowSize (a .args .run .now) (omega arith), (a .pre .1 .1 .1 .0, a .pre .1 .1 .1 .1 .0)))
-
-copy-requires : tie.Need-copy-requires
-unfolding rowSize runSize maskSize
-copy-requires c κs = let a = c .before .before .before .before .before .before .before .before .before .before .before in
-    omega (arith, run-kept (c .before .before .before .before .before .row-at .result) rowSize (a .args .run .now) (c .before .before .before .write-row .last .0) (c .before .before .before .write-row .kept .0), a .pre .1 .1 .1 .1 .1, a .pre .1 .1 .0)
+write-row-requires c κs = let a = c .before .before .before .before in
+    (a .pre .1 .0, row-width (c .before .row-at .result) rowSize (a .args .run .now) (omega arith))
 
 add-put16 : tie.Need-add-put16
 unfolding maxDepth
@@ -50,19 +39,18 @@ add-put16 c = omega arith
 
 put16-requires : tie.Need-put16-requires
 unfolding rowSize runSize
-put16-requires c κs = let a = c .before .before .before .before .before .before .before .before .before .before .before .before .before .before .before in
-    omega (arith, c .before .before .before .copy .kept .0, run-kept (c .before .before .before .before .before .before .before .before .before .row-at .result) rowSize (a .args .run .now) (c .before .before .before .before .before .before .before .write-row .last .0) (c .before .before .before .before .before .before .before .write-row .kept .0), a .pre .1 .1 .0)
+put16-requires c κs = let a = c .before .before .before .before .before .before .before .before in
+    omega (arith, run-kept (c .before .before .before .before .before .row-at .result) rowSize (a .args .run .now) (c .before .before .before .write-row .last .0) (c .before .before .before .write-row .kept .0), a .pre .1 .1)
 
 same-length : tie.Need-same-length
 same-length c = search needs
 
 returns : tie.Need-returns
-unfolding rowSize matchesAt
-returns c = let b = c .before .before .before .before .before .before .before .before .before .before .before .before in
-    let w = c .before .before .before .before .before .before .before .before .before .before .write-row in
-    let a = b .before .before .before .before .before .before .args in
-    c .before .before .put16 .ensures ∙ ap (λ (l : List ℕ). sets l 0 (le16 (a .d + 1))) (c .before .before .before .before .before .before .copy .ensures)
-    ∙ stored (a .run .now) (w .last .0) (a .matched .now) (a .e .now) (a .active .now) (a .seen .now) (a .d) (b .row-at .result) (a .state) (b .row-at .ensures .0) (w .ensures)
+unfolding rowSize
+returns c = let r = c .before .before .before .before .before .before .before .before .row-at in
+    let w = c .before .before .before .before .before .before .write-row in
+    let a = c .before .before .before .before .before .before .before .before .before .before .before .args in
+    c .before .before .put16 .ensures ∙ stored (a .run .now) (w .last .0) (a .e .now) (a .d) (r .result) (a .state) (r .ensures .0) (w .ensures)
 
 pub store-spec : {M : Type 1} → statement M
 store-spec =
@@ -75,7 +63,6 @@ store-spec =
     part-write-row-start
     part-write-row-end
     write-row-requires
-    copy-requires
     add-put16
     put16-requires
     same-length

@@ -1,9 +1,7 @@
 use native.Mathlib.Omega.{arith}
-use mathlib.Core.Path.{_≡_, sym, _∙_, ap}
-use Rattle.notation.specs.Limits.{maxName}
-use Rattle.machine.specs.Automaton.{maskSize}
-use Rattle.machine.specs.Run.{rowSize, stateIn, activeIn, seenIn}
-use Rattle.machine.specs.RunCalls.{rowFrom}
+use mathlib.Core.Path.{_∙_}
+use Rattle.machine.specs.Run.{rowSize, stateIn}
+use Rattle.machine.specs.RunCalls.{rowNamed}
 use Rattle.machine.proofs.Laws.Running.Written.{head-written}
 use borrow.Author.Needs.{needs}
 use Rattle.machine.proofs.run.row.write_row.Statement.{statement}
@@ -16,26 +14,14 @@ put16-requires : tie.Need-put16-requires
 unfolding rowSize
 put16-requires c κs = omega (arith, c .before .before .before .write-name .kept .0)
 
-copy-requires : tie.Need-copy-requires
-unfolding rowSize maskSize
-copy-requires c κs = let a = c .before .before .before .before .before .before .before .before .before .before .before .before .before in
-    omega (arith, c .before .before .before .put16 .kept .0, c .before .before .before .before .before .before .before .write-name .kept .0, a .pre .1 .1 .0)
-
-copy-requires-2 : tie.Need-copy-requires-2
-unfolding rowSize maskSize
-copy-requires-2 c κs = let a = c .before .before .before .before .before .before .before .before .before .before .before .before .before .before .before .before .before in
-    omega (arith, c .before .before .before .copy .kept .0, c .before .before .before .before .before .before .before .put16 .kept .0, c .before .before .before .before .before .before .before .before .before .before .before .write-name .kept .0, a .pre .1 .1 .1)
-
 same-length : tie.Need-same-length
 same-length c = search needs
 
 returns : tie.Need-returns
-unfolding rowFrom activeIn seenIn stateIn
-returns c = let b = c .before .before .before .before .before .before .before .before .before .before .before .before .before .before in
-    let a = b .before .before .before .before .before .before in
-    c .before .before .copy2 .ensures ∙ rw (c .before .before .before .before .before .before .copy .ensures, c .before .before .before .before .before .before .before .before .before .before .put16 .ensures, b .write-name .ensures, head-written (a .args .row .now) (a .args .e .now) (a .args .state) (a .pre .0))
+unfolding rowNamed stateIn
+returns c = let w = c .before .before .before .before .before .before .write-name in
+    let a = c .before .before .before .before .before .before .before .before .before .before in
+    c .before .before .put16 .ensures ∙ rw (w .ensures, head-written (a .args .row .now) (a .args .e .now) (a .args .state) (a .pre .0))
 
 pub write-row-spec : {M : Type 1} → statement M
-write-row-spec =
-    tie.close
-    (tie.spec write-name-requires put16-requires copy-requires copy-requires-2 same-length returns)
+write-row-spec = tie.close (tie.spec write-name-requires put16-requires same-length returns)
