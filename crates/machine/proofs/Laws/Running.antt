@@ -9,6 +9,8 @@ pub mod OpenBits
 pub mod Opening
 pub mod Starting
 pub mod Written
+pub mod Apart
+pub mod Marked
 pub mod Answered
 pub mod Asking
 pub mod Means

@@ -1,15 +1,12 @@
-// The steps that take a name: `*`, and the labels on the name's chain.
+// The steps that take a name by their label: those of the labels on the name's chain.
 use crate::bits;
 use crate::layout::HEADS_AT;
 use crate::layout::LINK_SIZE;
 use crate::layout::LINKS_AT;
-use crate::layout::MASKS_AT;
-use crate::run::row;
 use notation::layout::LABEL_SIZE;
 use notation::layout::LABELS_AT;
 use notation::names;
 use notation::reads;
-use notation::store::copy;
 ghost use mathlib.Core.Path.{_≡_};
 ghost use mathlib.Core.Bool.{_||_};
 ghost use Prim.Native.Nat.{ℕ, _+_, _*_, _/_, _≤_, _<_};
@@ -21,7 +18,6 @@ ghost use Rattle.machine.specs.Automaton.{maskSize, hash};
 ghost use Rattle.machine.specs.Bits.{bitAt};
 ghost use Rattle.machine.specs.Chain.{chainLabels, ownLabel};
 ghost use Rattle.machine.specs.Openable.{Openable};
-ghost use Rattle.machine.specs.RunCalls.{usedBytes, candidate};
 
 fn set_bit(out: &mut [u8], i: usize)
     requires { ⌜ i / 8 < length (now out) ⌝ }
@@ -42,7 +38,7 @@ fn mark_label(out: &mut [u8], a: &[u8], e: &[u8], l: usize)
 }
 
 // The bits of the labels of the name. `h` is its hash.
-fn mark_labels(out: &mut [u8], a: &[u8], e: &[u8], h: usize)
+pub fn mark_labels(out: &mut [u8], a: &[u8], e: &[u8], h: usize)
     requires { ⌜ (maskSize ≤ length (now out)) × ((Openable (now a)) × (h ≡ hash (now e))) ⌝ }
     ensures { λ _. ⌜ ((j : ℕ) → bitAt (now (out .exit)) j ≡ (bitAt (now (out .entry)) j || any (λ m. eqb (word16 (now (a .entry)) (labelEntryAt m + 4)) j) (chainLabels (now (a .entry)) (now (e .entry))))) ⌝ }
 {
@@ -51,15 +47,4 @@ fn mark_labels(out: &mut [u8], a: &[u8], e: &[u8], h: usize)
         mark_label(out, a, e, k - 1);
         k = reads::word_at(a, LINKS_AT + LINK_SIZE * (k - 1));
     }
-}
-
-// The candidates of a name, a bit a step.
-pub fn candidates(out: &mut [u8], a: &[u8], e: &[u8], h: usize)
-    requires { ⌜ (maskSize ≤ length (now out)) × ((Openable (now a)) × (h ≡ hash (now e))) ⌝ }
-    ensures { λ _. ⌜ ((i : ℕ) → i < 8 * usedBytes (now (a .entry)) → bitAt (now (out .exit)) i ≡ candidate (now (a .entry)) (now (e .entry)) i) ⌝ }
-{
-    let from = MASKS_AT;
-    let end = from + row::used_bytes(a);
-    copy(out, 0, &a[from..end]);
-    mark_labels(out, a, e, h);
 }

@@ -5,7 +5,6 @@ use crate::counters::Counters;
 use crate::hash::hash_of;
 use crate::layout::MASK_SIZE;
 use crate::run::candidates;
-use crate::run::layout::MATCHES_AT;
 use crate::run::layout::ROW_SIZE;
 use crate::run::refusals;
 use crate::run::row;
@@ -14,87 +13,37 @@ use crate::run::shape;
 use crate::run::steps;
 use crate::walk;
 use crate::walk::Walk;
-use notation::store::copy;
 use notation::store::put16;
 ghost use mathlib.Core.Path.{_≡_};
 ghost use Prim.Native.Nat.{suc, _≤_, _<_};
-ghost use lib.ListN.{length, take};
+ghost use lib.ListN.{length};
 ghost use Rattle.notation.specs.Limits.{maxName, maxSteps};
 ghost use Rattle.machine.specs.Limits.{maxDepth};
-ghost use Rattle.machine.specs.Automaton.{maskSize, hash};
+ghost use Rattle.machine.specs.Automaton.{hash};
 ghost use Rattle.machine.specs.RunContracts.{Opens, OpensBy};
 ghost use Rattle.machine.specs.Openable.{Openable, Ready, Usable};
 ghost use Rattle.machine.specs.Run.{runSize};
-ghost use Rattle.machine.specs.RunCalls.{depthOf, usedBytes, usedBits, nowActive, nowSeen, nowMatched, openRun, openWalk, storedOpen};
+ghost use Rattle.machine.specs.RunCalls.{depthOf, usedBits, nowActive, nowSeen, nowMatched, openRun, openWalk, storedBits, nameStored};
 
-// The new row, a part from the middle of the run, is lent to the function that writes it; then the matches and the depth.
-fn store(
-    run: &mut [u8],
-    d: usize,
-    e: &[u8],
-    state: usize,
-    active: &[u8],
-    seen: &[u8],
-    matched: &[u8],
-)
-    requires { ⌜ (d < maxDepth) × ((length (now e) ≤ maxName) × ((runSize ≤ length (now run)) × ((length (now active) ≤ maskSize) × ((length (now seen) ≤ maskSize) × (length (now matched) ≤ maskSize))))) ⌝ }
-    ensures { λ _. ⌜ now (run .exit) ≡ storedOpen (now (run .entry)) d (now (e .entry)) state (now (active .entry)) (now (seen .entry)) (now (matched .entry)) ⌝ }
+// The bits of the new element, in its row and in the matches. `h` is the hash of its name, and d the depth before.
+fn mark(a: &[u8], run: &mut [u8], e: &[u8], h: usize, d: usize)
+    requires { ⌜ (Openable (now a)) × ((d < maxDepth) × ((d ≡ depthOf (now run)) × ((h ≡ hash (now e)) × (runSize ≤ length (now run))))) ⌝ }
+    ensures { λ _. ⌜ now (run .exit) ≡ storedBits (now (run .entry)) d (usedBits (now (a .entry)) (nowActive (now (a .entry)) (now (run .entry)) (now (e .entry)))) (usedBits (now (a .entry)) (nowSeen (now (a .entry)) (now (run .entry)) (now (e .entry)))) (usedBits (now (a .entry)) (nowMatched (now (a .entry)) (now (run .entry)) (now (e .entry)))) ⌝ }
+{
+    let mut taken = [0; MASK_SIZE];
+    candidates::mark_labels(&mut taken, a, e, h);
+    steps::mark_bits(a, run, &taken, d, row::used_bytes(a));
+}
+
+// Name and state of the new row: the row, a part from the middle of the run, is lent to the function that writes it. Then the depth.
+fn store(run: &mut [u8], d: usize, e: &[u8], state: usize)
+    requires { ⌜ (d < maxDepth) × ((length (now e) ≤ maxName) × (runSize ≤ length (now run))) ⌝ }
+    ensures { λ _. ⌜ now (run .exit) ≡ nameStored (now (run .entry)) d (now (e .entry)) state ⌝ }
 {
     let at = rows::row_at(d + 1);
     let end = at + ROW_SIZE;
-    row::write_row(&mut run[at..end], e, state, active, seen);
-    copy(run, MATCHES_AT, matched);
+    row::write_row(&mut run[at..end], e, state);
     put16(run, 0, d + 1);
-}
-
-// The same of the used part of each row of bits.
-fn store_used(
-    run: &mut [u8],
-    d: usize,
-    e: &[u8],
-    state: usize,
-    active: &[u8],
-    seen: &[u8],
-    matched: &[u8],
-    used: usize,
-)
-    requires { ⌜ (d < maxDepth) × ((length (now e) ≤ maxName) × ((runSize ≤ length (now run)) × ((used ≤ maskSize) × ((length (now active) ≡ maskSize) × ((length (now seen) ≡ maskSize) × (length (now matched) ≡ maskSize)))))) ⌝ }
-    ensures { λ _. ⌜ now (run .exit) ≡ storedOpen (now (run .entry)) d (now (e .entry)) state (take used (now (active .entry))) (take used (now (seen .entry))) (take used (now (matched .entry))) ⌝ }
-{
-    store(
-        run,
-        d,
-        e,
-        state,
-        &active[..used],
-        &seen[..used],
-        &matched[..used],
-    );
-}
-
-// The active steps of the new element. `h` is the hash of its name, and d the depth before.
-fn active_steps(out: &mut [u8], a: &[u8], run: &[u8], e: &[u8], h: usize, d: usize)
-    requires { ⌜ (Openable (now a)) × ((maskSize ≤ length (now out)) × ((d ≤ maxDepth) × ((d ≡ depthOf (now run)) × (h ≡ hash (now e))))) ⌝ }
-    ensures { λ _. ⌜ take (usedBytes (now (a .entry))) (now (out .exit)) ≡ usedBits (now (a .entry)) (nowActive (now (a .entry)) (now (run .entry)) (now (e .entry))) ⌝ }
-{
-    let mut taken = [0; MASK_SIZE];
-    candidates::candidates(&mut taken, a, e, h);
-    steps::active_row(out, &taken, a, run, d, row::used_bytes(a));
-}
-
-// The bits of the new element, and what is stored of them.
-fn mark(a: &[u8], run: &mut [u8], e: &[u8], h: usize, d: usize, state: usize)
-    requires { ⌜ (Openable (now a)) × ((d < maxDepth) × ((d ≡ depthOf (now run)) × ((h ≡ hash (now e)) × ((length (now e) ≤ maxName) × (runSize ≤ length (now run)))))) ⌝ }
-    ensures { λ _. ⌜ now (run .exit) ≡ storedOpen (now (run .entry)) d (now (e .entry)) state (usedBits (now (a .entry)) (nowActive (now (a .entry)) (now (run .entry)) (now (e .entry)))) (usedBits (now (a .entry)) (nowSeen (now (a .entry)) (now (run .entry)) (now (e .entry)))) (usedBits (now (a .entry)) (nowMatched (now (a .entry)) (now (run .entry)) (now (e .entry)))) ⌝ }
-{
-    let used = row::used_bytes(a);
-    let mut active = [0; MASK_SIZE];
-    active_steps(&mut active, a, run, e, h, d);
-    let mut seen = [0; MASK_SIZE];
-    steps::seen_row(&mut seen, &active, run, d, used);
-    let mut matched = [0; MASK_SIZE];
-    steps::match_row(&mut matched, &active, a, run, used);
-    store_used(run, d, e, state, &active, &seen, &matched, used);
 }
 
 // An open that is accepted: for callers that know the shape of automaton and run, and that the name may be opened.
@@ -105,7 +54,8 @@ fn open_on(a: &[u8], run: &mut [u8], e: &[u8]) -> Walk
     let h = hash_of(e);
     let d = shape::depth(run);
     let walked = walk::walk_from(a, rows::state_at(run, d), e, h);
-    mark(a, run, e, h, d, walked.state);
+    mark(a, run, e, h, d);
+    store(run, d, e, walked.state);
     walked
 }
 

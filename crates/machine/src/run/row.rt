@@ -15,9 +15,8 @@ ghost use lib.Seq.{sets};
 ghost use Rattle.notation.specs.Limits.{maxName, maxPaths, maxSteps};
 ghost use Rattle.notation.specs.Layout.{padded};
 ghost use Rattle.notation.specs.Reads.{stepCount};
-ghost use Rattle.machine.specs.Automaton.{maskSize};
 ghost use Rattle.machine.specs.Run.{activeIn, rowSize};
-ghost use Rattle.machine.specs.RunCalls.{usedBytes, rowCleared, rowFrom};
+ghost use Rattle.machine.specs.RunCalls.{usedBytes, rowCleared, rowNamed};
 
 // Bytes of a row of bits that the automaton's steps use.
 pub fn used_bytes(a: &[u8]) -> usize
@@ -68,13 +67,11 @@ fn write_name(row: &mut [u8], e: &[u8])
     clear_from(row, NAME_IN + n, MAX_NAME - n);
 }
 
-// The new row of an open: the name, the state, the active steps and the steps seen.
-pub fn write_row(row: &mut [u8], e: &[u8], state: usize, active: &[u8], seen: &[u8])
-    requires { ⌜ (length (now e) ≤ maxName) × ((rowSize ≤ length (now row)) × ((length (now active) ≤ maskSize) × (length (now seen) ≤ maskSize))) ⌝ }
-    ensures { λ _. ⌜ now (row .exit) ≡ rowFrom (now (e .entry)) state (now (active .entry)) (now (seen .entry)) (now (row .entry)) ⌝ }
+// The new row of an open: the name and the state.
+pub fn write_row(row: &mut [u8], e: &[u8], state: usize)
+    requires { ⌜ (length (now e) ≤ maxName) × (rowSize ≤ length (now row)) ⌝ }
+    ensures { λ _. ⌜ now (row .exit) ≡ rowNamed (now (e .entry)) state (now (row .entry)) ⌝ }
 {
     write_name(row, e);
     put16(row, STATE_IN, state);
-    copy(row, ACTIVE_IN, active);
-    copy(row, SEEN_IN, seen);
 }

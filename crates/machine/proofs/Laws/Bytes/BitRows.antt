@@ -1,16 +1,15 @@
--- Bits of a row of bytes: one bit set, and a row that is copied.
-use Prim.Native.Nat.{ℕ, zero, suc, _+_, _-_, _*_, _/_, _%_, _≤_, _<_}
-use mathlib.Core.Path.{_≡_, refl, sym, _∙_, ap}
+-- Bits of a row of bytes: one bit set.
+use Prim.Native.Nat.{ℕ, _/_, _%_, _<_}
+use mathlib.Core.Path.{_≡_, refl, sym, ap}
 use mathlib.Core.Bool.{Bool, true, false, _||_}
-use mathlib.Core.List.{List, [], _∷_, _++_}
-use native.Mathlib.Nat.{add-zero}
+use mathlib.Core.List.{List, [], _∷_}
 use native.Mathlib.Omega.{arith}
 use lib.Dec.{eqb}
-use lib.ListN.{length, getD, set, take, drop, List·getD-append, length-take, length-drop}
-use lib.Seq.{sets, sets-eq, getD-set-same, getD-set-other, getD-take, getD-drop}
+use lib.ListN.{length, getD, set}
+use lib.Seq.{getD-set-same, getD-set-other}
 use borrow.Author.Tests.{eqb-true, eqb-false, eq-eqb, ne-eqb}
 use Rattle.machine.specs.Words.{any}
-use Rattle.machine.specs.Bits.{bitOf, bitIn, bitAt}
+use Rattle.machine.specs.Bits.{bitOf, bitAt}
 use Rattle.machine.proofs.Laws.Basics.{cases}
 
 or-false : (b : Bool) → (b || false) ≡ b
@@ -41,16 +40,3 @@ bit-set out i b h e j =
     (λ t. let d : j / 8 ≡ i / 8 → ⊥ = eqb-false (j / 8) (i / 8) t in
     let n : i ≡ j → ⊥ = λ s. d (ap (λ (n : ℕ). n / 8) (sym s)) in
     rw (getD-set-other out (i / 8) (j / 8) b 0 d, ne-eqb i j n) (sym (or-false (bitAt out j))))
-
--- the bits of bytes that are copied to the front
-pub bit-copied : (out a : List ℕ) (from n i : ℕ) → n ≤ length out → from + n ≤ length a → i < 8 * n
-    → bitAt (sets out 0 (take (from + n - from) (drop from a))) i ≡ bitIn a from i
-bit-copied out a from n i h k l =
-    let w : from + n - from ≡ n = omega arith in
-    let vs : List ℕ = take n (drop from a) in
-    let len : length (take n (drop from a)) ≡ n = simp (length-take, length-drop) (omega arith) in
-    let fits : 0 + length (take n (drop from a)) ≤ length out = omega arith in
-    let low : i / 8 < length (take n (drop from a)) = omega arith in
-    let low' : i / 8 < n = omega arith in
-    rw (w, sets-eq (take n (drop from a)) out 0 fits)
-    (ap (λ (b : ℕ). bitOf b (i % 8)) (List·getD-append (take n (drop from a)) (drop (0 + length (take n (drop from a))) out) 0 (i / 8) low ∙ getD-take n (drop from a) (i / 8) 0 low' ∙ getD-drop from a (i / 8) 0))

@@ -1,16 +1,12 @@
--- Steps 8 j to 8 j + 7 are byte j of a row; a row that is filled byte by byte.
-use Prim.Native.Nat.{ℕ, zero, suc, _+_, _*_, _-_, _/_, _%_, _≤_, _<_}
-use mathlib.Core.Path.{_≡_, refl, sym, _∙_, ap}
-use mathlib.Core.Bool.{Bool, true, false, _&&_, _||_}
-use mathlib.Core.List.{List, [], _∷_, _++_}
-use native.Mathlib.Numerals.{add-one}
+-- Steps 8 j to 8 j + 7 are byte j of a row.
+use Prim.Native.Nat.{ℕ, zero, suc, _+_, _*_, _-_, _/_, _%_, _<_}
+use mathlib.Core.Path.{_≡_, refl}
+use mathlib.Core.Bool.{Bool, false, _&&_, _||_}
+use mathlib.Core.List.{List}
 use native.Mathlib.Omega.{arith}
-use lib.ListN.{length, getD, take, set}
-use lib.Seq.{take-suc-set}
-use Rattle.machine.specs.Automaton.{byteOf, tabulate}
+use lib.ListN.{getD}
 use Rattle.machine.specs.Bits.{bitOf, bitIn, bitAt, bitBefore}
 use Rattle.machine.specs.RunCalls.{shifted}
-use Rattle.machine.proofs.Laws.Bytes.ByteBits.{packed-from}
 
 pub byte-bit : (bytes : List ℕ) (base j k : ℕ) → k < 8 → bitOf (getD bytes (base + j) 0) k ≡ bitIn bytes base (8 * j + k)
 byte-bit bytes base j k h =
@@ -43,17 +39,6 @@ shifted-bit bytes base j before zero h e = let z : 8 * j + 0 ≡ 8 * j = omega a
 shifted-bit bytes base j before (suc k) h e =
     let z : 8 * j + suc k ≡ suc (8 * j + k) = omega arith in
     rw z (byte-bit bytes base j k (omega arith))
-
--- one more byte of a row
-pub row-none : (f : ℕ → Bool) (out : List ℕ) → take 0 out ≡ tabulate (byteOf f) 0
-unfolding tabulate
-row-none f out = refl
-
-pub row-more : (f : ℕ → Bool) (out : List ℕ) (j b : ℕ) → j < length out → b < 256 → ((k : ℕ) → k < 8 → bitOf b k ≡ f (8 * j + k)) → take j out ≡ tabulate (byteOf f) j
-    → take (j + 1) (set out j b) ≡ tabulate (byteOf f) (j + 1)
-unfolding tabulate
-row-more f out j b h s e t =
-    rw (add-one j) (take-suc-set out j b h ∙ ap (λ (l : List ℕ). l ++ (b ∷ [])) t ∙ ap (λ (n : ℕ). tabulate (byteOf f) j ++ (n ∷ [])) (sym (packed-from b (λ k. f (8 * j + k)) s e)))
 
 -- a bit that is joined of two others
 pub join-and : (b x y x' y' : Bool) → b ≡ (x && y) → x ≡ x' → y ≡ y' → b ≡ (x' && y')

@@ -1,12 +1,8 @@
 use native.Mathlib.Omega.{arith}
-use mathlib.Core.Path.{_∙_, ap}
-use mathlib.Core.List.{List}
-use Prim.Native.Nat.{ℕ, _+_}
-use lib.Seq.{sets}
-use Rattle.notation.specs.Layout.{le16}
+use mathlib.Core.Path.{_∙_}
 use Rattle.machine.specs.Limits.{maxDepth}
-use Rattle.machine.specs.Run.{rowSize, runSize, matchesAt}
-use Rattle.machine.proofs.Laws.Running.Rows.{row-width}
+use Rattle.machine.specs.Run.{rowSize, runSize}
+use Rattle.machine.proofs.Laws.Running.Rows.{row-width, run-kept}
 use Rattle.machine.proofs.Laws.Running.Written.{stored}
 use borrow.Author.Needs.{needs}
 use Rattle.machine.proofs.run.open.store.Statement.{statement}
@@ -34,11 +30,8 @@ part-write-row-end c = omega arith
 
 write-row-requires : tie.Need-write-row-requires
 unfolding rowSize runSize
-write-row-requires c κs = let a = c .before .before .before .before .before .before .before in
-    (a .pre .1 .0, (row-width (c .before .row-at .result) rowSize (a .args .run .now) (omega arith), (a .pre .1 .1 .1 .0, a .pre .1 .1 .1 .1 .0)))
-
-copy-requires : tie.Need-copy-requires
-copy-requires c κs = search needs
+write-row-requires c κs = let a = c .before .before .before .before in
+    (a .pre .1 .0, row-width (c .before .row-at .result) rowSize (a .args .run .now) (omega arith))
 
 add-put16 : tie.Need-add-put16
 unfolding maxDepth
@@ -51,12 +44,11 @@ same-length : tie.Need-same-length
 same-length c = search needs
 
 returns : tie.Need-returns
-unfolding rowSize matchesAt
-returns c = let b = c .before .before .before .before .before .before .before .before .before .before .before .before in
-    let w = c .before .before .before .before .before .before .before .before .before .before .write-row in
-    let a = b .before .before .before .before .before .before .args in
-    c .before .before .put16 .ensures ∙ ap (λ (l : List ℕ). sets l 0 (le16 (a .d + 1))) (c .before .before .before .before .before .before .copy .ensures)
-    ∙ stored (a .run .now) (w .last .0) (a .matched .now) (a .e .now) (a .active .now) (a .seen .now) (a .d) (b .row-at .result) (a .state) (b .row-at .ensures .0) (w .ensures)
+unfolding rowSize
+returns c = let r = c .before .before .before .before .before .before .before .before .row-at in
+    let w = c .before .before .before .before .before .before .write-row in
+    let a = c .before .before .before .before .before .before .before .before .before .before .before .args in
+    c .before .before .put16 .ensures ∙ stored (a .run .now) (w .last .0) (a .e .now) (a .d) (r .result) (a .state) (r .ensures .0) (w .ensures)
 
 pub store-spec : {M : Type 1} → statement M
 store-spec =
@@ -69,7 +61,6 @@ store-spec =
     part-write-row-start
     part-write-row-end
     write-row-requires
-    copy-requires
     add-put16
     put16-requires
     same-length

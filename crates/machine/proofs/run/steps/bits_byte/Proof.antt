@@ -2,22 +2,23 @@ use native.Mathlib.Omega.{arith}
 use mathlib.Core.Path.{_∙_, ap}
 use Prim.Native.Nat.{ℕ}
 use Rattle.machine.specs.Automaton.{maskSize}
+use Rattle.machine.specs.Run.{runSize}
 use Rattle.machine.specs.Bits.{bitOf}
 use Rattle.machine.proofs.Laws.Bytes.ByteSteps.{byte-bit}
 use borrow.Author.Needs.{needs}
 use Rattle.machine.proofs.run.steps.bits_byte.Statement.{statement}
 use Rattle.machine.proofs.run.steps.bits_byte.Tie as tie
 
-add-byte-at : tie.Need-add-byte-at
-unfolding maskSize
-add-byte-at c = omega arith
+add-byte : tie.Need-add-byte
+unfolding maskSize runSize
+add-byte c = omega arith
 
-byte-at-requires : tie.Need-byte-at-requires
-byte-at-requires c κs = search needs
+byte-requires : tie.Need-byte-requires
+byte-requires c κs = search needs
 
 returns : tie.Need-returns
 returns c = let a = c .before .before .args in
-    (c .byte-at .ensures .1, λ k h. ap (λ (b : ℕ). bitOf b k) (c .byte-at .ensures .0) ∙ byte-bit (a .run .now) (a .base) (a .j) k h)
+    (c .byte .ensures .1, λ k h. ap (λ (b : ℕ). bitOf b k) (c .byte .ensures .0) ∙ byte-bit (a .run .now) (a .base) (a .j) k h)
 
 pub bits-byte-spec : {M : Type 1} → statement M
-bits-byte-spec = tie.close (tie.spec add-byte-at byte-at-requires returns)
+bits-byte-spec = tie.close (tie.spec add-byte byte-requires returns)

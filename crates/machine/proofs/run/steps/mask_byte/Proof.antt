@@ -1,31 +1,32 @@
 use native.Mathlib.Omega.{arith}
 use mathlib.Core.Path.{_∙_, ap}
 use Prim.Native.Nat.{ℕ, _+_, _*_}
-use Rattle.machine.specs.Automaton.{maskSize, masksAt}
+use Rattle.machine.specs.Automaton.{maskSize, masksAt, automatonSize}
 use Rattle.machine.specs.Bits.{bitOf}
 use Rattle.machine.proofs.Laws.Bytes.ByteSteps.{byte-bit}
 use borrow.Author.Needs.{needs}
 use Rattle.machine.proofs.run.steps.mask_byte.Statement.{statement}
 use Rattle.machine.proofs.run.steps.mask_byte.Tie as tie
 
-mul-byte-at : tie.Need-mul-byte-at
-mul-byte-at c = search needs
+mul-byte : tie.Need-mul-byte
+mul-byte c = search needs
 
-add-byte-at : tie.Need-add-byte-at
-add-byte-at c = search needs
+add-byte : tie.Need-add-byte
+add-byte c = search needs
 
-add-byte-at-2 : tie.Need-add-byte-at-2
+add-byte-2 : tie.Need-add-byte-2
 unfolding maskSize
-add-byte-at-2 c = omega arith
+add-byte-2 c = omega arith
 
-byte-at-requires : tie.Need-byte-at-requires
-byte-at-requires c κs = search needs
+byte-requires : tie.Need-byte-requires
+unfolding automatonSize maskSize
+byte-requires c κs = omega arith
 
 returns : tie.Need-returns
 unfolding maskSize masksAt
 returns c = let a = c .before .before .args in
-    (c .byte-at .ensures .1, λ k h. ap (λ (b : ℕ). bitOf b k) (c .byte-at .ensures .0) ∙ byte-bit (a .a .now) (masksAt + maskSize * a .m) (a .j) k h)
+    (c .byte .ensures .1, λ k h. ap (λ (b : ℕ). bitOf b k) (c .byte .ensures .0) ∙ byte-bit (a .a .now) (masksAt + maskSize * a .m) (a .j) k h)
 
 pub mask-byte-spec : {M : Type 1} → statement M
 mask-byte-spec =
-    tie.close (tie.spec mul-byte-at add-byte-at add-byte-at-2 byte-at-requires returns)
+    tie.close (tie.spec mul-byte add-byte add-byte-2 byte-requires returns)

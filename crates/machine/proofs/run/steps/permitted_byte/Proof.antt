@@ -1,10 +1,11 @@
 use lib.Dec.{eqb}
 use Rattle.machine.specs.RunCalls.{maskBit, activeAt, seenAt, permitted, shifted}
 use native.Mathlib.Omega.{arith}
-use mathlib.Core.Path.{_≡_, _∙_, sym, ap}
-use mathlib.Core.Bool.{Bool, true, false, _||_, _&&_}
+use mathlib.Core.Path.{_≡_, _∙_, ap}
+use mathlib.Core.Bool.{_||_, _&&_}
 use Prim.Native.Nat.{ℕ, _+_, _*_}
 use Rattle.machine.specs.Run.{activeIn, seenIn, rowSize, runSize}
+use Rattle.machine.specs.Automaton.{maskSize}
 use Rattle.machine.specs.Bits.{bitOf, bitIn}
 use Rattle.machine.proofs.Laws.Bytes.ByteSteps.{join-and, join-or}
 use borrow.Author.Needs.{needs}
@@ -22,8 +23,9 @@ unfolding rowSize runSize
 add-shifted-byte c = omega arith
 
 shifted-byte-requires : tie.Need-shifted-byte-requires
-unfolding rowSize runSize
-shifted-byte-requires c κs = (omega arith, c .before .before .before .before .pre .1)
+unfolding rowSize runSize maskSize
+shifted-byte-requires c κs = let b = c .before .before .before .before in
+    (omega arith, (b .pre .1 .0, b .pre .1 .1 .1))
 
 both-requires : tie.Need-both-requires
 both-requires c κs = search needs
@@ -36,8 +38,9 @@ unfolding rowSize runSize
 add-shifted-byte-2 c = omega arith
 
 shifted-byte-requires-2 : tie.Need-shifted-byte-requires-2
-unfolding rowSize runSize
-shifted-byte-requires-2 c κs = (omega arith, c .before .before .before .before .before .before .before .pre .1)
+unfolding rowSize runSize maskSize
+shifted-byte-requires-2 c κs = let b = c .before .before .before .before .before .before .before in
+    (omega arith, (b .pre .1 .0, b .pre .1 .1 .1))
 
 both-requires-2 : tie.Need-both-requires-2
 both-requires-2 c κs = search needs

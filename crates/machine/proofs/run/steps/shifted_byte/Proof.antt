@@ -1,19 +1,20 @@
 use native.Mathlib.Omega.{arith}
 use mathlib.Core.Path.{_∙_, ap}
-use Prim.Native.Nat.{ℕ, _+_, _*_}
+use Prim.Native.Nat.{ℕ}
 use Rattle.machine.specs.Automaton.{maskSize}
+use Rattle.machine.specs.Run.{runSize}
 use Rattle.machine.specs.Bits.{bitBefore}
 use Rattle.machine.proofs.Laws.Bytes.ByteSteps.{shifted-bit}
 use borrow.Author.Needs.{needs}
 use Rattle.machine.proofs.run.steps.shifted_byte.Statement.{statement}
 use Rattle.machine.proofs.run.steps.shifted_byte.Tie as tie
 
-add-byte-at : tie.Need-add-byte-at
-unfolding maskSize
-add-byte-at c = omega arith
+add-byte : tie.Need-add-byte
+unfolding maskSize runSize
+add-byte c = omega arith
 
-byte-at-requires : tie.Need-byte-at-requires
-byte-at-requires c κs = search needs
+byte-requires : tie.Need-byte-requires
+byte-requires c κs = search needs
 
 byte-before-requires : tie.Need-byte-before-requires
 byte-before-requires c κs = search needs
@@ -24,8 +25,8 @@ one-on-requires c κs = search needs
 returns : tie.Need-returns
 returns c = let a = c .before .before .before .before .args in
     let b = c .before .byte-before in
-    (c .one-on .ensures .0, λ k h. c .one-on .ensures .1 k h ∙ ap (λ (n : ℕ). bitBefore n (b .result) k) (c .before .before .byte-at .ensures .0) ∙ shifted-bit (a .run .now) (a .base) (a .j) (b .result) k h (b .ensures .1))
+    (c .one-on .ensures .0, λ k h. c .one-on .ensures .1 k h ∙ ap (λ (n : ℕ). bitBefore n (b .result) k) (c .before .before .byte .ensures .0) ∙ shifted-bit (a .run .now) (a .base) (a .j) (b .result) k h (b .ensures .1))
 
 pub shifted-byte-spec : {M : Type 1} → statement M
 shifted-byte-spec =
-    tie.close (tie.spec add-byte-at byte-at-requires byte-before-requires one-on-requires returns)
+    tie.close (tie.spec add-byte byte-requires byte-before-requires one-on-requires returns)
