@@ -1,4 +1,4 @@
-// The row of a depth, as a part of the run that is lent to the function that writes it.
+// The row of a depth: a part from the middle of the run, which is lent to the functions that write it.
 use crate::run::layout::ACTIVE_IN;
 use crate::run::layout::NAME_IN;
 use crate::run::layout::SEEN_IN;
@@ -8,14 +8,15 @@ use notation::reads;
 use notation::store::copy;
 use notation::store::put16;
 ghost use mathlib.Core.Path.{_≡_};
-ghost use Prim.Native.Nat.{_+_, _*_, _≤_};
+ghost use Prim.Native.Nat.{_+_, _*_, _≤_, _<_};
 ghost use mathlib.Core.List.{_∷_};
-ghost use lib.ListN.{length, replicate};
+ghost use lib.ListN.{length, set, replicate};
 ghost use lib.Seq.{sets};
 ghost use Rattle.notation.specs.Limits.{maxName, maxPaths, maxSteps};
 ghost use Rattle.notation.specs.Layout.{padded};
 ghost use Rattle.notation.specs.Reads.{stepCount};
-ghost use Rattle.machine.specs.Run.{activeIn, rowSize};
+ghost use Rattle.machine.specs.Automaton.{maskSize};
+ghost use Rattle.machine.specs.Run.{activeIn, seenIn, rowSize};
 ghost use Rattle.machine.specs.RunCalls.{usedBytes, rowCleared, rowNamed};
 
 // Bytes of a row of bits that the automaton's steps use.
@@ -74,4 +75,13 @@ pub fn write_row(row: &mut [u8], e: &[u8], state: usize)
 {
     write_name(row, e);
     put16(row, STATE_IN, state);
+}
+
+// Byte j of the new row's active steps and of its steps seen.
+pub fn write_bits(row: &mut [u8], j: usize, active: u8, seen: u8)
+    requires { ⌜ (j < maskSize) × (rowSize ≤ length (now row)) ⌝ }
+    ensures { λ _. ⌜ now (row .exit) ≡ set (set (now (row .entry)) (activeIn + j) active) (seenIn + j) seen ⌝ }
+{
+    row[ACTIVE_IN + j] = active;
+    row[SEEN_IN + j] = seen;
 }

@@ -4,7 +4,9 @@ use crate::layout::MASK_SIZE;
 use crate::layout::MASKS_AT;
 use crate::run::layout::ACTIVE_IN;
 use crate::run::layout::MATCHES_AT;
+use crate::run::layout::ROW_SIZE;
 use crate::run::layout::SEEN_IN;
+use crate::run::row;
 use crate::run::rows;
 ghost use mathlib.Core.Path.{_≡_};
 ghost use mathlib.Core.Bool.{_&&_, _||_};
@@ -118,8 +120,8 @@ fn put_byte(run: &mut [u8], d: usize, j: usize, active: usize, seen: usize, matc
     ensures { λ _. ⌜ now (run .exit) ≡ set (set (set (now (run .entry)) (rowAt (suc d) + activeIn + j) active) (rowAt (suc d) + seenIn + j) seen) (matchesAt + j) matched ⌝ }
 {
     let at = rows::row_at(d + 1);
-    run[at + ACTIVE_IN + j] = narrow(active);
-    run[at + SEEN_IN + j] = narrow(seen);
+    let end = at + ROW_SIZE;
+    row::write_bits(&mut run[at..end], j, narrow(active), narrow(seen));
     run[MATCHES_AT + j] = narrow(matched);
 }
 

@@ -2,7 +2,7 @@ use native.Mathlib.Omega.{arith}
 use mathlib.Core.Path.{_∙_}
 use Rattle.machine.specs.Limits.{maxDepth}
 use Rattle.machine.specs.Run.{rowSize, runSize}
-use Rattle.machine.proofs.Laws.Running.Rows.{row-width, run-kept}
+use Rattle.machine.proofs.Laws.Running.Rows.{row-width}
 use Rattle.machine.proofs.Laws.Running.Written.{stored}
 use borrow.Author.Needs.{needs}
 use Rattle.machine.proofs.run.open.store.Statement.{statement}

@@ -1,6 +1,5 @@
-use native.Mathlib.Omega.{arith}
 use mathlib.Core.Path.{_∙_}
-use Rattle.machine.specs.Run.{rowSize, stateIn}
+use Rattle.machine.specs.Run.{stateIn}
 use Rattle.machine.specs.RunCalls.{rowNamed}
 use Rattle.machine.proofs.Laws.Running.Written.{head-written}
 use borrow.Author.Needs.{needs}

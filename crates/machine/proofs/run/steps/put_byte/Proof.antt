@@ -1,10 +1,13 @@
-use mathlib.Core.Path.{_≡_}
-use Prim.Native.Nat.{suc, _+_}
-use lib.ListN.{set, length-set}
+use mathlib.Core.Path.{_∙_, ap}
+use mathlib.Core.List.{List}
+use Prim.Native.Nat.{ℕ, _+_}
+use lib.ListN.{set}
 use native.Mathlib.Omega.{arith}
 use Rattle.machine.specs.Limits.{maxDepth}
 use Rattle.machine.specs.Automaton.{maskSize}
-use Rattle.machine.specs.Run.{activeIn, seenIn, matchesAt, rowSize, runSize}
+use Rattle.machine.specs.Run.{matchesAt, rowSize, runSize}
+use Rattle.machine.proofs.Laws.Running.Rows.{row-width, run-kept}
+use Rattle.machine.proofs.Laws.Running.Written.{bits-stored}
 use borrow.Author.Needs.{needs}
 use Rattle.machine.proofs.run.steps.put_byte.Statement.{statement}
 use Rattle.machine.proofs.run.steps.put_byte.Tie as tie
@@ -16,58 +19,55 @@ add-row-at c = omega arith
 row-at-requires : tie.Need-row-at-requires
 row-at-requires c κs = search needs
 
+add-end : tie.Need-add-end
+add-end c = search needs
+
+sub-write-bits : tie.Need-sub-write-bits
+sub-write-bits c = search needs
+
+part-write-bits-start : tie.Need-part-write-bits-start
+part-write-bits-start c = search needs
+
+part-write-bits-end : tie.Need-part-write-bits-end
+unfolding rowSize runSize
+part-write-bits-end c = omega arith
+
 narrow-requires : tie.Need-narrow-requires
 narrow-requires c κs = search needs
-
-add-run : tie.Need-add-run
-add-run c = search needs
-
-add-run-2 : tie.Need-add-run-2
-unfolding rowSize runSize maskSize
-add-run-2 c = omega arith
-
-slice-write-run : tie.Need-slice-write-run
-unfolding rowSize runSize maskSize
-slice-write-run c = omega arith
 
 narrow-requires-2 : tie.Need-narrow-requires-2
 narrow-requires-2 c κs = search needs
 
-add-run-3 : tie.Need-add-run-3
-add-run-3 c = search needs
-
-add-run-4 : tie.Need-add-run-4
-unfolding rowSize runSize maskSize
-add-run-4 c = omega arith
-
-slice-write-run-2 : tie.Need-slice-write-run-2
-unfolding rowSize runSize maskSize
-slice-write-run-2 c = let b = c .before .before .before .before in
-    omega (arith, length-set (b .args .run .now) (c .before .before .row-at .result + 35 + b .args .j) (c .before .narrow .result))
+write-bits-requires : tie.Need-write-bits-requires
+unfolding rowSize runSize
+write-bits-requires c κs = let a = c .before .before .before .before .before in
+    (a .pre .1 .1 .0, row-width (c .before .before .before .row-at .result) rowSize (a .args .run .now) (omega arith))
 
 narrow-requires-3 : tie.Need-narrow-requires-3
 narrow-requires-3 c κs = search needs
 
-add-run-5 : tie.Need-add-run-5
-unfolding rowSize runSize maskSize
-add-run-5 c = omega arith
+add-run : tie.Need-add-run
+unfolding maskSize
+add-run c = omega arith
 
-slice-write-run-3 : tie.Need-slice-write-run-3
-unfolding rowSize runSize maskSize
-slice-write-run-3 c = let b = c .before .before .before .before .before in
-    let l = b .args .run .now in
-    let r = c .before .before .before .row-at .result in
-    let j = b .args .j in
-    omega (arith, length-set l (r + 35 + j) (c .before .before .narrow .result), length-set (set l (r + 35 + j) (c .before .before .narrow .result)) (r + 291 + j) (c .before .narrow2 .result))
+slice-write-run : tie.Need-slice-write-run
+unfolding maskSize rowSize runSize
+slice-write-run c = let b = c .before .before .before .before .before .before .before .before .before in
+    let w = c .before .before .before .write-bits in
+    omega (arith, run-kept (c .before .before .before .before .before .before .before .row-at .result) rowSize (b .args .run .now) (w .last .0) (w .kept .0))
 
 same-length : tie.Need-same-length
 same-length c = search needs
 
 returns : tie.Need-returns
-unfolding activeIn seenIn matchesAt
-returns c = let d = c .before .before .before .before .before .args .d in
-    let s : d + 1 ≡ suc d = omega arith in
-    rw (c .narrow3 .ensures, c .before .narrow2 .ensures, c .before .before .narrow .ensures, c .before .before .before .row-at .ensures .0, s)
+unfolding maskSize rowSize runSize matchesAt
+returns c = let b = c .before .before .before .before .before .before .before .before .before in
+    let r = c .before .before .before .before .before .before .before .row-at in
+    let w = c .before .before .before .write-bits in
+    rw (c .narrow3 .ensures)
+    (ap (λ (l : List ℕ). set l (matchesAt + b .args .j) (b .args .matched))
+    (bits-stored (b .args .run .now) (w .last .0) (b .args .d) (r .result) (b .args .j) (b .args .active) (b .args .seen) (r .ensures .0) (omega arith) (b .pre .1 .1 .0)
+    (w .ensures ∙ rw (c .before .before .before .before .narrow2 .ensures, c .before .before .before .before .before .narrow .ensures))))
 
 pub put-byte-spec : {M : Type 1} → statement M
 put-byte-spec =
@@ -75,16 +75,15 @@ put-byte-spec =
     (tie.spec
     add-row-at
     row-at-requires
+    add-end
+    sub-write-bits
+    part-write-bits-start
+    part-write-bits-end
     narrow-requires
-    add-run
-    add-run-2
-    slice-write-run
     narrow-requires-2
-    add-run-3
-    add-run-4
-    slice-write-run-2
+    write-bits-requires
     narrow-requires-3
-    add-run-5
-    slice-write-run-3
+    add-run
+    slice-write-run
     same-length
     returns)
