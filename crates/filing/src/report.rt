@@ -7,8 +7,8 @@ use crate::tokens::name_span;
 use crate::tokens::token_at;
 use machine::answers::Opened;
 use machine::counters::Counters;
-use machine::run::close::close_by;
-use machine::run::open::open_by;
+use machine::run::close::close_usable;
+use machine::run::open::open_usable;
 use machine::run::shape::depth;
 use machine::run::start::start_by;
 use machine::run::start::start_on;
@@ -17,6 +17,7 @@ ghost use Prim.Native.Nat.{_≤_, _<_};
 ghost use lib.ListN.{length, drop};
 ghost use Rattle.machine.specs.Run.{runSize};
 ghost use Rattle.machine.specs.RunCalls.{startRun, noCounters};
+ghost use Rattle.machine.specs.Openable.{Usable};
 ghost use Rattle.machine.specs.Demand3.{started};
 ghost use Rattle.filing.specs.Reading.{readToken, readReport};
 ghost use Rattle.filing.specs.Seen.{foundOf, tagName};
@@ -61,18 +62,20 @@ fn of_open(answer: Opened, c: Counters) -> Taken
 }
 
 fn take_open(a: &[u8], run: &mut [u8], c: Counters, e: &[u8]) -> Taken
+    requires { ⌜ Usable (now a) (now run) c ⌝ }
     ensures { λ r. ⌜ Takes (now (a .entry)) (now (run .entry)) (openOutcome (now (a .entry)) (record { bytes = now (run .entry); counters = c }) (now (e .entry))) (r .refusal) (now (run .exit)) (r .counters) ⌝ }
 {
-    let done = open_by(a, run, c, e);
+    let done = open_usable(a, run, c, e);
     let answer = done.answer;
     let counters = done.counters;
     of_open(answer, counters)
 }
 
 fn take_close(a: &[u8], run: &mut [u8], c: Counters, e: &[u8]) -> Taken
+    requires { ⌜ Usable (now a) (now run) c ⌝ }
     ensures { λ r. ⌜ Takes (now (a .entry)) (now (run .entry)) (closeOutcome (now (a .entry)) (record { bytes = now (run .entry); counters = c }) (now (e .entry))) (r .refusal) (now (run .exit)) (r .counters) ⌝ }
 {
-    let done = close_by(a, run, c, e);
+    let done = close_usable(a, run, c, e);
     let counters = done.counters;
     Taken {
         refusal: done.refusal,
@@ -82,6 +85,7 @@ fn take_close(a: &[u8], run: &mut [u8], c: Counters, e: &[u8]) -> Taken
 
 // An empty-element tag: an open and a close.
 fn take_empty(a: &[u8], run: &mut [u8], c: Counters, e: &[u8]) -> Taken
+    requires { ⌜ Usable (now a) (now run) c ⌝ }
     ensures { λ r. ⌜ Takes (now (a .entry)) (now (run .entry)) (thenGo (openOutcome (now (a .entry)) (record { bytes = now (run .entry); counters = c }) (now (e .entry))) (λ t. closeOutcome (now (a .entry)) t (now (e .entry)))) (r .refusal) (now (run .exit)) (r .counters) ⌝ }
 {
     let opened = take_open(a, run, c, e);
@@ -113,6 +117,7 @@ fn take_text(run: &[u8], c: Counters, all: bool) -> Taken
 
 // One token, by what it is; e is its tag's name.
 fn take_token(a: &[u8], run: &mut [u8], c: Counters, f: Found, e: &[u8]) -> Taken
+    requires { ⌜ Usable (now a) (now run) c ⌝ }
     ensures { λ r. ⌜ Takes (now (a .entry)) (now (run .entry)) (foundOutcome (now (a .entry)) (record { bytes = now (run .entry); counters = c }) f (now (e .entry))) (r .refusal) (now (run .exit)) (r .counters) ⌝ }
 {
     match f {
@@ -137,6 +142,7 @@ fn take_token(a: &[u8], run: &mut [u8], c: Counters, f: Found, e: &[u8]) -> Take
 
 // Nothing more is taken once a token was refused.
 fn take_next(a: &[u8], run: &mut [u8], before: Taken, f: Found, e: &[u8]) -> Taken
+    requires { ⌜ (before .refusal ≡ 0 → Usable (now a) (now run) (before .counters)) ⌝ }
     ensures { λ r. ⌜ Takes (now (a .entry)) (now (run .entry)) (thenGo (so (before .refusal) (now (run .entry)) (before .counters)) (λ t. foundOutcome (now (a .entry)) t f (now (e .entry)))) (r .refusal) (now (run .exit)) (r .counters) ⌝ }
 {
     if before.refusal != 0 {
@@ -148,7 +154,7 @@ fn take_next(a: &[u8], run: &mut [u8], before: Taken, f: Found, e: &[u8]) -> Tak
 
 // The same of the token at an offset, which has its name there.
 fn take_at(a: &[u8], run: &mut [u8], before: Taken, s: &[u8], at: usize, f: Found) -> Taken
-    requires { ⌜ f ≡ foundOf (length (now s)) at (readToken (drop at (now s))) ⌝ }
+    requires { ⌜ (f ≡ foundOf (length (now s)) at (readToken (drop at (now s)))) × (before .refusal ≡ 0 → Usable (now a) (now run) (before .counters)) ⌝ }
     ensures { λ r. ⌜ Takes (now (a .entry)) (now (run .entry)) (thenGo (so (before .refusal) (now (run .entry)) (before .counters)) (λ t. foundOutcome (now (a .entry)) t f (tagName (readToken (drop at (now (s .entry))))))) (r .refusal) (now (run .exit)) (r .counters) ⌝ }
 {
     let p = name_span(f);
@@ -172,6 +178,7 @@ fn torn_at(f: Found, at: usize) -> bool
 
 // The tokens in order from a fresh run: the first refusal of a token is kept, and the rest is only read, for 9.
 fn take_tokens(a: &[u8], run: &mut [u8], s: &[u8]) -> Taken
+    requires { ⌜ Usable (now a) (now run) noCounters ⌝ }
     ensures { λ r. ⌜ Takes (now (a .entry)) (now (run .entry)) (runFrom (now (a .entry)) (so 0 (now (run .entry)) noCounters) (readReport (now (s .entry)))) (r .refusal) (now (run .exit)) (r .counters) ⌝ }
 {
     let mut taken = with_none(0);
@@ -218,7 +225,7 @@ fn fresh_after(a: &[u8], run: &mut [u8], done: Taken) -> Taken
 
 // The tokens and the end, from a fresh run.
 fn take_run(a: &[u8], run: &mut [u8], s: &[u8]) -> Taken
-    requires { ⌜ (runSize ≤ length (now run)) × (startRun (now a) (now run) ≡ now run) ⌝ }
+    requires { ⌜ (Usable (now a) (now run) noCounters) × (startRun (now a) (now run) ≡ now run) ⌝ }
     ensures { λ r. ⌜ Leaves (record { bytes = now (run .entry); counters = noCounters }) (runOutcome (now (a .entry)) (record { bytes = now (run .entry); counters = noCounters }) (readReport (now (s .entry)))) (r .refusal) (now (run .exit)) (r .counters) ⌝ }
 {
     let taken = take_tokens(a, run, s);
@@ -228,7 +235,7 @@ fn take_run(a: &[u8], run: &mut [u8], s: &[u8]) -> Taken
 
 // 2 and 8 come before the tokens.
 fn file_fresh(a: &[u8], run: &mut [u8], s: &[u8]) -> Taken
-    requires { ⌜ (runSize ≤ length (now run)) × (startRun (now a) (now run) ≡ now run) ⌝ }
+    requires { ⌜ (Usable (now a) (now run) noCounters) × (startRun (now a) (now run) ≡ now run) ⌝ }
     ensures { λ r. ⌜ Leaves (record { bytes = now (run .entry); counters = noCounters }) (reportOutcome (now (a .entry)) (record { bytes = now (run .entry); counters = noCounters }) (now (s .entry))) (r .refusal) (now (run .exit)) (r .counters) ⌝ }
 {
     if s.len() > MAX_REPORT {

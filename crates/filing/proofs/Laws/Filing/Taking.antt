@@ -3,29 +3,30 @@ use Prim.Native.Nat.{ℕ, zero, suc, _-_, _≤_, _<_}
 use native.Mathlib.Omega.{arith}
 use mathlib.Core.Path.{_≡_, refl, sym, ap, _∙_}
 use mathlib.Core.Bool.{Bool, true, false, not, _&&_, _||_, cond, true≢false, and-false}
-use mathlib.Core.List.{List, [], _∷_}
+use mathlib.Core.List.{List, _∷_}
 use lib.Dec.{eqb, leb}
 use lib.ListN.{length, drop}
 use borrow.Author.Tests.{eq-eqb, ne-eqb, leb-false, lt-leb, lt-ltb, le-ltb}
 use Rattle.notation.specs.Names.{Name}
 use Rattle.notation.specs.Refusals.{torn, numberOf}
 use Rattle.notation.specs.Form.{every}
-use Rattle.machine.specs.Run.{runSize}
 use Rattle.machine.specs.RunCalls.{depthOf, startRefusal, startRun, openRefusal, openRun, openCounters, closeRefusal, closeRun, closeCounters, noCounters}
 use Rattle.machine.specs.RunContracts.{openAnswer, Starts, Opens, Closes}
+use Rattle.machine.specs.Openable.{Usable}
 use Rattle.machine.specs.Demand3.{Left, started}
 use Rattle.machine.specs.declared.counters.Counters.{Counters}
 use Rattle.machine.specs.declared.answers.Opened.{Opened}
-use Rattle.machine.proofs.Laws.Shapes.Given.{may-start}
+use Rattle.machine.proofs.Laws.Shapes.Kept.{start-usable, open-usable, close-usable}
+use Rattle.machine.proofs.Laws.Running.Restart.{start-restart, open-restart, close-restart}
 use Rattle.filing.specs.Limits.{maxReportBytes}
 use Rattle.filing.specs.declared.tokens.Found.{Found}
+use Rattle.filing.specs.declared.tokens.Found.the-variants.{Nothing, Declaration, Comment, Start, Empty, End, Text}
 use Rattle.filing.specs.Tokens.{Token, declaration, comment, startTag, emptyTag, endTag, text, listed, isDeclaration}
 use Rattle.filing.specs.Reading.{Read, fail, got, thenRead, readToken, readReport}
 use Rattle.filing.specs.Document.{eventsOfToken}
 use Rattle.filing.specs.Seen.{shown, foundOf, foundEnd, declares, tagName, nameOfToken}
 use Rattle.filing.specs.FileCall.{Outcome, refusedWith, leaving, thenGo, openOutcome, closeOutcome, textOutcome, eventsOutcome, tokensOutcome, endOutcome, runOutcome, reportOutcome, Files}
 use Rattle.filing.specs.Taking.{openNumber, so, Takes, Leaves, foundOutcome, tornAt, runFrom}
-use Rattle.filing.proofs.Laws.Filing.Restart.{open-restart, close-restart, start-restart}
 use Rattle.filing.proofs.Laws.Read.Next.{tokensFrom, token-next, from-end, from-torn, from-late, from-next}
 use Rattle.filing.proofs.Laws.Read.RunAt.{shown-end, shown-declares}
 
@@ -44,7 +45,7 @@ goes-on n run c k z = ap (λ (o : Outcome). thenGo o k) (so-none n run c z)
 pub stops : (n : ℕ) (run : List ℕ) (c : Counters) (k : Left → Outcome) → (n ≡ 0 → ⊥) → so n run c ≡ thenGo (so n run c) k
 stops n run c k h = rw (so-refused n run c h)
 
-pub then-leaving : (o : Outcome) → thenGo o leaving ≡ o
+then-leaving : (o : Outcome) → thenGo o leaving ≡ o
 then-leaving (refusedWith n) = refl
 then-leaving (leaving t) = refl
 
@@ -150,7 +151,7 @@ module _ (a s : List ℕ) (i : ℕ) (f : Found) (is : f ≡ foundOf (length s) i
           let (first, d) = late (leb (foundEnd f) i) (eqb i 0) (declares f) past k in
           rw first (from-late s i t r h e (sym (declared t r e) ∙ d))
 
-  pub taken-next : i < length s → tornAt f i ≡ false
+  taken-next : i < length s → tornAt f i ≡ false
       → (i < foundEnd f) × ((foundEnd f ≤ length s) × (RunAt a (thenGo o (λ t. foundOutcome a t f (tagName (readToken (drop i s))))) s (foundEnd f) ≡ RunAt a o s i))
   taken-next h k = by (readToken (drop i s)) refl
     where
@@ -269,10 +270,70 @@ filed-on a run c report n₁ run₁ c₁ n run' c' s z l =
     let m = rw fresh at l in
     record { answers = rw yes (m .answers); runAfter = rw yes (m .runAfter); countersAfter = rw yes (m .countersAfter) }
 
-pub fresh-run : (a run : List ℕ) (c : Counters) (n₁ : ℕ) (run₁ : List ℕ) (c₁ : Counters) → Starts a run c n₁ run₁ c₁ → n₁ ≡ 0 → length run₁ ≡ length run
-    → (runSize ≤ length run₁) × (startRun a run₁ ≡ run₁)
-fresh-run a run c n₁ run₁ c₁ s z k =
+pub fresh-run : (a run : List ℕ) (c : Counters) (n₁ : ℕ) (run₁ : List ℕ) (c₁ : Counters) → Starts a run c n₁ run₁ c₁ → n₁ ≡ 0
+    → (Usable a run₁ noCounters) × (startRun a run₁ ≡ run₁)
+fresh-run a run c n₁ run₁ c₁ s z =
     let yes : eqb (startRefusal a run) 0 ≡ true = eq-eqb _ _ (sym (s .answers) ∙ z) in
     let fresh : run₁ ≡ startRun a run = rw yes at (s .runAfter) in
-    let long = may-start a run (sym (s .answers) ∙ z) .runLength in
-    (omega (arith, long, k), rw fresh (start-restart a run))
+    (rw fresh (start-usable a run (sym (s .answers) ∙ z)), rw fresh (start-restart a run))
+
+-- What is left passes the shape test, token after token.
+
+abbrev pub Fit : List ℕ → Outcome → Type 0
+Fit a (refusedWith n) = Unit {0}
+Fit a (leaving t) = Usable a (t .bytes) (t .counters)
+
+so-fit : (a : List ℕ) (n : ℕ) (run : List ℕ) (c : Counters) → (n ≡ 0 → Usable a run c) → Fit a (so n run c)
+so-fit a zero run c u = u refl
+so-fit a (suc n) run c u = tt
+
+pub fit-so : (a : List ℕ) (n : ℕ) (run : List ℕ) (c : Counters) → Fit a (so n run c) → n ≡ 0 → Usable a run c
+fit-so a zero run c f z = f
+fit-so a (suc n) run c f z = absurd (omega arith)
+
+then-fit : (a : List ℕ) (o : Outcome) (k : Left → Outcome) → Fit a o → ((t : Left) → Usable a (t .bytes) (t .counters) → Fit a (k t)) → Fit a (thenGo o k)
+then-fit a (refusedWith n) k f g = tt
+then-fit a (leaving t) k f g = g t f
+
+open-fit : (a : List ℕ) (t : Left) (e : Name) → Usable a (t .bytes) (t .counters) → Fit a (openOutcome a t e)
+open-fit a t e u = so-fit a (openRefusal a (t .bytes) (t .counters) e) (openRun a (t .bytes) e) (openCounters a (t .bytes) (t .counters) e) (open-usable a (t .bytes) (t .counters) e u)
+
+close-fit : (a : List ℕ) (t : Left) (e : Name) → Usable a (t .bytes) (t .counters) → Fit a (closeOutcome a t e)
+close-fit a t e u = so-fit a (closeRefusal a (t .bytes) (t .counters) e) (closeRun a (t .bytes)) (closeCounters (t .counters)) (close-usable a (t .bytes) (t .counters) e u)
+
+either-fit : (a : List ℕ) (t : Left) (n : ℕ) (b : Bool) → Usable a (t .bytes) (t .counters) → Fit a (cond b (refusedWith n) (leaving t))
+either-fit a t n true u = tt
+either-fit a t n false u = u
+
+found-fit : (a : List ℕ) (t : Left) (f : Found) (e : Name) → Usable a (t .bytes) (t .counters) → Fit a (foundOutcome a t f e)
+found-fit a t Nothing e u = u
+found-fit a t (Declaration end) e u = u
+found-fit a t (Comment end) e u = u
+found-fit a t (Start from to end) e u = open-fit a t e u
+found-fit a t (Empty from to end) e u = then-fit a (openOutcome a t e) (λ t₂. closeOutcome a t₂ e) (open-fit a t e u) (λ t₂ v. close-fit a t₂ e v)
+found-fit a t (End from to end) e u = close-fit a t e u
+found-fit a t (Text end all) e u = either-fit a t 10 (eqb (depthOf (t .bytes)) 0 && not all) u
+
+next-fit : (a : List ℕ) (o : Outcome) (f : Found) (e : Name) → Fit a o → Fit a (thenGo o (λ t. foundOutcome a t f e))
+next-fit a o f e h = then-fit a o (λ t. foundOutcome a t f e) h (λ t u. found-fit a t f e u)
+
+-- what an open that is accepted leaves
+pub opened-usable : (a run : List ℕ) (c : Counters) (e : Name) (n : ℕ) (run' : List ℕ) (c' : Counters) → Takes a run (openOutcome a (record { bytes = run; counters = c }) e) n run' c'
+    → Usable a run c → n ≡ 0 → Usable a run' c'
+opened-usable a run c e n run' c' t u = fit-so a n run' c' (rw (t .outcomes) (open-fit a (record { bytes = run; counters = c }) e u))
+
+-- a turn of the loop
+module _ (a s : List ℕ) (i : ℕ) (f : Found) (is : f ≡ foundOf (length s) i (readToken (drop i s))) (inside : i < length s) (torn : tornAt f i ≡ false) (end : ℕ) (ends : end ≡ foundEnd f) where
+  pub turn-past : (i < end) × (end ≤ length s)
+  turn-past =
+      let next = taken-next a s i f is (refusedWith 0) inside torn in
+      rw ends (next .0, next .1 .0)
+
+  pub turn-taken : (run : List ℕ) (n : ℕ) (c : Counters) (n' : ℕ) (run' : List ℕ) (c' : Counters) (all : Outcome)
+      → Takes a run (thenGo (so n run c) (λ t. foundOutcome a t f (tagName (readToken (drop i s))))) n' run' c' → RunAt a (so n run c) s i ≡ all → Fit a (so n run c)
+      → (RunAt a (so n' run' c') s end ≡ all) × Fit a (so n' run' c')
+  turn-taken run n c n' run' c' all t e fit =
+      let next = taken-next a s i f is (so n run c) inside torn in (
+        rw (ends, t .outcomes) (next .1 .1 ∙ e),
+        rw (t .outcomes) (next-fit a (so n run c) f (tagName (readToken (drop i s))) fit),
+      )

@@ -13,7 +13,7 @@ returns : tie.Need-returns
 returns c = filed-refused _ _ _ _ _ _ _ (c .before .before .before .before .before .start-by .ensures) (c .before .if1 .taken)
 
 file-fresh-requires : tie.Need-file-fresh-requires
-file-fresh-requires c κs = fresh-run _ _ _ _ _ _ (c .before .before .before .before .before .start-by .ensures) (c .before .if1 .left) (c .before .before .before .before .before .start-by .kept .1 .0)
+file-fresh-requires c κs = fresh-run _ _ _ _ _ _ (c .before .before .before .before .before .start-by .ensures) (c .before .if1 .left)
 
 same-length-2 : tie.Need-same-length-2
 same-length-2 c = search needs

@@ -7,23 +7,23 @@ name-span-requires : tie.Need-name-span-requires
 name-span-requires c κs = search needs
 
 sub-take-next : tie.Need-sub-take-next
-sub-take-next c = name-cut (c .before .before .before .before .before .args .s .now) (c .before .before .before .before .before .args .at) _ _ (c .before .before .before .before .before .args .f) (c .before .before .before .before .before .pre) (c .before .name-span .ensures .0) (c .before .name-span .ensures .1) .low
+sub-take-next c = name-cut (c .before .before .before .before .before .args .s .now) (c .before .before .before .before .before .args .at) _ _ (c .before .before .before .before .before .args .f) (c .before .before .before .before .before .pre .0) (c .before .name-span .ensures .0) (c .before .name-span .ensures .1) .low
 
 part-take-next-start : tie.Need-part-take-next-start
-part-take-next-start c = name-cut (c .before .before .before .before .before .args .s .now) (c .before .before .before .before .before .args .at) _ _ (c .before .before .before .before .before .args .f) (c .before .before .before .before .before .pre) (c .before .name-span .ensures .0) (c .before .name-span .ensures .1) .low
+part-take-next-start c = name-cut (c .before .before .before .before .before .args .s .now) (c .before .before .before .before .before .args .at) _ _ (c .before .before .before .before .before .args .f) (c .before .before .before .before .before .pre .0) (c .before .name-span .ensures .0) (c .before .name-span .ensures .1) .low
 
 part-take-next-end : tie.Need-part-take-next-end
-part-take-next-end c = name-cut (c .before .before .before .before .before .args .s .now) (c .before .before .before .before .before .args .at) _ _ (c .before .before .before .before .before .args .f) (c .before .before .before .before .before .pre) (c .before .name-span .ensures .0) (c .before .name-span .ensures .1) .high
+part-take-next-end c = name-cut (c .before .before .before .before .before .args .s .now) (c .before .before .before .before .before .args .at) _ _ (c .before .before .before .before .before .args .f) (c .before .before .before .before .before .pre .0) (c .before .name-span .ensures .0) (c .before .name-span .ensures .1) .high
 
 take-next-requires : tie.Need-take-next-requires
-take-next-requires c κs = search needs
+take-next-requires c κs = c .before .before .before .before .before .before .pre .1
 
 same-length : tie.Need-same-length
 same-length c = search needs
 
 returns : tie.Need-returns
 returns c =
-    let cut = name-cut (c .before .before .before .before .before .before .before .before .before .args .s .now) (c .before .before .before .before .before .before .before .before .before .args .at) _ _ (c .before .before .before .before .before .before .before .before .before .args .f) (c .before .before .before .before .before .before .before .before .before .pre) (c .before .before .before .before .before .name-span .ensures .0) (c .before .before .before .before .before .name-span .ensures .1) in
+    let cut = name-cut (c .before .before .before .before .before .before .before .before .before .args .s .now) (c .before .before .before .before .before .before .before .before .before .args .at) _ _ (c .before .before .before .before .before .before .before .before .before .args .f) (c .before .before .before .before .before .before .before .before .before .pre .0) (c .before .before .before .before .before .name-span .ensures .0) (c .before .before .before .before .before .name-span .ensures .1) in
     rw (cut .part) at (c .before .before .take-next .ensures)
 
 pub take-at-spec : {M : Type 1} → statement M

@@ -1,10 +1,10 @@
-use Rattle.filing.proofs.Laws.Filing.Taking.{taken-stops, taken-on}
+use Rattle.filing.proofs.Laws.Filing.Taking.{taken-stops, taken-on, opened-usable}
 use borrow.Author.Needs.{needs}
 use Rattle.filing.proofs.report.take_empty.Statement.{statement}
 use Rattle.filing.proofs.report.take_empty.Tie as tie
 
 take-open-requires : tie.Need-take-open-requires
-take-open-requires c κs = search needs
+take-open-requires c κs = c .before .before .before .before .pre
 
 same-length : tie.Need-same-length
 same-length c = search needs
@@ -13,7 +13,7 @@ returns : tie.Need-returns
 returns c = taken-stops _ _ _ _ _ _ _ (c .before .before .before .before .take-open .ensures) (c .if1 .taken)
 
 take-close-requires : tie.Need-take-close-requires
-take-close-requires c κs = search needs
+take-close-requires c κs = opened-usable _ _ _ _ _ _ _ (c .before .before .before .before .before .before .take-open .ensures) (c .before .before .before .before .before .before .before .before .before .before .before .pre) (c .before .before .if1 .left)
 
 same-length-2 : tie.Need-same-length-2
 same-length-2 c = search needs

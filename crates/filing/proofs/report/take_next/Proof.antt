@@ -8,7 +8,7 @@ returns : tie.Need-returns
 returns c = taken-here _ _ _ _ _ (stops _ _ _ _ (c .if1 .taken))
 
 take-token-requires : tie.Need-take-token-requires
-take-token-requires c κs = search needs
+take-token-requires c κs = c .before .before .before .before .before .before .before .pre (c .before .before .if1 .left)
 
 same-length : tie.Need-same-length
 same-length c = search needs

@@ -6,13 +6,13 @@ use Rattle.filing.proofs.report.take_run.Statement.{statement}
 use Rattle.filing.proofs.report.take_run.Tie as tie
 
 take-tokens-requires : tie.Need-take-tokens-requires
-take-tokens-requires c κs = search needs
+take-tokens-requires c κs = c .before .before .before .before .pre .0
 
 take-end-requires : tie.Need-take-end-requires
 take-end-requires c κs = search needs
 
 fresh-after-requires : tie.Need-fresh-after-requires
-fresh-after-requires c κs = omega (arith, c .before .before .before .before .before .take-tokens .kept .1 .0, c .before .before .before .before .before .before .before .before .before .before .pre .0)
+fresh-after-requires c κs = omega (arith, c .before .before .before .before .before .take-tokens .kept .1 .0, c .before .before .before .before .before .before .before .before .before .before .pre .0 .ready .runLength)
 
 same-length : tie.Need-same-length
 same-length c = search needs

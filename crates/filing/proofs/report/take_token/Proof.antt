@@ -8,19 +8,19 @@ enum-told : tie.Need-enum-told
 enum-told c = search needs
 
 take-open-requires : tie.Need-take-open-requires
-take-open-requires c κs = search needs
+take-open-requires c κs = c .before .before .before .before .before .before .pre
 
 enum-told-2 : tie.Need-enum-told-2
 enum-told-2 c = search needs
 
 take-empty-requires : tie.Need-take-empty-requires
-take-empty-requires c κs = search needs
+take-empty-requires c κs = c .before .before .before .before .before .before .pre
 
 enum-told-3 : tie.Need-enum-told-3
 enum-told-3 c = search needs
 
 take-close-requires : tie.Need-take-close-requires
-take-close-requires c κs = search needs
+take-close-requires c κs = c .before .before .before .before .before .before .pre
 
 enum-known-f : tie.Need-enum-known-f
 enum-known-f c = search needs
