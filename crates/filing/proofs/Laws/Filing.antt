@@ -8,5 +8,4 @@ pub mod FilingStored
 pub mod FilingAlike
 pub mod FilingNumbers
 pub mod FromBytes
-pub mod Restart
 pub mod Taking
