@@ -1,17 +1,20 @@
 -- From what is stored to what is printed: of an accepted set and a report, and of any text.
-use Prim.Native.Nat.{ℕ, zero, suc, _≤_}
+use Prim.Native.Nat.{ℕ, zero, suc, _≤_, _<_}
 use mathlib.Core.Path.{_≡_, refl, sym, ap, _∙_, subst}
 use mathlib.Core.Bool.{Bool, true, false, _||_, true≢false}
 use mathlib.Core.List.{List, _++_}
-use lib.Dec.{ltb}
+use lib.Dec.{eqb, ltb}
 use lib.ListN.{length, drop}
-use borrow.Author.Tests.{le-ltb, ltb-false}
+use lib.Seq.{sets-eq}
+use borrow.Author.Tests.{eqb-true, eqb-false, le-ltb, ltb-false}
+use native.Mathlib.Nat.{zero-add}
 use native.Mathlib.Omega.{arith}
 use Rattle.notation.specs.Sets.{FolderSet}
 use Rattle.notation.specs.Scan.{refusalOf}
-use Rattle.notation.specs.Refusals.{numberOf}
+use Rattle.notation.specs.Refusals.{Refusal, shortBuffer, oversize, bentForm, outOfTurn, longName, longPath, full, foreignByte, torn, looseEnd, tooDeep, crossed, noSuchPlace, strangeShape, numberOf}
 use Rattle.notation.specs.Accepted.{Accepted}
-use Rattle.notation.proofs.Laws.Refused.AcceptedSet.{accepted-is}
+use Rattle.notation.proofs.Laws.Refused.AcceptedSet.{accepted-set, accepted-is}
+use Rattle.notation.proofs.Laws.Refused.Refusals.{refusal-low}
 use Rattle.machine.specs.Automaton.{automatonOf, automatonSize}
 use Rattle.machine.specs.Run.{runSize}
 use Rattle.machine.specs.RunCalls.{given, noCounters}
@@ -19,16 +22,18 @@ use Rattle.machine.specs.Build.{buildAnswer, Built}
 use Rattle.machine.specs.Demand3.{Left}
 use Rattle.machine.specs.declared.answers.Written.{Written}
 use Rattle.machine.specs.declared.counters.Counters.{Counters}
+use Rattle.machine.proofs.Laws.Basics.{cases}
 use Rattle.machine.proofs.Laws.Running.Means.{Means, means}
 use Rattle.filing.specs.Limits.{listingSize}
 use Rattle.filing.specs.Filing.{Filed, refused, filed, numberGiven, fileReport}
 use Rattle.filing.specs.FileCall.{fileAnswer, fileLeft, Files}
 use Rattle.filing.specs.FiledReport.{Demand2Bytes}
-use Rattle.filing.specs.Listing.{refusedLine, printed, filerPrints}
+use Rattle.filing.specs.Listing.{listing, refusedLine, printed, filerPrints}
 use Rattle.filing.specs.Listed.{Writes, ListingWritten, refusedRefusal, RefusedWritten}
-use Rattle.filing.specs.Filer.{tooSmall, Prints, OutcomeWritten, FiledAndListed}
+use Rattle.filing.specs.Filer.{tooSmall, PrintsText, Prints, OutcomeWritten, FiledAndListed}
 use Rattle.filing.proofs.Laws.Filing.FromBytes.{some-number, answer-is, left-filed, few-end, demand2-bytes}
-use Rattle.filing.proofs.Laws.Listing.Whole.{listing-written}
+use Rattle.filing.proofs.Laws.Listing.Whole.{listing-fits, listing-written}
+use Rattle.filing.proofs.Laws.Listing.Written.{refused-short}
 
 -- where nothing is too small
 module _ (a run out : List ℕ) (h : tooSmall a run out ≡ false) where
@@ -51,12 +56,38 @@ module _ (a run out : List ℕ) (h : tooSmall a run out ≡ false) where
   out-room : listingSize ≤ length out
   out-room = ltb-false (length out) listingSize (none-small .1 .1)
 
--- a refusal's line in a buffer of a listing's size
-line-whole : (n : ℕ) (out after : List ℕ) (answer : Written) → listingSize ≤ length out → RefusedWritten n out answer after → Writes 0 (refusedLine n) out answer after
+-- a text no longer than a listing, in a buffer of a listing's size
+text-printed : (text out after : List ℕ) (answer : Written) → length text ≤ listingSize → listingSize ≤ length out → Writes 0 text out answer after
+    → PrintsText text out answer after
+text-printed text out after answer fits room w = record {
+  fits = fits;
+  answers = w .answers;
+  leaves = w .leaves ∙ (sets-eq text out 0 (omega arith) ∙ ap (λ (k : ℕ). text ++ drop k out) (zero-add (length text)));
+}
+
+-- a refusal's line
+line-printed : (n : ℕ) (out after : List ℕ) (answer : Written) → n < 256 → listingSize ≤ length out → RefusedWritten n out answer after
+    → PrintsText (refusedLine n) out answer after
 unfolding refusedRefusal given
-line-whole n out after answer room w =
+line-printed n out after answer h room w =
     let t : ltb (length out) listingSize ≡ false = le-ltb (length out) listingSize room in
-    rw t at w
+    text-printed (refusedLine n) out after answer (refused-short n h) room (rw t at w)
+
+number-byte : (r : Refusal) → numberOf r < 256
+number-byte shortBuffer = omega arith
+number-byte oversize = omega arith
+number-byte bentForm = omega arith
+number-byte outOfTurn = omega arith
+number-byte longName = omega arith
+number-byte longPath = omega arith
+number-byte full = omega arith
+number-byte foreignByte = omega arith
+number-byte torn = omega arith
+number-byte looseEnd = omega arith
+number-byte tooDeep = omega arith
+number-byte crossed = omega arith
+number-byte noSuchPlace = omega arith
+number-byte strangeShape = omega arith
 
 outcome-line : (n : ℕ) (a run : List ℕ) (c : Counters) (out after : List ℕ) (answer : Written) → (n ≡ 0 → ⊥) → OutcomeWritten n a run c out answer after → RefusedWritten n out answer after
 outcome-line zero a run c out after answer h w = absurd (h refl)
@@ -98,21 +129,22 @@ module _ (text : List ℕ) (s : FolderSet) (acc : Accepted text s) (behind run r
 
   module _ (out after : List ℕ) (answer : Written) (room : listingSize ≤ length out) where
     outcome-printed : (x : Filed) → fileReport s report ≡ x → OutcomeWritten (fileAnswer a run report) a (left .bytes) (left .counters) out answer after
-        → Writes 0 (printed s x) out answer after
+        → PrintsText (printed s x) out answer after
     outcome-printed (refused r) e h =
         let n : fileAnswer a run report ≡ numberOf r = number ∙ ap numberGiven e in
-        line-whole (numberOf r) out after answer room
+        line-printed (numberOf r) out after answer (number-byte r) room
         (outcome-line (numberOf r) a (left .bytes) (left .counters) out after answer (some-number r)
         (subst (λ (k : ℕ). OutcomeWritten k a (left .bytes) (left .counters) out answer after) n h))
     outcome-printed (filed m) e h =
         let n : fileAnswer a run report ≡ 0 = number ∙ ap numberGiven e in
         let t = left-filed s a w run long noCounters report (fileAnswer a run report) (left .bytes) (left .counters) files m e in
         let few = few-end s a w run long noCounters report (fileAnswer a run report) (left .bytes) (left .counters) files (filed m) e in
-        listing-written s a w m few (drop runSize run) out after answer room
-        (subst (λ (x : Left). OutcomeWritten 0 a (x .bytes) (x .counters) out answer after) t
-        (subst (λ (k : ℕ). OutcomeWritten k a (left .bytes) (left .counters) out answer after) n h))
+        let v : OutcomeWritten 0 a (left .bytes) (left .counters) out answer after = subst (λ (k : ℕ). OutcomeWritten k a (left .bytes) (left .counters) out answer after) n h in
+        text-printed (listing s m) out after answer (listing-fits s a w m few (drop runSize run)) room
+        (listing-written s a w m few (drop runSize run) out after answer room
+        (subst (λ (x : Left). ListingWritten a (x .bytes) (x .counters) out answer after) t v))
 
-    filing-printed : (run' : List ℕ) → FiledAndListed a run report out answer run' after → Writes 0 (filerPrints s report) out answer after
+    filing-printed : (run' : List ℕ) → FiledAndListed a run report out answer run' after → PrintsText (filerPrints s report) out answer after
     filing-printed run' f =
         outcome-printed (fileReport s report) refl
         (subst (λ (x : List ℕ). OutcomeWritten (fileAnswer a run report) a x (left .counters) out answer after) (f .runAfter) (f .written))
@@ -134,7 +166,7 @@ module _ (text report a run out : List ℕ) where
     set-refused z after w = record {
       short = λ t. absurd (true≢false (sym t ∙ h));
       refusedSet = λ _ _. (
-        line-whole (refusalOf text) out after answer (out-room a run out h) (subst (λ (k : ℕ). RefusedWritten k out answer after) number-read w),
+        line-printed (refusalOf text) out after answer (omega (arith, refusal-low text)) (out-room a run out h) (subst (λ (k : ℕ). RefusedWritten k out answer after) number-read w),
         (b .keeps z, refl),
       );
       filedSet = λ _ s acc. absurd (z (number-read ∙ accepted-is text s acc));
@@ -151,6 +183,16 @@ module _ (text report a run out : List ℕ) where
             (e, f .runAfter),
           );
     }
+
+  -- the cases are all: in buffers of their sizes a text is printed
+  pub some-printed : (answer : Written) (a' run' out' : List ℕ) → Prints text report a run out answer a' run' out' → tooSmall a run out ≡ false
+      → (shown : List ℕ) × PrintsText shown out answer out'
+  some-printed answer a' run' out' p h =
+      cases (eqb (refusalOf text) 0)
+      (λ z.
+      let (s, acc) = accepted-set text (eqb-true (refusalOf text) 0 z) in
+      (filerPrints s report, p .filedSet h s acc .0))
+      (λ z. (refusedLine (refusalOf text), p .refusedSet h (eqb-false (refusalOf text) 0 z) .0))
 
   -- an accepted set's printed call is demand 2's filing
   pub demand2-printed : (answer : Written) (a' run' out' : List ℕ) → Prints text report a run out answer a' run' out' → tooSmall a run out ≡ false
