@@ -89,22 +89,25 @@ number-byte crossed = omega arith
 number-byte noSuchPlace = omega arith
 number-byte strangeShape = omega arith
 
-outcome-line : (n : ℕ) (a run : List ℕ) (c : Counters) (out after : List ℕ) (answer : Written) → (n ≡ 0 → ⊥) → OutcomeWritten n a run c out answer after → RefusedWritten n out answer after
+outcome-line : (n : ℕ) (a run : List ℕ) (c : Counters) (out after : List ℕ) (answer : Written)
+    → (n ≡ 0 → ⊥) → OutcomeWritten n a run c out answer after → RefusedWritten n out answer after
 outcome-line zero a run c out after answer h w = absurd (h refl)
 outcome-line (suc n) a run c out after answer h w = w
 
 -- `list_filed`
-pub refused-listed : (n : ℕ) (a run : List ℕ) (c : Counters) (out after : List ℕ) (answer : Written) → (n ≡ 0 → ⊥) → RefusedWritten n out answer after → OutcomeWritten n a run c out answer after
+pub refused-listed : (n : ℕ) (a run : List ℕ) (c : Counters) (out after : List ℕ) (answer : Written)
+    → (n ≡ 0 → ⊥) → RefusedWritten n out answer after → OutcomeWritten n a run c out answer after
 refused-listed zero a run c out after answer h w = absurd (h refl)
 refused-listed (suc n) a run c out after answer h w = w
 
-pub none-refused : (n : ℕ) (a run : List ℕ) (c : Counters) (out after : List ℕ) (answer : Written) → n ≡ 0 → ListingWritten a run c out answer after → OutcomeWritten n a run c out answer after
+pub none-refused : (n : ℕ) (a run : List ℕ) (c : Counters) (out after : List ℕ) (answer : Written)
+    → n ≡ 0 → ListingWritten a run c out answer after → OutcomeWritten n a run c out answer after
 none-refused zero a run c out after answer h w = w
 none-refused (suc n) a run c out after answer h w = absurd (omega arith)
 
 -- `file_and_list`
-pub filed-listed : (a run report out run' after : List ℕ) (n : ℕ) (c' : Counters) (answer : Written) → Files a run noCounters report n run' c' → OutcomeWritten n a run' c' out answer after
-    → FiledAndListed a run report out answer run' after
+pub filed-listed : (a run report out run' after : List ℕ) (n : ℕ) (c' : Counters) (answer : Written)
+    → Files a run noCounters report n run' c' → OutcomeWritten n a run' c' out answer after → FiledAndListed a run report out answer run' after
 filed-listed a run report out run' after n c' answer f w = record {
   runAfter = f .runAfter;
   written = rw (f .answers, f .countersAfter) at w;
@@ -139,7 +142,8 @@ module _ (text : List ℕ) (s : FolderSet) (acc : Accepted text s) (behind run r
         let n : fileAnswer a run report ≡ 0 = number ∙ ap numberGiven e in
         let t = left-filed s a w run long noCounters report (fileAnswer a run report) (left .bytes) (left .counters) files m e in
         let few = few-end s a w run long noCounters report (fileAnswer a run report) (left .bytes) (left .counters) files (filed m) e in
-        let v : OutcomeWritten 0 a (left .bytes) (left .counters) out answer after = subst (λ (k : ℕ). OutcomeWritten k a (left .bytes) (left .counters) out answer after) n h in
+        let v : OutcomeWritten 0 a (left .bytes) (left .counters) out answer after =
+        subst (λ (k : ℕ). OutcomeWritten k a (left .bytes) (left .counters) out answer after) n h in
         text-printed (listing s m) out after answer (listing-fits s a w m few (drop runSize run)) room
         (listing-written s a w m few (drop runSize run) out after answer room
         (subst (λ (x : Left). ListingWritten a (x .bytes) (x .counters) out answer after) t v))
@@ -166,7 +170,8 @@ module _ (text report a run out : List ℕ) where
     set-refused z after w = record {
       short = λ t. absurd (true≢false (sym t ∙ h));
       refusedSet = λ _ _. (
-        line-printed (refusalOf text) out after answer (omega (arith, refusal-low text)) (out-room a run out h) (subst (λ (k : ℕ). RefusedWritten k out answer after) number-read w),
+        line-printed (refusalOf text) out after answer (omega (arith, refusal-low text)) (out-room a run out h)
+            (subst (λ (k : ℕ). RefusedWritten k out answer after) number-read w),
         (b .keeps z, refl),
       );
       filedSet = λ _ s acc. absurd (z (number-read ∙ accepted-is text s acc));
