@@ -15,4 +15,5 @@ pub mod FiledReport
 pub mod Listing
 pub mod Page
 pub mod Listed
+pub mod Filer
 pub mod Taking

@@ -3,6 +3,7 @@
 pub mod limits;
 pub mod listing;
 mod page;
+pub mod printing;
 pub mod report;
 mod scan;
 mod tags;

@@ -1,5 +1,6 @@
 pub mod Numbers
 pub mod Pages
+pub mod Printing
 pub mod Same
 pub mod Sizes
 pub mod Steps

@@ -70,7 +70,7 @@ number-back strangeShape = refl
 one-refusal : (q r : Refusal) → numberOf q ≡ numberOf r → q ≡ r
 one-refusal q r e = sym (number-back q) ∙ ap (λ (n : ℕ). getD byNumber n shortBuffer) e ∙ number-back r
 
-some-number : (r : Refusal) → numberOf r ≡ 0 → ⊥
+pub some-number : (r : Refusal) → numberOf r ≡ 0 → ⊥
 some-number r = eqb-false (numberOf r) 0 (number-none (some r))
 
 given-refused : (x : Filed) (r : Refusal) → numberGiven x ≡ numberOf r → x ≡ refused r
@@ -136,7 +136,7 @@ module _ (s : FolderSet) (a : List ℕ) (w : Means s a) (lent : List ℕ) (long 
   starts : startRefusal a lent ≡ 0
   starts = demand3-means s a w lent long [] .starts
 
-  answer-is : answer ≡ numberGiven (fileReport s report)
+  pub answer-is : answer ≡ numberGiven (fileReport s report)
   answer-is = f .answers ∙ rw (starts, report-stored s a w lent report) (stored-number s rest (fileReport s report))
 
   left-is : fileLeft a lent c report ≡ leftIn (started a lent) (storedOf s rest (fileReport s report))
@@ -145,7 +145,7 @@ module _ (s : FolderSet) (a : List ℕ) (w : Means s a) (lent : List ℕ) (long 
   left-refused : (r : Refusal) → fileReport s report ≡ refused r → fileLeft a lent c report ≡ started a lent
   left-refused r e = left-is ∙ ap (λ (x : Filed). leftIn (started a lent) (storedOf s rest x)) e
 
-  left-filed : (m : State) → fileReport s report ≡ filed m → fileLeft a lent c report ≡ leftOf s rest m
+  pub left-filed : (m : State) → fileReport s report ≡ filed m → fileLeft a lent c report ≡ leftOf s rest m
   left-filed m e = left-is ∙ ap (λ (x : Filed). leftIn (started a lent) (storedOf s rest x)) e
 
   run-left : (t : Left) → fileLeft a lent c report ≡ t → run' ≡ t .bytes
@@ -182,7 +182,7 @@ module _ (s : FolderSet) (a : List ℕ) (w : Means s a) (lent : List ℕ) (long 
   run-end (refused r) e = run-left (leftOf s rest (fresh s)) (left-refused r e ∙ start-stored s a w lent)
   run-end (filed m) e = run-left (leftOf s rest m) (left-filed m e)
 
-  few-end : (x : Filed) → fileReport s report ≡ x → Few s (endOf s x) []
+  pub few-end : (x : Filed) → fileReport s report ≡ x → Few s (endOf s x) []
   few-end (refused r) e = fresh-few s
   few-end (filed m) e =
       let d = of-document s report m (filed-is s report m .0 e) in

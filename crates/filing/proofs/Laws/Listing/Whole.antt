@@ -29,10 +29,13 @@ module _ (s : FolderSet) (a : List ℕ) (m : Means s a) (st : State) (few : Few 
   same : listingIn a run (countersOf st) ≡ listing s st
   same = listing-same s a m st few rest (countersOf st) refl refl
 
+  pub listing-fits : length (listing s st) ≤ listingSize
+  listing-fits = listing-short s (m .fit) st (few .0 .few) (few .1)
+
   has-room : heldRefusal (listing s st) ≡ 0
   unfolding heldRefusal given
   has-room =
-      let t : ltb listingSize (length (listing s st)) ≡ false = le-ltb listingSize (length (listing s st)) (listing-short s (m .fit) st (few .0 .few) (few .1)) in
+      let t : ltb listingSize (length (listing s st)) ≡ false = le-ltb listingSize (length (listing s st)) listing-fits in
       rw t
 
   lent : (out : List ℕ) → listingSize ≤ length out → given (lentConditions a run (countersOf st) (length out)) ≡ 0

@@ -1,0 +1,210 @@
+-- From what is stored to what is printed: of an accepted set and a report, and of any text.
+use Prim.Native.Nat.{ℕ, zero, suc, _≤_, _<_}
+use mathlib.Core.Path.{_≡_, refl, sym, ap, _∙_, subst}
+use mathlib.Core.Bool.{Bool, true, false, _||_, true≢false}
+use mathlib.Core.List.{List, _++_}
+use lib.Dec.{eqb, ltb}
+use lib.ListN.{length, drop}
+use lib.Seq.{sets-eq}
+use borrow.Author.Tests.{eqb-true, eqb-false, le-ltb, ltb-false}
+use native.Mathlib.Nat.{zero-add}
+use native.Mathlib.Omega.{arith}
+use Rattle.notation.specs.Sets.{FolderSet}
+use Rattle.notation.specs.Scan.{refusalOf}
+use Rattle.notation.specs.Refusals.{Refusal, shortBuffer, oversize, bentForm, outOfTurn, longName, longPath, full, foreignByte, torn, looseEnd, tooDeep, crossed, noSuchPlace, strangeShape, numberOf}
+use Rattle.notation.specs.Accepted.{Accepted}
+use Rattle.notation.proofs.Laws.Refused.AcceptedSet.{accepted-set, accepted-is}
+use Rattle.notation.proofs.Laws.Refused.Refusals.{refusal-low}
+use Rattle.machine.specs.Automaton.{automatonOf, automatonSize}
+use Rattle.machine.specs.Run.{runSize}
+use Rattle.machine.specs.RunCalls.{given, noCounters}
+use Rattle.machine.specs.Build.{buildAnswer, Built}
+use Rattle.machine.specs.Demand3.{Left}
+use Rattle.machine.specs.declared.answers.Written.{Written}
+use Rattle.machine.specs.declared.counters.Counters.{Counters}
+use Rattle.machine.proofs.Laws.Basics.{cases}
+use Rattle.machine.proofs.Laws.Running.Means.{Means, means}
+use Rattle.filing.specs.Limits.{listingSize}
+use Rattle.filing.specs.Filing.{Filed, refused, filed, numberGiven, fileReport}
+use Rattle.filing.specs.FileCall.{fileAnswer, fileLeft, Files}
+use Rattle.filing.specs.FiledReport.{Demand2Bytes}
+use Rattle.filing.specs.Listing.{listing, refusedLine, printed, filerPrints}
+use Rattle.filing.specs.Listed.{Writes, ListingWritten, refusedRefusal, RefusedWritten}
+use Rattle.filing.specs.Filer.{tooSmall, PrintsText, Prints, OutcomeWritten, FiledAndListed}
+use Rattle.filing.proofs.Laws.Filing.FromBytes.{some-number, answer-is, left-filed, few-end, demand2-bytes}
+use Rattle.filing.proofs.Laws.Listing.Whole.{listing-fits, listing-written}
+use Rattle.filing.proofs.Laws.Listing.Written.{refused-short}
+
+-- where nothing is too small
+module _ (a run out : List ℕ) (h : tooSmall a run out ≡ false) where
+  none-small : (ltb (length a) automatonSize ≡ false) × ((ltb (length run) runSize ≡ false) × (ltb (length out) listingSize ≡ false))
+  unfolding tooSmall
+  none-small = go (ltb (length a) automatonSize) (ltb (length run) runSize) (ltb (length out) listingSize) h
+    where
+      go : (p q r : Bool) → ((p || q) || r) ≡ false → (p ≡ false) × ((q ≡ false) × (r ≡ false))
+      go false false r e = (refl, (refl, e))
+      go false true r e = absurd (true≢false e)
+      go true q r e = absurd (true≢false e)
+
+  build-as-read : (text : List ℕ) → buildAnswer (length a) text ≡ refusalOf text
+  unfolding buildAnswer
+  build-as-read text = rw (none-small .0)
+
+  run-room : runSize ≤ length run
+  run-room = ltb-false (length run) runSize (none-small .1 .0)
+
+  out-room : listingSize ≤ length out
+  out-room = ltb-false (length out) listingSize (none-small .1 .1)
+
+-- a text no longer than a listing, in a buffer of a listing's size
+text-printed : (text out after : List ℕ) (answer : Written) → length text ≤ listingSize → listingSize ≤ length out → Writes 0 text out answer after
+    → PrintsText text out answer after
+text-printed text out after answer fits room w = record {
+  fits = fits;
+  answers = w .answers;
+  leaves = w .leaves ∙ (sets-eq text out 0 (omega arith) ∙ ap (λ (k : ℕ). text ++ drop k out) (zero-add (length text)));
+}
+
+-- a refusal's line
+line-printed : (n : ℕ) (out after : List ℕ) (answer : Written) → n < 256 → listingSize ≤ length out → RefusedWritten n out answer after
+    → PrintsText (refusedLine n) out answer after
+unfolding refusedRefusal given
+line-printed n out after answer h room w =
+    let t : ltb (length out) listingSize ≡ false = le-ltb (length out) listingSize room in
+    text-printed (refusedLine n) out after answer (refused-short n h) room (rw t at w)
+
+number-byte : (r : Refusal) → numberOf r < 256
+number-byte shortBuffer = omega arith
+number-byte oversize = omega arith
+number-byte bentForm = omega arith
+number-byte outOfTurn = omega arith
+number-byte longName = omega arith
+number-byte longPath = omega arith
+number-byte full = omega arith
+number-byte foreignByte = omega arith
+number-byte torn = omega arith
+number-byte looseEnd = omega arith
+number-byte tooDeep = omega arith
+number-byte crossed = omega arith
+number-byte noSuchPlace = omega arith
+number-byte strangeShape = omega arith
+
+outcome-line : (n : ℕ) (a run : List ℕ) (c : Counters) (out after : List ℕ) (answer : Written)
+    → (n ≡ 0 → ⊥) → OutcomeWritten n a run c out answer after → RefusedWritten n out answer after
+outcome-line zero a run c out after answer h w = absurd (h refl)
+outcome-line (suc n) a run c out after answer h w = w
+
+-- `list_filed`
+pub refused-listed : (n : ℕ) (a run : List ℕ) (c : Counters) (out after : List ℕ) (answer : Written)
+    → (n ≡ 0 → ⊥) → RefusedWritten n out answer after → OutcomeWritten n a run c out answer after
+refused-listed zero a run c out after answer h w = absurd (h refl)
+refused-listed (suc n) a run c out after answer h w = w
+
+pub none-refused : (n : ℕ) (a run : List ℕ) (c : Counters) (out after : List ℕ) (answer : Written)
+    → n ≡ 0 → ListingWritten a run c out answer after → OutcomeWritten n a run c out answer after
+none-refused zero a run c out after answer h w = w
+none-refused (suc n) a run c out after answer h w = absurd (omega arith)
+
+-- `file_and_list`
+pub filed-listed : (a run report out run' after : List ℕ) (n : ℕ) (c' : Counters) (answer : Written)
+    → Files a run noCounters report n run' c' → OutcomeWritten n a run' c' out answer after → FiledAndListed a run report out answer run' after
+filed-listed a run report out run' after n c' answer f w = record {
+  runAfter = f .runAfter;
+  written = rw (f .answers, f .countersAfter) at w;
+}
+
+-- of an accepted set
+module _ (text : List ℕ) (s : FolderSet) (acc : Accepted text s) (behind run report : List ℕ) (long : runSize ≤ length run) where
+  abbrev a : List ℕ
+  a = automatonOf s ++ behind
+
+  abbrev left : Left
+  left = fileLeft a run noCounters report
+
+  w : Means s a
+  w = means text s acc behind
+
+  files : Files a run noCounters report (fileAnswer a run report) (left .bytes) (left .counters)
+  files = record { answers = refl; runAfter = refl; countersAfter = refl }
+
+  number : fileAnswer a run report ≡ numberGiven (fileReport s report)
+  number = answer-is s a w run long noCounters report (fileAnswer a run report) (left .bytes) (left .counters) files
+
+  module _ (out after : List ℕ) (answer : Written) (room : listingSize ≤ length out) where
+    outcome-printed : (x : Filed) → fileReport s report ≡ x → OutcomeWritten (fileAnswer a run report) a (left .bytes) (left .counters) out answer after
+        → PrintsText (printed s x) out answer after
+    outcome-printed (refused r) e h =
+        let n : fileAnswer a run report ≡ numberOf r = number ∙ ap numberGiven e in
+        line-printed (numberOf r) out after answer (number-byte r) room
+        (outcome-line (numberOf r) a (left .bytes) (left .counters) out after answer (some-number r)
+        (subst (λ (k : ℕ). OutcomeWritten k a (left .bytes) (left .counters) out answer after) n h))
+    outcome-printed (filed m) e h =
+        let n : fileAnswer a run report ≡ 0 = number ∙ ap numberGiven e in
+        let t = left-filed s a w run long noCounters report (fileAnswer a run report) (left .bytes) (left .counters) files m e in
+        let few = few-end s a w run long noCounters report (fileAnswer a run report) (left .bytes) (left .counters) files (filed m) e in
+        let v : OutcomeWritten 0 a (left .bytes) (left .counters) out answer after =
+        subst (λ (k : ℕ). OutcomeWritten k a (left .bytes) (left .counters) out answer after) n h in
+        text-printed (listing s m) out after answer (listing-fits s a w m few (drop runSize run)) room
+        (listing-written s a w m few (drop runSize run) out after answer room
+        (subst (λ (x : Left). ListingWritten a (x .bytes) (x .counters) out answer after) t v))
+
+    filing-printed : (run' : List ℕ) → FiledAndListed a run report out answer run' after → PrintsText (filerPrints s report) out answer after
+    filing-printed run' f =
+        outcome-printed (fileReport s report) refl
+        (subst (λ (x : List ℕ). OutcomeWritten (fileAnswer a run report) a x (left .counters) out answer after) (f .runAfter) (f .written))
+
+-- `print_set`, and then `print_filing`
+module _ (text report a run out : List ℕ) where
+  pub too-small : tooSmall a run out ≡ true → Prints text report a run out (Written.Refused 1) a run out
+  too-small h = record {
+    short = λ _. (refl, (refl, (refl, refl)));
+    refusedSet = λ f _. absurd (true≢false (sym h ∙ f));
+    filedSet = λ f _ _. absurd (true≢false (sym h ∙ f));
+  }
+
+  module _ (a' : List ℕ) (n : ℕ) (answer : Written) (h : tooSmall a run out ≡ false) (b : Built text a n a') where
+    number-read : n ≡ refusalOf text
+    number-read = b .answers ∙ build-as-read a run out h text
+
+    pub set-refused : (n ≡ 0 → ⊥) → (after : List ℕ) → RefusedWritten n out answer after → Prints text report a run out answer a' run after
+    set-refused z after w = record {
+      short = λ t. absurd (true≢false (sym t ∙ h));
+      refusedSet = λ _ _. (
+        line-printed (refusalOf text) out after answer (omega (arith, refusal-low text)) (out-room a run out h)
+            (subst (λ (k : ℕ). RefusedWritten k out answer after) number-read w),
+        (b .keeps z, refl),
+      );
+      filedSet = λ _ s acc. absurd (z (number-read ∙ accepted-is text s acc));
+    }
+
+    pub set-filed : n ≡ 0 → (run' after : List ℕ) → FiledAndListed a' run report out answer run' after → Prints text report a run out answer a' run' after
+    set-filed z run' after f = record {
+      short = λ t. absurd (true≢false (sym t ∙ h));
+      refusedSet = λ _ r. absurd (r (sym number-read ∙ z));
+      filedSet = λ _ s acc.
+          let e = b .leaves z s acc in
+          let g = subst (λ (x : List ℕ). FiledAndListed x run report out answer run' after) e f in (
+            filing-printed text s acc (drop automatonSize a) run report (run-room a run out h) out after answer (out-room a run out h) run' g,
+            (e, f .runAfter),
+          );
+    }
+
+  -- the cases are all: in buffers of their sizes a text is printed
+  pub some-printed : (answer : Written) (a' run' out' : List ℕ) → Prints text report a run out answer a' run' out' → tooSmall a run out ≡ false
+      → (shown : List ℕ) × PrintsText shown out answer out'
+  some-printed answer a' run' out' p h =
+      cases (eqb (refusalOf text) 0)
+      (λ z.
+      let (s, acc) = accepted-set text (eqb-true (refusalOf text) 0 z) in
+      (filerPrints s report, p .filedSet h s acc .0))
+      (λ z. (refusedLine (refusalOf text), p .refusedSet h (eqb-false (refusalOf text) 0 z) .0))
+
+  -- an accepted set's printed call is demand 2's filing
+  pub demand2-printed : (answer : Written) (a' run' out' : List ℕ) → Prints text report a run out answer a' run' out' → tooSmall a run out ≡ false
+      → (s : FolderSet) → Accepted text s → Demand2Bytes s a' report run (fileAnswer a' run report) run' (fileLeft a' run noCounters report .counters)
+  demand2-printed answer a' run' out' p h s acc =
+      let q = p .filedSet h s acc in
+      let left = fileLeft (automatonOf s ++ drop automatonSize a) run noCounters report in
+      rw (q .1 .1, q .1 .0)
+      (demand2-bytes text s acc (drop automatonSize a) run (run-room a run out h) noCounters report _ (left .bytes) (left .counters)
+      (record { answers = refl; runAfter = refl; countersAfter = refl }))
