@@ -11,3 +11,4 @@ pub mod Limits
 pub mod Filing
 pub mod Demand2
 pub mod FileCall
+pub mod Taking

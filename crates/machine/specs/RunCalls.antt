@@ -80,35 +80,37 @@ startConditions a run = gives (tooShort a run) shortBuffer ∷ gives (not (autom
 abbrev pub rootShut : List ℕ → Counters → Bool
 rootShut run c = not (eqb (c .opens) 0) && eqb (depthOf run) 0
 
--- those that open and close begin with
-abbrev pub callConditions : List ℕ → List ℕ → Counters → Name → List Condition
-callConditions a run c e =
-    gives (tooShort a run) shortBuffer
-    ∷ gives (not (shaped a run c)) strangeShape
-    ∷ gives (not (nameForm e)) torn
-    ∷ gives (tooLong e) longName
-    ∷ []
+-- those of what is lent, with which open and close begin
+abbrev pub lentConditions : List ℕ → List ℕ → Counters → List Condition
+lentConditions a run c = gives (tooShort a run) shortBuffer ∷ gives (not (shaped a run c)) strangeShape ∷ []
 
-abbrev pub openConditions : List ℕ → List ℕ → Counters → Name → List Condition
-openConditions a run c e =
-    gives (tooShort a run) shortBuffer
-    ∷ gives (not (shaped a run c)) strangeShape
-    ∷ gives (not (nameForm e)) torn
+-- those of the name, which are next
+abbrev pub nameConditions : Name → List Condition
+nameConditions e = gives (not (nameForm e)) torn ∷ gives (tooLong e) longName ∷ []
+
+-- all others of an open, and of a close
+abbrev pub openOthers : List ℕ → Counters → Name → List Condition
+openOthers run c e =
+    gives (not (nameForm e)) torn
     ∷ gives (tooLong e) longName
     ∷ gives (rootShut run c) looseEnd
     ∷ gives (leb maxDepth (depthOf run)) tooDeep
     ∷ gives (leb maxOpens (c .opens)) full
     ∷ []
 
-abbrev pub closeConditions : List ℕ → List ℕ → Counters → Name → List Condition
-closeConditions a run c e =
-    gives (tooShort a run) shortBuffer
-    ∷ gives (not (shaped a run c)) strangeShape
-    ∷ gives (not (nameForm e)) torn
+abbrev pub closeOthers : List ℕ → Name → List Condition
+closeOthers run e =
+    gives (not (nameForm e)) torn
     ∷ gives (tooLong e) longName
     ∷ gives (eqb (depthOf run) 0) looseEnd
     ∷ gives (not (sameName (storedName run (depthOf run)) e)) crossed
     ∷ []
+
+abbrev pub openConditions : List ℕ → List ℕ → Counters → Name → List Condition
+openConditions a run c e = gives (tooShort a run) shortBuffer ∷ gives (not (shaped a run c)) strangeShape ∷ openOthers run c e
+
+abbrev pub closeConditions : List ℕ → List ℕ → Counters → Name → List Condition
+closeConditions a run c e = gives (tooShort a run) shortBuffer ∷ gives (not (shaped a run c)) strangeShape ∷ closeOthers run e
 
 unfoldable pub startRefusal : List ℕ → List ℕ → ℕ
 startRefusal a run = given (startConditions a run)

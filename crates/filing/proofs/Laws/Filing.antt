@@ -4,3 +4,5 @@ pub mod FilingRun
 pub mod FilingAdded
 pub mod FilingChildless
 pub mod Demand2
+pub mod Restart
+pub mod Taking

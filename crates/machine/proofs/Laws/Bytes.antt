@@ -8,3 +8,4 @@ pub mod Tabulate
 pub mod Stores
 pub mod AllBelow
 pub mod Finding
+pub mod Beside

@@ -14,3 +14,4 @@ pub mod Asking
 pub mod Means
 pub mod Following
 pub mod Demand3
+pub mod Restart

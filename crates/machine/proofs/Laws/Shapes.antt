@@ -6,3 +6,4 @@ pub mod CounterShape
 pub mod Passing
 pub mod MadeShape
 pub mod Given
+pub mod Kept

@@ -9,7 +9,7 @@ use notation::put;
 ghost use mathlib.Core.Path.{_≡_};
 ghost use Prim.Native.Nat.{_<_};
 ghost use Rattle.machine.specs.RunContracts.{Closes, ClosesBy};
-ghost use Rattle.machine.specs.Openable.{Ready};
+ghost use Rattle.machine.specs.Openable.{Ready, Usable};
 ghost use Rattle.machine.specs.RunCalls.{depthOf, closeRun};
 
 // A close that is accepted: for callers that know the shape of automaton and run, and that an element is open. The row of the innermost
@@ -25,11 +25,12 @@ pub fn close_on(a: &[u8], run: &mut [u8])
     put::put16(run, 0, d - 1);
 }
 
-// The close, with the counters by value.
-pub fn close_by(a: &[u8], run: &mut [u8], counters: Counters, e: &[u8]) -> ClosedBy
+// The close, for callers that know that automaton, run and counters pass the shape test.
+pub fn close_usable(a: &[u8], run: &mut [u8], counters: Counters, e: &[u8]) -> ClosedBy
+    requires { ⌜ Usable (now a) (now run) counters ⌝ }
     ensures { λ r. ⌜ ClosesBy (now (a .entry)) (now (run .entry)) counters (now (e .entry)) r (now (run .exit)) ⌝ }
 {
-    let refused = refusals::close_refusal(a, run, counters, e);
+    let refused = refusals::close_others(a, run, e);
     if refused != 0 {
         return ClosedBy {
             refusal: refused,
@@ -45,6 +46,20 @@ pub fn close_by(a: &[u8], run: &mut [u8], counters: Counters, e: &[u8]) -> Close
             moves: counters.moves,
         },
     }
+}
+
+// The close, with the counters by value.
+pub fn close_by(a: &[u8], run: &mut [u8], counters: Counters, e: &[u8]) -> ClosedBy
+    ensures { λ r. ⌜ ClosesBy (now (a .entry)) (now (run .entry)) counters (now (e .entry)) r (now (run .exit)) ⌝ }
+{
+    let refused = refusals::lent_refusal(a, run, counters);
+    if refused != 0 {
+        return ClosedBy {
+            refusal: refused,
+            counters: counters,
+        };
+    }
+    close_usable(a, run, counters, e)
 }
 
 // The close, on counters that are lent.

@@ -21,7 +21,7 @@ ghost use Rattle.notation.specs.Limits.{maxName, maxSteps};
 ghost use Rattle.machine.specs.Limits.{maxDepth};
 ghost use Rattle.machine.specs.Automaton.{maskSize, hash};
 ghost use Rattle.machine.specs.RunContracts.{Opens, OpensBy};
-ghost use Rattle.machine.specs.Openable.{Openable, Ready};
+ghost use Rattle.machine.specs.Openable.{Openable, Ready, Usable};
 ghost use Rattle.machine.specs.Run.{runSize};
 ghost use Rattle.machine.specs.RunCalls.{depthOf, usedBytes, usedBits, nowActive, nowSeen, nowMatched, openRun, openWalk, storedOpen};
 
@@ -107,11 +107,12 @@ pub fn open_on(a: &[u8], run: &mut [u8], e: &[u8]) -> Walk
     walked
 }
 
-// The open, with the counters by value.
-pub fn open_by(a: &[u8], run: &mut [u8], counters: Counters, e: &[u8]) -> OpenedBy
+// The open, for callers that know that automaton, run and counters pass the shape test.
+pub fn open_usable(a: &[u8], run: &mut [u8], counters: Counters, e: &[u8]) -> OpenedBy
+    requires { ⌜ Usable (now a) (now run) counters ⌝ }
     ensures { λ r. ⌜ OpensBy (now (a .entry)) (now (run .entry)) counters (now (e .entry)) r (now (run .exit)) ⌝ }
 {
-    let refused = refusals::open_refusal(a, run, counters, e);
+    let refused = refusals::open_others(run, counters, e);
     if refused != 0 {
         return OpenedBy {
             answer: Opened::Refused(refused),
@@ -127,6 +128,20 @@ pub fn open_by(a: &[u8], run: &mut [u8], counters: Counters, e: &[u8]) -> Opened
             moves: counters.moves + walked.moves,
         },
     }
+}
+
+// The open, with the counters by value.
+pub fn open_by(a: &[u8], run: &mut [u8], counters: Counters, e: &[u8]) -> OpenedBy
+    ensures { λ r. ⌜ OpensBy (now (a .entry)) (now (run .entry)) counters (now (e .entry)) r (now (run .exit)) ⌝ }
+{
+    let refused = refusals::lent_refusal(a, run, counters);
+    if refused != 0 {
+        return OpenedBy {
+            answer: Opened::Refused(refused),
+            counters: counters,
+        };
+    }
+    open_usable(a, run, counters, e)
 }
 
 // The open, on counters that are lent.

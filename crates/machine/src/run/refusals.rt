@@ -12,7 +12,7 @@ ghost use mathlib.Core.Path.{_≡_};
 ghost use mathlib.Core.Bool.{_&&_};
 ghost use Prim.Native.Nat.{_≤_};
 ghost use Rattle.machine.specs.Shape.{automatonShaped};
-ghost use Rattle.machine.specs.RunCalls.{depthOf, storedName, runShaped, shaped, rootShut, given, callConditions, openRefusal, closeRefusal};
+ghost use Rattle.machine.specs.RunCalls.{depthOf, storedName, runShaped, shaped, rootShut, given, lentConditions, nameConditions, openOthers, closeOthers};
 ghost use Rattle.machine.specs.Asking.{askRefusal};
 ghost use Rattle.machine.specs.Openable.{Ready};
 
@@ -46,9 +46,9 @@ pub fn stored_name<'a, 'r>(a: &'a [u8], run: &'r [u8], d: usize) -> &'r [u8]
     &run[from..to]
 }
 
-// 1, 14, 9, 5, with which open and close begin.
-fn call_refusal(a: &[u8], run: &[u8], c: Counters, e: &[u8]) -> u8
-    ensures { λ r. ⌜ r ≡ given (callConditions (now (a .entry)) (now (run .entry)) c (now (e .entry))) ⌝ }
+// 1, 14, with which open and close begin.
+pub fn lent_refusal(a: &[u8], run: &[u8], c: Counters) -> u8
+    ensures { λ r. ⌜ r ≡ given (lentConditions (now (a .entry)) (now (run .entry)) c) ⌝ }
 {
     if a.len() < AUTOMATON_SIZE {
         return 1;
@@ -59,6 +59,13 @@ fn call_refusal(a: &[u8], run: &[u8], c: Counters, e: &[u8]) -> u8
     if !all_shaped(a, run, c) {
         return 14;
     }
+    0
+}
+
+// 9, 5, which are next.
+fn name_refusal(e: &[u8]) -> u8
+    ensures { λ r. ⌜ r ≡ given (nameConditions (now (e .entry))) ⌝ }
+{
     if !names::name_form(e) {
         return 9;
     }
@@ -78,11 +85,11 @@ fn root_shut(run: &[u8], c: Counters) -> bool
     shape::depth(run) == 0
 }
 
-// An open's: 1, 14, 9, 5, 10, 11, 7.
-pub fn open_refusal(a: &[u8], run: &[u8], c: Counters, e: &[u8]) -> u8
-    ensures { λ r. ⌜ r ≡ openRefusal (now (a .entry)) (now (run .entry)) c (now (e .entry)) ⌝ }
+// An open's others: 9, 5, 10, 11, 7.
+pub fn open_others(run: &[u8], c: Counters, e: &[u8]) -> u8
+    ensures { λ r. ⌜ r ≡ given (openOthers (now (run .entry)) c (now (e .entry))) ⌝ }
 {
-    let first = call_refusal(a, run, c, e);
+    let first = name_refusal(e);
     if first != 0 {
         return first;
     }
@@ -98,11 +105,12 @@ pub fn open_refusal(a: &[u8], run: &[u8], c: Counters, e: &[u8]) -> u8
     0
 }
 
-// A close's: 1, 14, 9, 5, 10, 12.
-pub fn close_refusal(a: &[u8], run: &[u8], c: Counters, e: &[u8]) -> u8
-    ensures { λ r. ⌜ r ≡ closeRefusal (now (a .entry)) (now (run .entry)) c (now (e .entry)) ⌝ }
+// A close's others: 9, 5, 10, 12.
+pub fn close_others(a: &[u8], run: &[u8], e: &[u8]) -> u8
+    requires { ⌜ Ready (now a) (now run) ⌝ }
+    ensures { λ r. ⌜ r ≡ given (closeOthers (now (run .entry)) (now (e .entry))) ⌝ }
 {
-    let first = call_refusal(a, run, c, e);
+    let first = name_refusal(e);
     if first != 0 {
         return first;
     }

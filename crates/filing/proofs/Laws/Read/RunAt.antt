@@ -23,7 +23,7 @@ run-is bytes = (λ t. from (readReport bytes) refl t, λ run. ap isGot (run-foun
     from fail e t = absurd (false≢true t)
     from (got ts r) e t = found-run bytes ts r e
 
-shown-end : (t : Token) (at e : ℕ) → foundEnd (shown t at e) ≡ e
+pub shown-end : (t : Token) (at e : ℕ) → foundEnd (shown t at e) ≡ e
 shown-end declaration at e = refl
 shown-end (comment c) at e = refl
 shown-end (startTag n l b) at e = refl
@@ -31,7 +31,7 @@ shown-end (emptyTag n l b) at e = refl
 shown-end (endTag n b) at e = refl
 shown-end (text ps) at e = refl
 
-shown-declares : (t : Token) (at e : ℕ) → declares (shown t at e) ≡ isDeclaration t
+pub shown-declares : (t : Token) (at e : ℕ) → declares (shown t at e) ≡ isDeclaration t
 shown-declares declaration at e = refl
 shown-declares (comment c) at e = refl
 shown-declares (startTag n l b) at e = refl

@@ -7,7 +7,7 @@ use native.Mathlib.Omega.{arith}
 use lib.Dec.{leb, ltb, eqb}
 use lib.ListN.{length, drop, set, replicate, length-set, length-replicate}
 use lib.Seq.{sets, set-append-left}
-use borrow.Author.Tests.{ltb-false, not-true, not-false, leb-false, eq-eqb, ne-eqb}
+use borrow.Author.Tests.{le-ltb, ltb-false, not-false, leb-false, eq-eqb, ne-eqb}
 use Rattle.notation.specs.Names.{Name, nameForm, tooLong}
 use Rattle.notation.specs.Limits.{maxName}
 use Rattle.notation.specs.Layout.{le16}
@@ -19,9 +19,9 @@ use Rattle.machine.specs.Automaton.{automatonSize}
 use Rattle.machine.specs.Tables.{startOf}
 use Rattle.machine.specs.Shape.{automatonShaped}
 use Rattle.machine.specs.Run.{rowAt, rowsAt, rowSize, runSize, stateIn}
-use Rattle.machine.specs.RunCalls.{depthOf, storedName, runShaped, countersShaped, shaped, given, tooShort, callConditions, rootShut, startRefusal, openRefusal, closeRefusal, startRun}
+use Rattle.machine.specs.RunCalls.{depthOf, storedName, runShaped, countersShaped, shaped, given, tooShort, lentConditions, nameConditions, openOthers, closeOthers, rootShut, startRefusal, openRefusal, closeRefusal, startRun}
 use Rattle.machine.specs.Asking.{askRefusal}
-use Rattle.machine.specs.Openable.{Ready}
+use Rattle.machine.specs.Openable.{Ready, Usable}
 use Rattle.machine.specs.declared.counters.Counters.{Counters}
 use Rattle.machine.proofs.Laws.Basics.{both}
 
@@ -142,32 +142,67 @@ given-append [] y = refl
 given-append (gives true r ∷ x) y = rw (numbered r)
 given-append (gives false r ∷ x) y = given-append x y
 
+first-given : (x y : List Condition) → (given x ≡ 0 → ⊥) → given (x ++ y) ≡ given x
+first-given x y n = given-append x y ∙ rw (ne-eqb (given x) 0 n)
+
+then-given : (x y : List Condition) → given x ≡ 0 → given (x ++ y) ≡ given y
+then-given x y z = given-append x y ∙ rw (eq-eqb (given x) 0 z)
+
+-- what passes the shape test, by the conditions of what is lent
+pub lent-usable : (a run : List ℕ) (c : Counters) → given (lentConditions a run c) ≡ 0 → Usable a run c
+unfolding shaped
+lent-usable a run c h =
+    let s = unmet (tooShort a run) shortBuffer _ (λ z. omega arith) h in
+    let t = unmet (not (shaped a run c)) strangeShape _ (λ z. omega arith) (s .1) in
+    let l = long-enough a run (s .0) in
+    let f = both (automatonShaped a) (runShaped a run && countersShaped run c) (not-false _ (t .0)) in
+    let g = both (runShaped a run) (countersShaped run c) (f .1) in
+    record { ready = record { size = l .0; shaped = f .0; runLength = l .1; runIsShaped = g .0 }; counts = g .1 }
+
+pub usable-lent : (a run : List ℕ) (c : Counters) → Usable a run c → given (lentConditions a run c) ≡ 0
+unfolding given shaped
+usable-lent a run c u =
+    rw (
+      le-ltb (length a) automatonSize (u .ready .size),
+      le-ltb (length run) runSize (u .ready .runLength),
+      u .ready .shaped,
+      u .ready .runIsShaped,
+      u .counts,
+    )
+
 module _ (a run : List ℕ) (c : Counters) (e : Name) where
-  pub open-first : (given (callConditions a run c e) ≡ 0 → ⊥) → openRefusal a run c e ≡ given (callConditions a run c e)
+  pub open-lent : (given (lentConditions a run c) ≡ 0 → ⊥) → openRefusal a run c e ≡ given (lentConditions a run c)
   unfolding openRefusal
-  open-first n = given-append (callConditions a run c e) (gives (rootShut run c) looseEnd ∷ gives (leb maxDepth (depthOf run)) tooDeep ∷ gives (leb maxOpens (c .opens)) full ∷ []) ∙ rw (ne-eqb (given (callConditions a run c e)) 0 n)
+  open-lent n = first-given (lentConditions a run c) (openOthers run c e) n
 
-  pub open-then : given (callConditions a run c e) ≡ 0 → openRefusal a run c e ≡ given (gives (rootShut run c) looseEnd ∷ gives (leb maxDepth (depthOf run)) tooDeep ∷ gives (leb maxOpens (c .opens)) full ∷ [])
+  pub close-lent : (given (lentConditions a run c) ≡ 0 → ⊥) → closeRefusal a run c e ≡ given (lentConditions a run c)
+  unfolding closeRefusal
+  close-lent n = first-given (lentConditions a run c) (closeOthers run e) n
+
+  -- of what passes the shape test only the others are left
+  pub open-others : Usable a run c → openRefusal a run c e ≡ given (openOthers run c e)
   unfolding openRefusal
-  open-then z = given-append (callConditions a run c e) (gives (rootShut run c) looseEnd ∷ gives (leb maxDepth (depthOf run)) tooDeep ∷ gives (leb maxOpens (c .opens)) full ∷ []) ∙ rw (eq-eqb (given (callConditions a run c e)) 0 z)
+  open-others u = then-given (lentConditions a run c) (openOthers run c e) (usable-lent a run c u)
 
-  pub close-first : (given (callConditions a run c e) ≡ 0 → ⊥) → closeRefusal a run c e ≡ given (callConditions a run c e)
+  pub close-others : Usable a run c → closeRefusal a run c e ≡ given (closeOthers run e)
   unfolding closeRefusal
-  close-first n = given-append (callConditions a run c e) (gives (eqb (depthOf run) 0) looseEnd ∷ gives (not (sameName (storedName run (depthOf run)) e)) crossed ∷ []) ∙ rw (ne-eqb (given (callConditions a run c e)) 0 n)
+  close-others u = then-given (lentConditions a run c) (closeOthers run e) (usable-lent a run c u)
 
-  pub close-then : given (callConditions a run c e) ≡ 0 → closeRefusal a run c e ≡ given (gives (eqb (depthOf run) 0) looseEnd ∷ gives (not (sameName (storedName run (depthOf run)) e)) crossed ∷ [])
-  unfolding closeRefusal
-  close-then z = given-append (callConditions a run c e) (gives (eqb (depthOf run) 0) looseEnd ∷ gives (not (sameName (storedName run (depthOf run)) e)) crossed ∷ []) ∙ rw (eq-eqb (given (callConditions a run c e)) 0 z)
+module _ (run : List ℕ) (c : Counters) (e : Name) where
+  pub open-name : (given (nameConditions e) ≡ 0 → ⊥) → given (openOthers run c e) ≡ given (nameConditions e)
+  open-name n = first-given (nameConditions e) (gives (rootShut run c) looseEnd ∷ gives (leb maxDepth (depthOf run)) tooDeep ∷ gives (leb maxOpens (c .opens)) full ∷ []) n
 
-  pub may-call : given (callConditions a run c e) ≡ 0 → Ready a run
-  unfolding shaped
-  may-call h =
-      let s = unmet (tooShort a run) shortBuffer _ (λ z. omega arith) h in
-      let t = unmet (not (shaped a run c)) strangeShape _ (λ z. omega arith) (s .1) in
-      let l = long-enough a run (s .0) in
-      let f = both (automatonShaped a) (runShaped a run && countersShaped run c) (not-false _ (t .0)) in
-      let g = both (runShaped a run) (countersShaped run c) (f .1) in
-      record { size = l .0; shaped = f .0; runLength = l .1; runIsShaped = g .0 }
+  pub open-named : given (nameConditions e) ≡ 0
+      → given (openOthers run c e) ≡ given (gives (rootShut run c) looseEnd ∷ gives (leb maxDepth (depthOf run)) tooDeep ∷ gives (leb maxOpens (c .opens)) full ∷ [])
+  open-named z = then-given (nameConditions e) (gives (rootShut run c) looseEnd ∷ gives (leb maxDepth (depthOf run)) tooDeep ∷ gives (leb maxOpens (c .opens)) full ∷ []) z
+
+module _ (run : List ℕ) (e : Name) where
+  pub close-name : (given (nameConditions e) ≡ 0 → ⊥) → given (closeOthers run e) ≡ given (nameConditions e)
+  close-name n = first-given (nameConditions e) (gives (eqb (depthOf run) 0) looseEnd ∷ gives (not (sameName (storedName run (depthOf run)) e)) crossed ∷ []) n
+
+  pub close-named : given (nameConditions e) ≡ 0
+      → given (closeOthers run e) ≡ given (gives (eqb (depthOf run) 0) looseEnd ∷ gives (not (sameName (storedName run (depthOf run)) e)) crossed ∷ [])
+  close-named z = then-given (nameConditions e) (gives (eqb (depthOf run) 0) looseEnd ∷ gives (not (sameName (storedName run (depthOf run)) e)) crossed ∷ []) z
 
 -- a fresh run
 sets-left : (v x y : List ℕ) (i : ℕ) → i + length v ≤ length x → sets (x ++ y) i v ≡ sets x i v ++ y

@@ -1,71 +1,47 @@
-use native.Mathlib.Omega.{arith}
-use mathlib.Core.Path.{_≡_, refl, sym, _∙_, ap}
-use mathlib.Core.Bool.{true, false}
-use Prim.Native.Nat.{ℕ, suc, zero, _+_}
+use mathlib.Core.Path.{_≡_, sym, _∙_, ap}
+use mathlib.Core.Bool.{false}
+use Prim.Native.Nat.{ℕ}
 use lib.Dec.{eqb}
-use borrow.Author.Tests.{eq-eqb, ne-eqb, eqb-false}
-use Rattle.notation.specs.Limits.{maxSteps}
-use Rattle.machine.specs.Limits.{maxOpens}
-use Rattle.machine.specs.RunCalls.{openRefusal, openCounters, openWalk}
-use Rattle.machine.specs.declared.counters.Counters.{Counters}
+use borrow.Author.Tests.{ne-eqb}
+use Rattle.machine.specs.RunCalls.{openRefusal}
 use Rattle.machine.specs.declared.answers.Opened.{Opened}
-use Rattle.machine.specs.declared.walk.Walk.{Walk}
-use Rattle.machine.proofs.Laws.Shapes.Given.{may-open}
-use Rattle.machine.proofs.Laws.Shapes.CounterShape.{moves-fit, refused-answer, accepted-answer}
+use Rattle.machine.proofs.Laws.Shapes.Given.{lent-usable, open-lent}
+use Rattle.machine.proofs.Laws.Shapes.CounterShape.{refused-answer}
 use borrow.Author.Needs.{needs}
 use Rattle.machine.proofs.run.open.open_by.Statement.{statement}
 use Rattle.machine.proofs.run.open.open_by.Tie as tie
 
-open-refusal-requires : tie.Need-open-refusal-requires
-open-refusal-requires c κs = search needs
+lent-refusal-requires : tie.Need-lent-refusal-requires
+lent-refusal-requires c κs = search needs
 
 same-length : tie.Need-same-length
 same-length c = search needs
 
 returns : tie.Need-returns
 returns c = let b = c .before .before .before .before .before .before .args in
-    let s = c .before .open-refusal in
-    let R = openRefusal (b .a .now) (b .run .now) (b .counters) (b .e .now) in
-    let y : R ≡ 0 → ⊥ = λ z. c .if1 .taken (s .ensures ∙ z) in
+    let s = c .before .lent-refusal .ensures in
+    let f : openRefusal (b .a .now) (b .run .now) (b .counters) (b .e .now) ≡ c .before .lent-refusal .result = open-lent (b .a .now) (b .run .now) (b .counters) (b .e .now) (λ z. c .if1 .taken (s ∙ z)) ∙ sym s in
+    let y : openRefusal (b .a .now) (b .run .now) (b .counters) (b .e .now) ≡ 0 → ⊥ = λ z. c .if1 .taken (sym f ∙ z) in
     let n : eqb (openRefusal (b .a .now) (b .run .now) (b .counters) (b .e .now)) 0 ≡ false = ne-eqb _ _ y in
-    record { answers = ap (λ (r : ℕ). Opened.Refused r) (s .ensures) ∙ refused-answer (openRefusal (b .a .now) (b .run .now) (b .counters) (b .e .now)) _ y; runAfter = rw n; countersAfter = rw n }
+    record { answers = ap (λ (r : ℕ). Opened.Refused r) (sym f) ∙ refused-answer (openRefusal (b .a .now) (b .run .now) (b .counters) (b .e .now)) _ y; runAfter = rw n; countersAfter = rw n }
 
-open-on-requires : tie.Need-open-on-requires
-open-on-requires c κs = let b = c .before .before .before .before .before .before .before .args in
-    let m = may-open (b .a .now) (b .run .now) (b .counters) (b .e .now) (sym (c .before .before .open-refusal .ensures) ∙ c .before .if1 .left) in
-    (m .ready, (m .depth, m .name))
-
-add-t14 : tie.Need-add-t14
-unfolding maxOpens
-add-t14 c = let b = c .before .before .before .before .before .before .before .before .before .before .before .args in
-    omega (arith, may-open (b .a .now) (b .run .now) (b .counters) (b .e .now) (sym (c .before .before .before .before .before .before .open-refusal .ensures) ∙ c .before .before .before .before .before .if1 .left) .opens)
-
-add-t15 : tie.Need-add-t15
-unfolding maxSteps
-add-t15 c = let b = c .before .before .before .before .before .before .before .before .before .before .before .before .before .args in
-    omega (arith, moves-fit (b .run .now) (b .counters) (may-open (b .a .now) (b .run .now) (b .counters) (b .e .now) (sym (c .before .before .before .before .before .before .before .before .open-refusal .ensures) ∙ c .before .before .before .before .before .before .before .if1 .left) .counters), c .before .before .before .before .before .open-on .ensures .1 .0)
+open-usable-requires : tie.Need-open-usable-requires
+open-usable-requires c κs = let b = c .before .before .before .before .before .before .before .args in
+    lent-usable (b .a .now) (b .run .now) (b .counters) (sym (c .before .before .lent-refusal .ensures) ∙ c .before .if1 .left)
 
 same-length-2 : tie.Need-same-length-2
 same-length-2 c = search needs
 
 returns-2 : tie.Need-returns-2
-unfolding openCounters
-returns-2 c = let b = c .before .before .before .before .before .before .before .before .before .before .before .before .before .args in
-    let z : openRefusal (b .a .now) (b .run .now) (b .counters) (b .e .now) ≡ 0 = sym (c .before .before .before .before .before .before .before .before .open-refusal .ensures) ∙ c .before .before .before .before .before .before .before .if1 .left in
-    let n : eqb (openRefusal (b .a .now) (b .run .now) (b .counters) (b .e .now)) 0 ≡ true = eq-eqb _ _ z in
-    let w = c .before .before .before .before .before .open-on in
-    let e = w .ensures .0 in
-    record { answers = ap (λ (x : Walk). Opened.Accepted (x .moves)) e ∙ accepted-answer (openRefusal (b .a .now) (b .run .now) (b .counters) (b .e .now)) _ z; runAfter = rw n (w .ensures .1 .1); countersAfter = rw n (ap (λ (x : Walk). record { opens = b .counters .opens + 1; closes = b .counters .closes; moves = b .counters .moves + x .moves }) e) }
+returns-2 c = c .before .before .open-usable .ensures
 
 pub open-by-spec : {M : Type 1} → statement M
 open-by-spec =
     tie.close
     (tie.spec
-    open-refusal-requires
+    lent-refusal-requires
     same-length
     returns
-    open-on-requires
-    add-t14
-    add-t15
+    open-usable-requires
     same-length-2
     returns-2)

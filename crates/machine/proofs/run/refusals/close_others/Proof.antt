@@ -6,17 +6,17 @@ use Prim.Native.Nat.{ℕ}
 use borrow.Author.Tests.{eq-eqb, ne-eqb, not-true, not-false}
 use Rattle.notation.specs.Activity.{sameName}
 use Rattle.machine.specs.RunCalls.{given, storedName, depthOf}
-use Rattle.machine.proofs.Laws.Shapes.Given.{close-first, close-then, may-call}
+use Rattle.machine.proofs.Laws.Shapes.Given.{close-name, close-named}
 use borrow.Author.Needs.{needs}
-use Rattle.machine.proofs.run.refusals.close_refusal.Statement.{statement}
-use Rattle.machine.proofs.run.refusals.close_refusal.Tie as tie
+use Rattle.machine.proofs.run.refusals.close_others.Statement.{statement}
+use Rattle.machine.proofs.run.refusals.close_others.Tie as tie
 
-call-refusal-requires : tie.Need-call-refusal-requires
-call-refusal-requires c κs = search needs
+name-refusal-requires : tie.Need-name-refusal-requires
+name-refusal-requires c κs = search needs
 
 returns : tie.Need-returns
 returns c = let b = c .before .before .before .before .before .args in
-    c .before .call-refusal .ensures ∙ sym (close-first (b .a .now) (b .run .now) (b .c) (b .e .now) (λ z. c .if1 .taken (c .before .call-refusal .ensures ∙ z)))
+    c .before .name-refusal .ensures ∙ sym (close-name (b .run .now) (b .e .now) (λ z. c .if1 .taken (c .before .name-refusal .ensures ∙ z)))
 
 depth-requires : tie.Need-depth-requires
 depth-requires c κs = search needs
@@ -24,11 +24,11 @@ depth-requires c κs = search needs
 returns-2 : tie.Need-returns-2
 unfolding given
 returns-2 c = let b = c .before .before .before .before .before .before .before .args in
-    rw (close-then (b .a .now) (b .run .now) (b .c) (b .e .now) (sym (c .before .before .before .call-refusal .ensures) ∙ c .before .before .if1 .left), ← c .before .depth .ensures .0, eq-eqb _ _ (c .if2 .taken))
+    rw (close-named (b .run .now) (b .e .now) (sym (c .before .before .before .name-refusal .ensures) ∙ c .before .before .if1 .left), ← c .before .depth .ensures .0, eq-eqb _ _ (c .if2 .taken))
 
 stored-name-requires : tie.Need-stored-name-requires
-stored-name-requires c κs = let b = c .before .before .before .before .before .before .before .args in
-    (may-call (b .a .now) (b .run .now) (b .c) (b .e .now) (sym (c .before .before .before .call-refusal .ensures) ∙ c .before .before .if1 .left), omega (arith, c .before .depth .ensures .0))
+stored-name-requires c κs = let b = c .before .before .before .before .before .before .before in
+    (b .pre, omega (arith, c .before .depth .ensures .0))
 
 same-name-requires : tie.Need-same-name-requires
 same-name-requires c κs = search needs
@@ -37,19 +37,19 @@ returns-3 : tie.Need-returns-3
 unfolding given
 returns-3 c = let b = c .before .before .before .before .before .before .before .before .before .before .args in
     let t : sameName (storedName (b .run .now) (depthOf (b .run .now))) (b .e .now) ≡ false = ap (λ (n : ℕ). sameName (storedName (b .run .now) n) (b .e .now)) (sym (c .before .before .before .before .depth .ensures .0)) ∙ ap (λ (n : List ℕ). sameName n (b .e .now)) (sym (c .before .before .stored-name .ensures)) ∙ sym (c .before .same-name .ensures) ∙ not-true _ (c .if3 .taken) in
-    rw (close-then (b .a .now) (b .run .now) (b .c) (b .e .now) (sym (c .before .before .before .before .before .before .call-refusal .ensures) ∙ c .before .before .before .before .before .if1 .left), t, ← c .before .before .before .before .depth .ensures .0, ne-eqb _ _ (c .before .before .before .if2 .left))
+    rw (close-named (b .run .now) (b .e .now) (sym (c .before .before .before .before .before .before .name-refusal .ensures) ∙ c .before .before .before .before .before .if1 .left), t, ← c .before .before .before .before .depth .ensures .0, ne-eqb _ _ (c .before .before .before .if2 .left))
 
 returns-4 : tie.Need-returns-4
 unfolding given
 returns-4 c = let b = c .before .before .before .before .before .before .before .before .before .before .args in
     let t : sameName (storedName (b .run .now) (depthOf (b .run .now))) (b .e .now) ≡ true = ap (λ (n : ℕ). sameName (storedName (b .run .now) n) (b .e .now)) (sym (c .before .before .before .before .depth .ensures .0)) ∙ ap (λ (n : List ℕ). sameName n (b .e .now)) (sym (c .before .before .stored-name .ensures)) ∙ sym (c .before .same-name .ensures) ∙ not-false _ (c .if3 .left) in
-    rw (close-then (b .a .now) (b .run .now) (b .c) (b .e .now) (sym (c .before .before .before .before .before .before .call-refusal .ensures) ∙ c .before .before .before .before .before .if1 .left), t, ← c .before .before .before .before .depth .ensures .0, ne-eqb _ _ (c .before .before .before .if2 .left))
+    rw (close-named (b .run .now) (b .e .now) (sym (c .before .before .before .before .before .before .name-refusal .ensures) ∙ c .before .before .before .before .before .if1 .left), t, ← c .before .before .before .before .depth .ensures .0, ne-eqb _ _ (c .before .before .before .if2 .left))
 
-pub close-refusal-spec : {M : Type 1} → statement M
-close-refusal-spec =
+pub close-others-spec : {M : Type 1} → statement M
+close-others-spec =
     tie.close
     (tie.spec
-    call-refusal-requires
+    name-refusal-requires
     returns
     depth-requires
     returns-2

@@ -1,0 +1,16 @@
+use Rattle.filing.proofs.Laws.Filing.Taking.{close-taken}
+use borrow.Author.Needs.{needs}
+use Rattle.filing.proofs.report.take_close.Statement.{statement}
+use Rattle.filing.proofs.report.take_close.Tie as tie
+
+close-by-requires : tie.Need-close-by-requires
+close-by-requires c κs = search needs
+
+same-length : tie.Need-same-length
+same-length c = search needs
+
+returns : tie.Need-returns
+returns c = close-taken _ _ _ _ _ _ _ (c .before .before .before .close-by .ensures)
+
+pub take-close-spec : {M : Type 1} → statement M
+take-close-spec = tie.close (tie.spec close-by-requires same-length returns)

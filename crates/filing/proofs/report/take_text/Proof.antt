@@ -1,0 +1,23 @@
+use mathlib.Core.Path.{sym, _∙_}
+use Rattle.filing.proofs.Laws.Filing.Taking.{so-is, text-blank, text-loose, text-inside}
+use borrow.Author.Needs.{needs}
+use Rattle.filing.proofs.report.take_text.Statement.{statement}
+use Rattle.filing.proofs.report.take_text.Tie as tie
+
+returns : tie.Need-returns
+returns c = text-blank _ _ (c .if1 .taken)
+
+depth-requires : tie.Need-depth-requires
+depth-requires c κs = search needs
+
+with-none-requires : tie.Need-with-none-requires
+with-none-requires c κs = search needs
+
+returns-2 : tie.Need-returns-2
+returns-2 c = so-is _ _ _ _ (c .with-none .ensures .0) ∙ text-loose _ _ (c .before .before .before .if1 .left) (sym (c .before .before .depth .ensures .0) ∙ c .before .if2 .taken)
+
+returns-3 : tie.Need-returns-3
+returns-3 c = text-inside _ (c .before .before .before .before .args .all) (λ z. c .if2 .left (c .before .depth .ensures .0 ∙ z))
+
+pub take-text-spec : {M : Type 1} → statement M
+take-text-spec = tie.close (tie.spec returns depth-requires with-none-requires returns-2 returns-3)

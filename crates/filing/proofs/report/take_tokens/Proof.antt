@@ -1,0 +1,92 @@
+-- The loop's invariant: the tokens from here make of what was taken what all tokens make of the fresh run.
+use Prim.Native.Nat.{_-_, _≤_}
+use native.Mathlib.Omega.{arith}
+use mathlib.Core.Path.{_≡_, refl, sym, ap, _∙_}
+use mathlib.Core.List.{[]}
+use lib.ListN.{length}
+use borrow.Author.Needs.{needs}
+use Rattle.machine.specs.RunCalls.{startRun, noCounters}
+use Rattle.filing.specs.Reading.{readReport}
+use Rattle.filing.specs.Seen.{foundEnd}
+use Rattle.filing.specs.FileCall.{Outcome}
+use Rattle.filing.specs.Taking.{so, runFrom}
+use Rattle.filing.proofs.Laws.Filing.Taking.{RunAt, so-is, taken-torn, taken-next, taken-end}
+use Rattle.filing.proofs.report.take_tokens.Statement.{statement}
+use Rattle.filing.proofs.report.take_tokens.Tie as tie
+
+abbrev Inv-loop : tie.InvT-loop
+Inv-loop a run₀ s taken₀ i₀ run taken i =
+    (i ≤ length s) × ((length run ≡ length run₀) × ((startRun a run ≡ startRun a run₀) × (RunAt a (so (taken .refusal) run (taken .counters)) s i ≡ runFrom a (so 0 run₀ noCounters) (readReport s))))
+
+abbrev μ-loop : tie.MeasureT-loop
+μ-loop a run₀ s taken₀ i₀ run taken i = length s - i
+
+with-none-requires : tie.Need-with-none-requires Inv-loop μ-loop
+with-none-requires c κs = search needs
+
+loop-holds : tie.Need-loop-holds Inv-loop μ-loop
+loop-holds c = (omega arith, (refl, (refl, rw (c .with-none .ensures .0, c .with-none .ensures .1))))
+
+token-at-requires : tie.Need-token-at-requires Inv-loop μ-loop
+token-at-requires c κs = search needs
+
+torn-at-requires : tie.Need-torn-at-requires Inv-loop μ-loop
+torn-at-requires c κs = search needs
+
+with-none-requires-2 : tie.Need-with-none-requires-2 Inv-loop μ-loop
+with-none-requires-2 c κs = search needs
+
+same-length : tie.Need-same-length Inv-loop μ-loop
+same-length c = c .before .before .before .before .before .loop .inv .1 .0
+
+returns : tie.Need-returns Inv-loop μ-loop
+returns c =
+    let torn = taken-torn _ _ _ _ (c .before .before .before .token-at .ensures) _ (c .before .before .before .before .loop-test .taken) (sym (c .before .before .torn-at .ensures) ∙ c .before .if1 .taken) in
+    record { outcomes = so-is _ _ _ _ (c .with-none2 .ensures .0) ∙ sym torn ∙ c .before .before .before .before .before .loop .inv .1 .1 .1; restarts = c .before .before .before .before .before .loop .inv .1 .1 .0 }
+
+take-at-requires : tie.Need-take-at-requires Inv-loop μ-loop
+take-at-requires c κs = c .before .before .before .token-at .ensures
+
+end-of-requires : tie.Need-end-of-requires Inv-loop μ-loop
+end-of-requires c κs = search needs
+
+loop-less : tie.Need-loop-less Inv-loop μ-loop
+loop-less c =
+    let next = taken-next (c .before .before .before .before .before .before .before .before .before .before .before .before .before .before .args .a .now) (c .before .before .before .before .before .before .before .before .before .before .before .before .before .before .args .s .now) (c .before .before .before .before .before .before .before .before .before .loop .i) (c .before .before .before .before .before .before .before .token-at .result) (c .before .before .before .before .before .before .before .token-at .ensures) (so 0 [] noCounters) (c .before .before .before .before .before .before .before .before .loop-test .taken) (sym (c .before .before .before .before .before .before .torn-at .ensures) ∙ c .before .before .before .before .before .if1 .left) in
+    omega (arith, c .end-of .ensures, next .0, next .1 .0)
+
+loop-again : tie.Need-loop-again Inv-loop μ-loop
+loop-again c =
+    let l = c .before .before .before .before .before .before .before .before .before .loop in
+    let a = c .before .before .before .before .before .before .before .before .before .before .before .before .before .before .args .a .now in
+    let s = c .before .before .before .before .before .before .before .before .before .before .before .before .before .before .args .s .now in
+    let taken = c .before .before .before .take-at in
+    let next = taken-next (c .before .before .before .before .before .before .before .before .before .before .before .before .before .before .args .a .now) (c .before .before .before .before .before .before .before .before .before .before .before .before .before .before .args .s .now) (c .before .before .before .before .before .before .before .before .before .loop .i) (c .before .before .before .before .before .before .before .token-at .result) (c .before .before .before .before .before .before .before .token-at .ensures) (so (l .taken .refusal) (l .run) (l .taken .counters)) (c .before .before .before .before .before .before .before .before .loop-test .taken) (sym (c .before .before .before .before .before .before .torn-at .ensures) ∙ c .before .before .before .before .before .if1 .left) in
+    rw (c .end-of .ensures) (next .1 .0, (taken .kept .1 .0 ∙ l .inv .1 .0, (taken .ensures .restarts ∙ l .inv .1 .1 .0, ap (λ (o : Outcome). RunAt a o s (foundEnd (c .before .before .before .before .before .before .before .token-at .result))) (taken .ensures .outcomes) ∙ next .1 .1 ∙ l .inv .1 .1 .1)))
+
+same-length-2 : tie.Need-same-length-2 Inv-loop μ-loop
+same-length-2 c = c .before .loop .inv .1 .0
+
+returns-2 : tie.Need-returns-2 Inv-loop μ-loop
+returns-2 c =
+    record { outcomes = sym (taken-end _ _ _ _ (c .loop-test .left)) ∙ c .before .loop .inv .1 .1 .1; restarts = c .before .loop .inv .1 .1 .0 }
+
+pub take-tokens-spec : {M : Type 1} → statement M
+take-tokens-spec =
+    tie.close
+    (tie.spec
+    Inv-loop
+    μ-loop
+    with-none-requires
+    loop-holds
+    token-at-requires
+    torn-at-requires
+    with-none-requires-2
+    same-length
+    returns
+    take-at-requires
+    end-of-requires
+    loop-less
+    loop-again
+    same-length-2
+    returns-2)

@@ -1,0 +1,265 @@
+// Filing a report (paper 01: Reports): its tokens in order, each given to the machine as what it is in the tree.
+use crate::scan::all_listed;
+use crate::tokens::Found;
+use crate::tokens::end_of;
+use crate::tokens::is_declaration;
+use crate::tokens::name_span;
+use crate::tokens::token_at;
+use machine::answers::Opened;
+use machine::counters::Counters;
+use machine::run::close::close_by;
+use machine::run::open::open_by;
+use machine::run::shape::depth;
+use machine::run::start::start_by;
+use machine::run::start::start_on;
+ghost use mathlib.Core.Path.{_≡_};
+ghost use Prim.Native.Nat.{_≤_, _<_};
+ghost use lib.ListN.{length, drop};
+ghost use Rattle.machine.specs.Run.{runSize};
+ghost use Rattle.machine.specs.RunCalls.{startRun, noCounters};
+ghost use Rattle.machine.specs.Demand3.{started};
+ghost use Rattle.filing.specs.Reading.{readToken, readReport};
+ghost use Rattle.filing.specs.Seen.{foundOf, tagName};
+ghost use Rattle.filing.specs.FileCall.{Files, thenGo, openOutcome, closeOutcome, textOutcome, endOutcome, runOutcome, reportOutcome};
+ghost use Rattle.filing.specs.Taking.{openNumber, so, Takes, Leaves, foundOutcome, tornAt, runFrom};
+
+// The most bytes that a report may have.
+pub const MAX_REPORT: usize = 65536;
+
+// What calls answer: the refusal, 0 for none, and the counters after them.
+pub struct Taken {
+    pub refusal: u8,
+    pub counters: Counters,
+}
+
+fn with_none(n: u8) -> Taken
+    ensures { λ r. ⌜ (r .refusal ≡ n) × (r .counters ≡ noCounters) ⌝ }
+{
+    Taken {
+        refusal: n,
+        counters: Counters {
+            opens: 0,
+            closes: 0,
+            moves: 0,
+        },
+    }
+}
+
+fn of_open(answer: Opened, c: Counters) -> Taken
+    ensures { λ r. ⌜ (r .refusal ≡ openNumber answer) × (r .counters ≡ c) ⌝ }
+{
+    match answer {
+        Opened::Accepted(_) => Taken {
+            refusal: 0,
+            counters: c,
+        },
+        Opened::Refused(n) => Taken {
+            refusal: n,
+            counters: c,
+        },
+    }
+}
+
+fn take_open(a: &[u8], run: &mut [u8], c: Counters, e: &[u8]) -> Taken
+    ensures { λ r. ⌜ Takes (now (a .entry)) (now (run .entry)) (openOutcome (now (a .entry)) (record { bytes = now (run .entry); counters = c }) (now (e .entry))) (r .refusal) (now (run .exit)) (r .counters) ⌝ }
+{
+    let done = open_by(a, run, c, e);
+    let answer = done.answer;
+    let counters = done.counters;
+    of_open(answer, counters)
+}
+
+fn take_close(a: &[u8], run: &mut [u8], c: Counters, e: &[u8]) -> Taken
+    ensures { λ r. ⌜ Takes (now (a .entry)) (now (run .entry)) (closeOutcome (now (a .entry)) (record { bytes = now (run .entry); counters = c }) (now (e .entry))) (r .refusal) (now (run .exit)) (r .counters) ⌝ }
+{
+    let done = close_by(a, run, c, e);
+    let counters = done.counters;
+    Taken {
+        refusal: done.refusal,
+        counters: counters,
+    }
+}
+
+// An empty-element tag: an open and a close.
+fn take_empty(a: &[u8], run: &mut [u8], c: Counters, e: &[u8]) -> Taken
+    ensures { λ r. ⌜ Takes (now (a .entry)) (now (run .entry)) (thenGo (openOutcome (now (a .entry)) (record { bytes = now (run .entry); counters = c }) (now (e .entry))) (λ t. closeOutcome (now (a .entry)) t (now (e .entry)))) (r .refusal) (now (run .exit)) (r .counters) ⌝ }
+{
+    let opened = take_open(a, run, c, e);
+    if opened.refusal != 0 {
+        return opened;
+    }
+    let counters = opened.counters;
+    take_close(a, run, counters, e)
+}
+
+// Text outside the root is blank.
+fn take_text(run: &[u8], c: Counters, all: bool) -> Taken
+    ensures { λ r. ⌜ so (r .refusal) (now (run .entry)) (r .counters) ≡ textOutcome (record { bytes = now (run .entry); counters = c }) all ⌝ }
+{
+    if all {
+        return Taken {
+            refusal: 0,
+            counters: c,
+        };
+    }
+    if depth(run) == 0 {
+        return with_none(10);
+    }
+    Taken {
+        refusal: 0,
+        counters: c,
+    }
+}
+
+// One token, by what it is; e is its tag's name.
+fn take_token(a: &[u8], run: &mut [u8], c: Counters, f: Found, e: &[u8]) -> Taken
+    ensures { λ r. ⌜ Takes (now (a .entry)) (now (run .entry)) (foundOutcome (now (a .entry)) (record { bytes = now (run .entry); counters = c }) f (now (e .entry))) (r .refusal) (now (run .exit)) (r .counters) ⌝ }
+{
+    match f {
+        Found::Start(_, _, _) => take_open(a, run, c, e),
+        Found::Empty(_, _, _) => take_empty(a, run, c, e),
+        Found::End(_, _, _) => take_close(a, run, c, e),
+        Found::Text(_, all) => take_text(run, c, all),
+        Found::Nothing => Taken {
+            refusal: 0,
+            counters: c,
+        },
+        Found::Declaration(_) => Taken {
+            refusal: 0,
+            counters: c,
+        },
+        Found::Comment(_) => Taken {
+            refusal: 0,
+            counters: c,
+        },
+    }
+}
+
+// Nothing more is taken once a token was refused.
+fn take_next(a: &[u8], run: &mut [u8], before: Taken, f: Found, e: &[u8]) -> Taken
+    ensures { λ r. ⌜ Takes (now (a .entry)) (now (run .entry)) (thenGo (so (before .refusal) (now (run .entry)) (before .counters)) (λ t. foundOutcome (now (a .entry)) t f (now (e .entry)))) (r .refusal) (now (run .exit)) (r .counters) ⌝ }
+{
+    if before.refusal != 0 {
+        return before;
+    }
+    let counters = before.counters;
+    take_token(a, run, counters, f, e)
+}
+
+// The same of the token at an offset, which has its name there.
+fn take_at(a: &[u8], run: &mut [u8], before: Taken, s: &[u8], at: usize, f: Found) -> Taken
+    requires { ⌜ f ≡ foundOf (length (now s)) at (readToken (drop at (now s))) ⌝ }
+    ensures { λ r. ⌜ Takes (now (a .entry)) (now (run .entry)) (thenGo (so (before .refusal) (now (run .entry)) (before .counters)) (λ t. foundOutcome (now (a .entry)) t f (tagName (readToken (drop at (now (s .entry))))))) (r .refusal) (now (run .exit)) (r .counters) ⌝ }
+{
+    let p = name_span(f);
+    let from = p.from;
+    let to = p.to;
+    take_next(a, run, before, f, &s[from..to])
+}
+
+// No token, or a declaration past offset 0.
+fn torn_at(f: Found, at: usize) -> bool
+    ensures { λ r. ⌜ r ≡ tornAt f at ⌝ }
+{
+    if end_of(f) <= at {
+        return true;
+    }
+    if at == 0 {
+        return false;
+    }
+    is_declaration(f)
+}
+
+// The tokens in order from a fresh run: the first refusal of a token is kept, and the rest is only read, for 9.
+fn take_tokens(a: &[u8], run: &mut [u8], s: &[u8]) -> Taken
+    ensures { λ r. ⌜ Takes (now (a .entry)) (now (run .entry)) (runFrom (now (a .entry)) (so 0 (now (run .entry)) noCounters) (readReport (now (s .entry)))) (r .refusal) (now (run .exit)) (r .counters) ⌝ }
+{
+    let mut taken = with_none(0);
+    let mut i = 0;
+    while i < s.len() {
+        let f = token_at(s, i);
+        if torn_at(f, i) {
+            return with_none(9);
+        }
+        taken = take_at(a, run, taken, s, i, f);
+        i = end_of(f);
+    }
+    taken
+}
+
+// The report's end: there was a root, and nothing is open.
+fn take_end(run: &[u8], before: Taken) -> Taken
+    ensures { λ r. ⌜ so (r .refusal) (now (run .entry)) (r .counters) ≡ thenGo (so (before .refusal) (now (run .entry)) (before .counters)) endOutcome ⌝ }
+{
+    if before.refusal != 0 {
+        return before;
+    }
+    let counters = before.counters;
+    if counters.opens == 0 {
+        return with_none(10);
+    }
+    if depth(run) != 0 {
+        return with_none(10);
+    }
+    before
+}
+
+// A refused report leaves a fresh run.
+fn fresh_after(a: &[u8], run: &mut [u8], done: Taken) -> Taken
+    requires { ⌜ runSize ≤ length (now run) ⌝ }
+    ensures { λ r. ⌜ Leaves (started (now (a .entry)) (now (run .entry))) (so (done .refusal) (now (run .entry)) (done .counters)) (r .refusal) (now (run .exit)) (r .counters) ⌝ }
+{
+    if done.refusal == 0 {
+        return done;
+    }
+    start_on(a, run);
+    with_none(done.refusal)
+}
+
+// The tokens and the end, from a fresh run.
+fn take_run(a: &[u8], run: &mut [u8], s: &[u8]) -> Taken
+    requires { ⌜ (runSize ≤ length (now run)) × (startRun (now a) (now run) ≡ now run) ⌝ }
+    ensures { λ r. ⌜ Leaves (record { bytes = now (run .entry); counters = noCounters }) (runOutcome (now (a .entry)) (record { bytes = now (run .entry); counters = noCounters }) (readReport (now (s .entry)))) (r .refusal) (now (run .exit)) (r .counters) ⌝ }
+{
+    let taken = take_tokens(a, run, s);
+    let ended = take_end(run, taken);
+    fresh_after(a, run, ended)
+}
+
+// 2 and 8 come before the tokens.
+fn file_fresh(a: &[u8], run: &mut [u8], s: &[u8]) -> Taken
+    requires { ⌜ (runSize ≤ length (now run)) × (startRun (now a) (now run) ≡ now run) ⌝ }
+    ensures { λ r. ⌜ Leaves (record { bytes = now (run .entry); counters = noCounters }) (reportOutcome (now (a .entry)) (record { bytes = now (run .entry); counters = noCounters }) (now (s .entry))) (r .refusal) (now (run .exit)) (r .counters) ⌝ }
+{
+    if s.len() > MAX_REPORT {
+        return with_none(2);
+    }
+    if !all_listed(s) {
+        return with_none(8);
+    }
+    take_run(a, run, s)
+}
+
+// Filing a report, with the counters by value.
+pub fn file_by(a: &[u8], run: &mut [u8], counters: Counters, report: &[u8]) -> Taken
+    ensures { λ r. ⌜ Files (now (a .entry)) (now (run .entry)) counters (now (report .entry)) (r .refusal) (now (run .exit)) (r .counters) ⌝ }
+{
+    let started = start_by(a, run, counters);
+    if started.refusal != 0 {
+        let kept = started.counters;
+        return Taken {
+            refusal: started.refusal,
+            counters: kept,
+        };
+    }
+    file_fresh(a, run, report)
+}
+
+// Filing a report, on counters that are lent.
+pub fn file_report(a: &[u8], run: &mut [u8], counters: &mut Counters, report: &[u8]) -> u8
+    ensures { λ r. ⌜ Files (now (a .entry)) (now (run .entry)) (now (counters .entry)) (now (report .entry)) r (now (run .exit)) (now (counters .exit)) ⌝ }
+{
+    let done = file_by(a, run, *counters, report);
+    *counters = done.counters;
+    done.refusal
+}

@@ -1,0 +1,76 @@
+use native.Mathlib.Omega.{arith}
+use mathlib.Core.Path.{_≡_, sym, _∙_, ap}
+use mathlib.Core.Bool.{true, false}
+use Prim.Native.Nat.{ℕ, _+_}
+use lib.Dec.{eqb}
+use borrow.Author.Tests.{eq-eqb, ne-eqb}
+use Rattle.notation.specs.Limits.{maxSteps}
+use Rattle.machine.specs.Limits.{maxOpens}
+use Rattle.machine.specs.RunCalls.{openRefusal, openCounters}
+use Rattle.machine.specs.declared.answers.Opened.{Opened}
+use Rattle.machine.specs.declared.walk.Walk.{Walk}
+use Rattle.machine.proofs.Laws.Shapes.Given.{may-open, open-others}
+use Rattle.machine.proofs.Laws.Shapes.CounterShape.{moves-fit, refused-answer, accepted-answer}
+use borrow.Author.Needs.{needs}
+use Rattle.machine.proofs.run.open.open_usable.Statement.{statement}
+use Rattle.machine.proofs.run.open.open_usable.Tie as tie
+
+open-others-requires : tie.Need-open-others-requires
+open-others-requires c κs = search needs
+
+same-length : tie.Need-same-length
+same-length c = search needs
+
+returns : tie.Need-returns
+returns c = let p = c .before .before .before .before .before .before in
+    let b = p .args in
+    let R = openRefusal (b .a .now) (b .run .now) (b .counters) (b .e .now) in
+    let s : c .before .open-others .result ≡ openRefusal (b .a .now) (b .run .now) (b .counters) (b .e .now) = c .before .open-others .ensures ∙ sym (open-others (b .a .now) (b .run .now) (b .counters) (b .e .now) (p .pre)) in
+    let y : R ≡ 0 → ⊥ = λ z. c .if1 .taken (s ∙ z) in
+    let n : eqb (openRefusal (b .a .now) (b .run .now) (b .counters) (b .e .now)) 0 ≡ false = ne-eqb _ _ y in
+    record { answers = ap (λ (r : ℕ). Opened.Refused r) s ∙ refused-answer (openRefusal (b .a .now) (b .run .now) (b .counters) (b .e .now)) _ y; runAfter = rw n; countersAfter = rw n }
+
+open-on-requires : tie.Need-open-on-requires
+open-on-requires c κs = let p = c .before .before .before .before .before .before .before in
+    let b = p .args in
+    let z = open-others (b .a .now) (b .run .now) (b .counters) (b .e .now) (p .pre) ∙ sym (c .before .before .open-others .ensures) ∙ c .before .if1 .left in
+    let m = may-open (b .a .now) (b .run .now) (b .counters) (b .e .now) z in
+    (m .ready, (m .depth, m .name))
+
+add-t14 : tie.Need-add-t14
+unfolding maxOpens
+add-t14 c = let p = c .before .before .before .before .before .before .before .before .before .before .before in
+    let b = p .args in
+    let z = open-others (b .a .now) (b .run .now) (b .counters) (b .e .now) (p .pre) ∙ sym (c .before .before .before .before .before .before .open-others .ensures) ∙ c .before .before .before .before .before .if1 .left in
+    omega (arith, may-open (b .a .now) (b .run .now) (b .counters) (b .e .now) z .opens)
+
+add-t15 : tie.Need-add-t15
+unfolding maxSteps
+add-t15 c = let p = c .before .before .before .before .before .before .before .before .before .before .before .before .before in
+    omega (arith, moves-fit (p .args .run .now) (p .args .counters) (p .pre .counts), c .before .before .before .before .before .open-on .ensures .1 .0)
+
+same-length-2 : tie.Need-same-length-2
+same-length-2 c = search needs
+
+returns-2 : tie.Need-returns-2
+unfolding openCounters
+returns-2 c = let p = c .before .before .before .before .before .before .before .before .before .before .before .before .before in
+    let b = p .args in
+    let z : openRefusal (b .a .now) (b .run .now) (b .counters) (b .e .now) ≡ 0 = open-others (b .a .now) (b .run .now) (b .counters) (b .e .now) (p .pre) ∙ sym (c .before .before .before .before .before .before .before .before .open-others .ensures) ∙ c .before .before .before .before .before .before .before .if1 .left in
+    let n : eqb (openRefusal (b .a .now) (b .run .now) (b .counters) (b .e .now)) 0 ≡ true = eq-eqb _ _ z in
+    let w = c .before .before .before .before .before .open-on in
+    let e = w .ensures .0 in
+    record { answers = ap (λ (x : Walk). Opened.Accepted (x .moves)) e ∙ accepted-answer (openRefusal (b .a .now) (b .run .now) (b .counters) (b .e .now)) _ z; runAfter = rw n (w .ensures .1 .1); countersAfter = rw n (ap (λ (x : Walk). record { opens = b .counters .opens + 1; closes = b .counters .closes; moves = b .counters .moves + x .moves }) e) }
+
+pub open-usable-spec : {M : Type 1} → statement M
+open-usable-spec =
+    tie.close
+    (tie.spec
+    open-others-requires
+    same-length
+    returns
+    open-on-requires
+    add-t14
+    add-t15
+    same-length-2
+    returns-2)
