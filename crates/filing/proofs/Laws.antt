@@ -2,3 +2,4 @@ pub mod Printed
 pub mod Read
 pub mod Filing
 pub mod Trees
+pub mod Listing

@@ -12,3 +12,6 @@ pub mod Filing
 pub mod Demand2
 pub mod FileCall
 pub mod Taking
+pub mod Listing
+pub mod Page
+pub mod Listed

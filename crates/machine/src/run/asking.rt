@@ -37,7 +37,7 @@ fn answer(refused: u8, yes: bool) -> Asked
 }
 
 // The match bit of a path's last step.
-fn place_matched(a: &[u8], run: &[u8], place: usize) -> bool
+pub fn place_matched(a: &[u8], run: &[u8], place: usize) -> bool
     ensures { λ r. ⌜ r ≡ placeMatched (now (a .entry)) (now (run .entry)) place ⌝ }
 {
     match reads::path_at(a, PathPlace(place)) {
@@ -88,7 +88,8 @@ fn any_matched(a: &[u8], run: &[u8], first: usize, count: usize) -> bool
     false
 }
 
-fn folder_paths_matched(a: &[u8], run: &[u8], i: usize) -> bool
+// One of the paths of folder `i` is matched.
+pub fn folder_paths_matched(a: &[u8], run: &[u8], i: usize) -> bool
     ensures { λ r. ⌜ r ≡ any (placeMatched (now (a .entry)) (now (run .entry))) (pathsOfFolder (folderAt (now (a .entry)) i)) ⌝ }
 {
     match reads::folder_at(a, i) {

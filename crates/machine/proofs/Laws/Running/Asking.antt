@@ -102,7 +102,7 @@ module _ (s : FolderSet) (a : List ℕ) (m : Means s a) (st : State) (few : Few 
   has-path : (i : ℕ) → hasPath (pathAt a (record { 0 = i })) ≡ ltb i (length ps)
   has-path i = cases (ltb i (length ps)) (λ t. rw (t, path-there i (ltb-true i (length ps) t) .answer)) (λ t. rw (t, path-gone i (ltb-false i (length ps) t)))
 
-  place-matched : (i : ℕ) → i < length ps → placeMatched a run i ≡ st .matched i
+  pub place-matched : (i : ℕ) → i < length ps → placeMatched a run i ≡ st .matched i
   place-matched i h =
       let p = getD ps i [] in
       let k = pred (length p) in

@@ -1,0 +1,6 @@
+pub mod Numbers
+pub mod Pages
+pub mod Same
+pub mod Sizes
+pub mod Steps
+pub mod Written

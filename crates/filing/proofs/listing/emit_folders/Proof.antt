@@ -1,0 +1,64 @@
+-- `listing::emit_folders`: after i turns the first i folders are listed.
+use native.Mathlib.Omega.{arith}
+use Prim.Native.Nat.{ℕ, _≤_, _-_}
+use native.Mathlib.Numerals.{add-one}
+use mathlib.Core.Path.{_≡_, sym, _∙_, ap}
+use borrow.Author.Needs.{needs}
+use Rattle.notation.specs.Reads.{folderCount}
+use Rattle.machine.specs.Folders.{countFrom}
+use Rattle.filing.specs.Page.{Adds}
+use Rattle.filing.specs.Listed.{foldersListed}
+use Rattle.filing.proofs.Laws.Listing.Pages.{nothing, and-then, told-as}
+use Rattle.filing.proofs.Laws.Listing.Steps.{folders-more}
+use Rattle.filing.proofs.listing.emit_folders.Statement.{statement}
+use Rattle.filing.proofs.listing.emit_folders.Tie as tie
+
+abbrev Inv-loop : tie.InvT-loop
+Inv-loop a run page₀ top to₀ i₀ page to i = (i ≤ top) × Adds page₀ to₀ (foldersListed a run (countFrom 0 i)) page to
+
+abbrev μ-loop : tie.MeasureT-loop
+μ-loop a run page₀ top to₀ i₀ page to i = top - i
+
+folders-requires : tie.Need-folders-requires Inv-loop μ-loop
+folders-requires c κs = search needs
+
+loop-holds : tie.Need-loop-holds Inv-loop μ-loop
+unfolding foldersListed countFrom
+loop-holds c = (omega arith, nothing _ _ (c .before .before .before .before .pre))
+
+emit-folder-requires : tie.Need-emit-folder-requires Inv-loop μ-loop
+emit-folder-requires c κs = c .before .before .loop .inv .1 .on
+
+add-i : tie.Need-add-i Inv-loop μ-loop
+add-i c = omega arith
+
+loop-less : tie.Need-loop-less Inv-loop μ-loop
+loop-less c = omega arith
+
+loop-again : tie.Need-loop-again Inv-loop μ-loop
+loop-again c = let a = c .before .before .before .before .before .before .before .before .before .before .args in
+    let l = c .before .before .before .before .before .loop in
+    (omega arith, told-as (and-then (l .inv .1) (c .before .before .emit-folder .ensures)) (folders-more (a .a .now) (a .run .now) (l .i) ∙ ap (λ (j : ℕ). foldersListed (a .a .now) (a .run .now) (countFrom 0 j)) (sym (add-one (l .i)))))
+
+same-length : tie.Need-same-length Inv-loop μ-loop
+same-length c = c .before .loop .inv .1 .size
+
+returns : tie.Need-returns Inv-loop μ-loop
+returns c = let a = c .before .before .before .before .before .before .args in
+    let e : c .before .loop .i ≡ folderCount (a .a .now) = omega (arith, c .before .before .folders .ensures .0) in
+    told-as (c .before .loop .inv .1) (ap (λ (j : ℕ). foldersListed (a .a .now) (a .run .now) (countFrom 0 j)) e)
+
+pub emit-folders-spec : {M : Type 1} → statement M
+emit-folders-spec =
+    tie.close
+    (tie.spec
+    Inv-loop
+    μ-loop
+    folders-requires
+    loop-holds
+    emit-folder-requires
+    add-i
+    loop-less
+    loop-again
+    same-length
+    returns)

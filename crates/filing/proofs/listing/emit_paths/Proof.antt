@@ -1,0 +1,62 @@
+-- `listing::emit_paths`: after i turns the first i places are listed.
+use native.Mathlib.Omega.{arith}
+use Prim.Native.Nat.{ℕ, _≤_, _-_}
+use native.Mathlib.Numerals.{add-one}
+use mathlib.Core.Path.{_≡_, sym, _∙_, ap}
+use Rattle.machine.specs.Folders.{countFrom}
+use Rattle.filing.specs.Page.{Adds}
+use Rattle.filing.specs.Listed.{pathsListed}
+use Rattle.filing.proofs.Laws.Listing.Pages.{nothing, and-then, told-as}
+use Rattle.filing.proofs.Laws.Listing.Steps.{paths-more}
+use Rattle.filing.proofs.listing.emit_paths.Statement.{statement}
+use Rattle.filing.proofs.listing.emit_paths.Tie as tie
+
+abbrev Inv-loop : tie.InvT-loop
+Inv-loop a run first count page₀ to₀ i₀ page to i = (i ≤ count) × Adds page₀ to₀ (pathsListed a run (countFrom first i)) page to
+
+abbrev μ-loop : tie.MeasureT-loop
+μ-loop a run first count page₀ to₀ i₀ page to i = count - i
+
+loop-holds : tie.Need-loop-holds Inv-loop μ-loop
+unfolding pathsListed countFrom
+loop-holds c = (omega arith, nothing _ _ (c .before .before .before .pre .2))
+
+add-emit-if-matched : tie.Need-add-emit-if-matched Inv-loop μ-loop
+add-emit-if-matched c = omega arith
+
+emit-if-matched-requires : tie.Need-emit-if-matched-requires Inv-loop μ-loop
+emit-if-matched-requires c κs = c .before .before .loop .inv .1 .on
+
+add-i : tie.Need-add-i Inv-loop μ-loop
+add-i c = omega arith
+
+loop-less : tie.Need-loop-less Inv-loop μ-loop
+loop-less c = omega arith
+
+loop-again : tie.Need-loop-again Inv-loop μ-loop
+loop-again c = let a = c .before .before .before .before .before .before .before .before .before .args in
+    let l = c .before .before .before .before .before .loop in
+    (omega arith, told-as (and-then (l .inv .1) (c .before .before .emit-if-matched .ensures)) (paths-more (a .a .now) (a .run .now) (a .first) (l .i) ∙ ap (λ (j : ℕ). pathsListed (a .a .now) (a .run .now) (countFrom (a .first) j)) (sym (add-one (l .i)))))
+
+same-length : tie.Need-same-length Inv-loop μ-loop
+same-length c = c .before .loop .inv .1 .size
+
+returns : tie.Need-returns Inv-loop μ-loop
+returns c = let a = c .before .before .before .before .before .args in
+    let e : c .before .loop .i ≡ a .count = omega arith in
+    told-as (c .before .loop .inv .1) (ap (λ (j : ℕ). pathsListed (a .a .now) (a .run .now) (countFrom (a .first) j)) e)
+
+pub emit-paths-spec : {M : Type 1} → statement M
+emit-paths-spec =
+    tie.close
+    (tie.spec
+    Inv-loop
+    μ-loop
+    loop-holds
+    add-emit-if-matched
+    emit-if-matched-requires
+    add-i
+    loop-less
+    loop-again
+    same-length
+    returns)

@@ -1,0 +1,105 @@
+-- What the calls that write a listing promise, of any automaton, run and counters, by what is stored.
+use Prim.Native.Nat.{ℕ, zero, suc}
+use mathlib.Core.Path.{_≡_}
+use mathlib.Core.Bool.{not, _||_, cond}
+use mathlib.Core.Option.{Option, none, some}
+use mathlib.Core.List.{List, [], _∷_, _++_}
+use lib.Dec.{ltb}
+use lib.ListN.{length}
+use lib.Seq.{sets}
+use Rattle.notation.specs.Print.{decimal, folderWord, footer}
+use Rattle.notation.specs.Reads.{folderCount, folderAt, pathText}
+use Rattle.notation.specs.Refusals.{shortBuffer, strangeShape}
+use Rattle.notation.specs.declared.reads.FolderAt.{FolderAt}
+use Rattle.machine.specs.Words.{any}
+use Rattle.machine.specs.Folders.{countFrom}
+use Rattle.machine.specs.Order.{Condition, gives}
+use Rattle.machine.specs.RunCalls.{shaped, tooShort, given}
+use Rattle.machine.specs.Asking.{placeMatched, pathsOfFolder}
+use Rattle.machine.specs.declared.answers.Written.{Written}
+use Rattle.machine.specs.declared.counters.Counters.{Counters}
+use Rattle.filing.specs.Limits.{listingSize}
+use Rattle.filing.specs.Listing.{filedHeader, movesLine, refusedLine}
+
+-- a path in brackets, after a space
+unfoldable pub pathListed : List ℕ → ℕ → List ℕ
+pathListed a place = (32 ∷ 40 ∷ []) ++ (pathText a (record { 0 = place }) ++ (41 ∷ []))
+
+abbrev pub ifMatched : List ℕ → List ℕ → ℕ → List ℕ
+ifMatched a run place = cond (placeMatched a run place) (pathListed a place) []
+
+-- those of these places that are matched
+unfoldable pub pathsListed : List ℕ → List ℕ → List ℕ → List ℕ
+pathsListed a run [] = []
+pathsListed a run (place ∷ places) = ifMatched a run place ++ pathsListed a run places
+
+-- a folder's line
+unfoldable pub lineListed : List ℕ → List ℕ → ℕ → List ℕ → List ℕ
+lineListed a run number places = folderWord ++ (decimal number ++ (pathsListed a run places ++ footer))
+
+abbrev pub lineAt : List ℕ → List ℕ → FolderAt → List ℕ
+lineAt a run (FolderAt.Folder number first count) = lineListed a run (number .0) (countFrom (first .0) count)
+lineAt a run FolderAt.Missing = []
+
+-- none where no path is matched
+unfoldable pub folderListed : List ℕ → List ℕ → ℕ → List ℕ
+folderListed a run i = cond (any (placeMatched a run) (pathsOfFolder (folderAt a i))) (lineAt a run (folderAt a i)) []
+
+unfoldable pub foldersListed : List ℕ → List ℕ → List ℕ → List ℕ
+foldersListed a run [] = []
+foldersListed a run (i ∷ is) = folderListed a run i ++ foldersListed a run is
+
+unfoldable pub listingIn : List ℕ → List ℕ → Counters → List ℕ
+listingIn a run c =
+    filedHeader ++ (foldersListed a run (countFrom 0 (folderCount a)) ++ (movesLine (c .opens) (c .moves) ++ footer))
+
+-- 1 and 14 (automaton, run and counters) of what is lent, and of the size of the buffer
+abbrev pub lentConditions : List ℕ → List ℕ → Counters → ℕ → List Condition
+lentConditions a run c size =
+    gives (tooShort a run || ltb size listingSize) shortBuffer ∷ gives (not (shaped a run c)) strangeShape ∷ []
+
+-- the same, and 1 again where a listing that no built set has is longer than the buffer need be
+abbrev pub listingConditions : List ℕ → List ℕ → Counters → List ℕ → List Condition
+listingConditions a run c out =
+    lentConditions a run c (length out) ++ (gives (ltb listingSize (length (listingIn a run c))) shortBuffer ∷ [])
+
+-- the last of them by itself
+unfoldable pub heldRefusal : List ℕ → ℕ
+heldRefusal text = given (gives (ltb listingSize (length text)) shortBuffer ∷ [])
+
+unfoldable pub listingRefusal : List ℕ → List ℕ → Counters → List ℕ → ℕ
+listingRefusal a run c out = given (listingConditions a run c out)
+
+-- a refusal's number, or the length of the text
+abbrev pub writeAnswer : ℕ → List ℕ → Written
+writeAnswer zero text = Written.Bytes (length text)
+writeAnswer (suc r) text = Written.Refused (suc r)
+
+-- the text first, and bytes past it stay; a refusal changes nothing
+abbrev pub writeBuffer : ℕ → List ℕ → List ℕ → List ℕ
+writeBuffer zero text out = sets out 0 text
+writeBuffer (suc r) text out = out
+
+-- this text is written, or refused with this number
+pub record Writes (refusal : ℕ) (text before : List ℕ) (answer : Written) (after : List ℕ) : Type 0 where
+  pub answers : answer ≡ writeAnswer refusal text
+  pub leaves : after ≡ writeBuffer refusal text before
+
+abbrev pub ListingWritten : List ℕ → List ℕ → Counters → List ℕ → Written → List ℕ → Type 0
+ListingWritten a run c before answer after = Writes (listingRefusal a run c before) (listingIn a run c) before answer after
+
+-- what a page holds is written, or 1 where it was too short for it
+abbrev pub pageRefusal : Option (List ℕ) → ℕ
+pageRefusal none = 1
+pageRefusal (some w) = 0
+
+abbrev pub pageText : Option (List ℕ) → List ℕ
+pageText none = []
+pageText (some w) = w
+
+-- the line of a refusal: 1 for a short buffer
+unfoldable pub refusedRefusal : List ℕ → ℕ
+refusedRefusal out = given (gives (ltb (length out) listingSize) shortBuffer ∷ [])
+
+abbrev pub RefusedWritten : ℕ → List ℕ → Written → List ℕ → Type 0
+RefusedWritten n before answer after = Writes (refusedRefusal before) (refusedLine n) before answer after
