@@ -126,7 +126,7 @@ fn emit_folders(a: &[u8], run: &[u8], page: &mut [u8], pen: Pen) -> Pen
     to
 }
 
-// A word and a number.
+// The head of the moves line.
 fn emit_opens(opens: usize, page: &mut [u8], pen: Pen) -> Pen
     requires { ⌜ On (now page) pen ⌝ }
     ensures { λ r. ⌜ Adds (now (page .entry)) pen (movesWord ++ decimal opens) (now (page .exit)) r ⌝ }

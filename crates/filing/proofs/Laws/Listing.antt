@@ -3,4 +3,5 @@ pub mod Pages
 pub mod Same
 pub mod Sizes
 pub mod Steps
+pub mod Whole
 pub mod Written
