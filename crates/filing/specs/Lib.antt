@@ -15,3 +15,4 @@ pub mod Taking
 pub mod Listing
 pub mod Page
 pub mod Listed
+pub mod FiledReport

@@ -6,3 +6,7 @@ pub mod FilingChildless
 pub mod Demand2
 pub mod Restart
 pub mod Taking
+pub mod FilingStored
+pub mod FilingAlike
+pub mod FilingNumbers
+pub mod FromBytes

@@ -26,10 +26,10 @@ some-names [] = refl
 some-names (x ∷ l) = refl
 
 module _ (a b : FolderSet) where
-  same-open : (calls : List Call) → nonEmpty (run a calls .levels) ≡ nonEmpty (run b calls .levels)
+  pub same-open : (calls : List Call) → nonEmpty (run a calls .levels) ≡ nonEmpty (run b calls .levels)
   same-open calls = sym (some-names (run a calls .levels)) ∙ ap nonEmpty (run-alike a b calls .names) ∙ some-names (run b calls .levels)
 
-  same-finished : (calls : List Call) → unfinished (run a calls) ≡ unfinished (run b calls)
+  pub same-finished : (calls : List Call) → unfinished (run a calls) ≡ unfinished (run b calls)
   same-finished calls = rw (run-alike a b calls .opens, same-open calls)
 
   abbrev Files : State → List Event → State → Type 0

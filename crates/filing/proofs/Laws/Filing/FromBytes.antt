@@ -1,0 +1,246 @@
+-- Demand 2 of the call itself: what it answers and leaves, and what is then asked, by the report's document.
+use Prim.Native.Nat.{ℕ, _≤_, _<_}
+use mathlib.Core.Path.{_≡_, refl, sym, ap, _∙_, subst}
+use mathlib.Core.Bool.{true, false}
+use mathlib.Core.Logic.{_↔_}
+use mathlib.Core.Option.{some}
+use mathlib.Core.List.{List, [], _∷_, _++_, List·Memᴰ}
+use lib.Dec.{eqb}
+use lib.ListN.{length, getD, drop}
+use borrow.Author.Tests.{eqb-false, eq-eqb}
+use Rattle.notation.specs.Sets.{Folder, FolderSet, folderNumber}
+use Rattle.notation.specs.Form.{pathsOf}
+use Rattle.notation.specs.Refusals.{Refusal, shortBuffer, oversize, bentForm, outOfTurn, longName, longPath, full, foreignByte, torn, looseEnd, tooDeep, crossed, noSuchPlace, strangeShape, numberOf}
+use Rattle.notation.specs.Accepted.{Accepted}
+use Rattle.notation.specs.declared.PathPlace.{PathPlace}
+use Rattle.notation.specs.declared.FolderNumber.{FolderNumber}
+use Rattle.machine.specs.Words.{any}
+use Rattle.machine.specs.Calls.{Call, State, pathAt, fresh, run}
+use Rattle.machine.specs.History.{FittedAfterOpen}
+use Rattle.machine.specs.Folders.{placesOf, folderMatched, HasFolders}
+use Rattle.machine.specs.Automaton.{automatonOf}
+use Rattle.machine.specs.Run.{runSize, runOf}
+use Rattle.machine.specs.RunCalls.{startRefusal, startRun, noCounters}
+use Rattle.machine.specs.Asking.{yesNo, askPath, askFolder}
+use Rattle.machine.specs.Demand3.{Left, started, Answers, HasFolder, HasMatchedPath}
+use Rattle.machine.specs.declared.counters.Counters.{Counters}
+use Rattle.machine.specs.declared.answers.Asked.{Asked}
+use Rattle.machine.proofs.Laws.Basics.{is-any}
+use Rattle.machine.proofs.Laws.Machine.Matches.{run-matched}
+use Rattle.machine.proofs.Laws.Machine.Moves.{Few, fresh-few}
+use Rattle.machine.proofs.Laws.Running.Means.{Means, means}
+use Rattle.machine.proofs.Laws.Running.FolderPlaces.{hasNumber}
+use Rattle.machine.proofs.Laws.Running.Asking.{asked, ask-folder}
+use Rattle.machine.proofs.Laws.Running.Following.{leftOf, number-none, few-run}
+use Rattle.machine.proofs.Laws.Running.Demand3.{path-answers, folder-answers, demand3-means}
+use Rattle.filing.specs.Document.{eventsOf, documentIn}
+use Rattle.filing.specs.Filing.{Filed, refused, filed, numberGiven, callsIn, fileReport}
+use Rattle.filing.specs.Demand2.{childlessIn, SelectsElement, FolderSelects, OfDocument}
+use Rattle.filing.specs.FileCall.{numberLeft, leftIn, fileLeft, Files}
+use Rattle.filing.specs.FiledReport.{FiledReport, reportNumbers, Demand2Bytes}
+use Rattle.filing.proofs.Laws.Filing.FilingOrder.{refused-is, filed-is}
+use Rattle.filing.proofs.Laws.Filing.FilingAdded.{added}
+use Rattle.filing.proofs.Laws.Filing.FilingAlike.{same-number}
+use Rattle.filing.proofs.Laws.Filing.FilingNumbers.{given-among}
+use Rattle.filing.proofs.Laws.Filing.FilingStored.{storedOf, start-stored, report-stored}
+use Rattle.filing.proofs.Laws.Filing.Demand2.{of-document}
+
+-- a number is that of one refusal only
+byNumber : List Refusal
+byNumber =
+    shortBuffer ∷ shortBuffer ∷ oversize ∷ bentForm ∷ outOfTurn ∷ longName ∷ longPath ∷ full ∷ foreignByte ∷ torn ∷ looseEnd ∷ tooDeep ∷ crossed ∷ noSuchPlace ∷ strangeShape ∷ []
+
+number-back : (r : Refusal) → getD byNumber (numberOf r) shortBuffer ≡ r
+unfolding byNumber
+number-back shortBuffer = refl
+number-back oversize = refl
+number-back bentForm = refl
+number-back outOfTurn = refl
+number-back longName = refl
+number-back longPath = refl
+number-back full = refl
+number-back foreignByte = refl
+number-back torn = refl
+number-back looseEnd = refl
+number-back tooDeep = refl
+number-back crossed = refl
+number-back noSuchPlace = refl
+number-back strangeShape = refl
+
+one-refusal : (q r : Refusal) → numberOf q ≡ numberOf r → q ≡ r
+one-refusal q r e = sym (number-back q) ∙ ap (λ (n : ℕ). getD byNumber n shortBuffer) e ∙ number-back r
+
+some-number : (r : Refusal) → numberOf r ≡ 0 → ⊥
+some-number r = eqb-false (numberOf r) 0 (number-none (some r))
+
+given-refused : (x : Filed) (r : Refusal) → numberGiven x ≡ numberOf r → x ≡ refused r
+given-refused (refused q) r e = ap refused (one-refusal q r e)
+given-refused (filed m) r e = absurd (some-number r (sym e))
+
+given-filed : (x : Filed) → numberGiven x ≡ 0 → (m : State) × (x ≡ filed m)
+given-filed (refused q) e = absurd (some-number q e)
+given-filed (filed m) e = (m, refl)
+
+stored-number : (s : FolderSet) (rest : List ℕ) (x : Filed) → numberLeft (storedOf s rest x) ≡ numberGiven x
+stored-number s rest (refused r) = refl
+stored-number s rest (filed m) = refl
+
+-- where one holds exactly if the other does, the answer is to both
+same-answers : {there one other : Type 0} {answer : Asked} → one ↔ other → Answers there one answer → Answers there other answer
+same-answers i h = record {
+  yes = (λ e. i .0 (h .yes .0 e), λ o. h .yes .1 (i .1 o));
+  no = (λ e. let n = h .no .0 e in (n .0, λ o. n .1 (i .1 o)), λ n. h .no .1 (n .0, λ o. n .1 (i .0 o)));
+  gone = h .gone;
+}
+
+-- what is asked after the calls of a filed report
+module _ (s : FolderSet) (a : List ℕ) (w : Means s a) (rest report : List ℕ) (m : State) (d : OfDocument s report m) where
+  abbrev calls : List Call
+  calls = callsIn (eventsOf (d .report .run .tokens))
+
+  selects : (place : ℕ) → FittedAfterOpen s calls place ↔ SelectsElement (documentIn (d .report)) (pathAt s place)
+  selects place = (
+    λ f. d .paths place .0 (ap (λ (x : State). x .matched place) (sym (d .machine)) ∙ run-matched s calls place .1 f),
+    λ x. run-matched s calls place .0 (ap (λ (x : State). x .matched place) (d .machine) ∙ d .paths place .1 x),
+  )
+
+  ask-places : (place : PathPlace)
+      → Answers (place .0 < length (pathsOf s)) (SelectsElement (documentIn (d .report)) (pathAt s (place .0))) (askPath a (runOf s m ++ rest) place)
+  ask-places place =
+      subst (λ (x : State). Answers (place .0 < length (pathsOf s)) (SelectsElement (documentIn (d .report)) (pathAt s (place .0))) (askPath a (runOf s x ++ rest) place)) (d .machine)
+      (same-answers (selects (place .0)) (path-answers s a w rest calls place))
+
+  folder-selects : (number : ℕ) → HasMatchedPath s a (runOf s m ++ rest) number ↔ FolderSelects s (documentIn (d .report)) number
+  folder-selects number = (
+    λ f. (f .place, f .ofFolder, ask-places (record { 0 = f .place }) .yes .0 (f .isMatched)),
+    λ f. record { place = f .0; ofFolder = f .1; isMatched = ask-places (record { 0 = f .0 }) .yes .1 (f .2) },
+  )
+
+  ask-folders : (number : FolderNumber) → Answers (HasFolder s (number .0)) (FolderSelects s (documentIn (d .report)) (number .0)) (askFolder a (runOf s m ++ rest) number)
+  ask-folders number =
+      same-answers (folder-selects (number .0))
+      (subst (λ (x : State). Answers (HasFolder s (number .0)) (HasMatchedPath s a (runOf s x ++ rest) (number .0)) (askFolder a (runOf s x ++ rest) number)) (d .machine)
+      (folder-answers s a w rest calls number))
+
+-- the machine at the end; a refused report leaves a fresh one
+abbrev endOf : FolderSet → Filed → State
+endOf s (refused r) = fresh s
+endOf s (filed m) = m
+
+-- what the call answers and leaves
+module _ (s : FolderSet) (a : List ℕ) (w : Means s a) (lent : List ℕ) (long : runSize ≤ length lent) (c : Counters) (report : List ℕ)
+    (answer : ℕ) (run' : List ℕ) (c' : Counters) (f : Files a lent c report answer run' c') where
+  abbrev rest : List ℕ
+  rest = drop runSize lent
+
+  starts : startRefusal a lent ≡ 0
+  starts = demand3-means s a w lent long [] .starts
+
+  answer-is : answer ≡ numberGiven (fileReport s report)
+  answer-is = f .answers ∙ rw (starts, report-stored s a w lent report) (stored-number s rest (fileReport s report))
+
+  left-is : fileLeft a lent c report ≡ leftIn (started a lent) (storedOf s rest (fileReport s report))
+  left-is = rw (starts, report-stored s a w lent report)
+
+  left-refused : (r : Refusal) → fileReport s report ≡ refused r → fileLeft a lent c report ≡ started a lent
+  left-refused r e = left-is ∙ ap (λ (x : Filed). leftIn (started a lent) (storedOf s rest x)) e
+
+  left-filed : (m : State) → fileReport s report ≡ filed m → fileLeft a lent c report ≡ leftOf s rest m
+  left-filed m e = left-is ∙ ap (λ (x : Filed). leftIn (started a lent) (storedOf s rest x)) e
+
+  run-left : (t : Left) → fileLeft a lent c report ≡ t → run' ≡ t .bytes
+  run-left t e = f .runAfter ∙ ap (λ (x : Left). x .bytes) e
+
+  counters-left : (t : Left) → fileLeft a lent c report ≡ t → c' ≡ t .counters
+  counters-left t e = f .countersAfter ∙ ap (λ (x : Left). x .counters) e
+
+  refused-leaves : (x : Filed) → fileReport s report ≡ x → (answer ≡ 0 → ⊥) → (run' ≡ startRun a lent) × (c' ≡ noCounters)
+  refused-leaves (refused r) e h = (run-left (started a lent) (left-refused r e), counters-left (started a lent) (left-refused r e))
+  refused-leaves (filed m) e h = absurd (h (answer-is ∙ ap numberGiven e))
+
+  filed-leaves : (m : State) → fileReport s report ≡ filed m → FiledReport s a report lent run' c'
+  filed-leaves m e =
+      let is = filed-is s report m .0 e in
+      let d : OfDocument s report m = of-document s report m is in
+      let r : run' ≡ runOf s m ++ rest = run-left (leftOf s rest m) (left-filed m e) in
+      let k = counters-left (leftOf s rest m) (left-filed m e) in
+      record {
+        machine = m;
+        isFiled = is;
+        ofDocument = d;
+        runLeft = r;
+        paths = λ place. rw r (ask-places s a w rest report m d place);
+        folders = λ number. rw r (ask-folders s a w rest report m d number);
+        opens = ap (λ (x : Counters). x .opens) k ∙ d .opens;
+        closes = ap (λ (x : Counters). x .closes) k ∙ d .closes;
+        moves = ap (λ (x : Counters). x .moves) k;
+        movesMost = subst (λ (x : Counters). x .moves ≤ childlessIn 0 (documentIn (d .report))) (sym k) (d .moves);
+      }
+
+  -- the run left is that of the machine at the end
+  run-end : (x : Filed) → fileReport s report ≡ x → run' ≡ runOf s (endOf s x) ++ rest
+  run-end (refused r) e = run-left (leftOf s rest (fresh s)) (left-refused r e ∙ start-stored s a w lent)
+  run-end (filed m) e = run-left (leftOf s rest m) (left-filed m e)
+
+  few-end : (x : Filed) → fileReport s report ≡ x → Few s (endOf s x) []
+  few-end (refused r) e = fresh-few s
+  few-end (filed m) e =
+      let d = of-document s report m (filed-is s report m .0 e) in
+      subst (λ (x : State). Few s x []) (d .machine) (few-run s (callsIn (eventsOf (d .report .run .tokens))))
+
+  -- a folder of the set is answered by its matches
+  folder-asked : (x : Folder) → List·Memᴰ x s → askFolder a run' (record { 0 = folderNumber x }) ≡ yesNo (folderMatched s (endOf s (fileReport s report)) (folderNumber x))
+  folder-asked x i =
+      let n = folderNumber x in
+      let there : hasNumber s n ≡ true = is-any (λ y. eqb (folderNumber y) n) s i (eq-eqb n n refl) in
+      rw (run-end (fileReport s report) refl)
+      (ask-folder s a w (endOf s (fileReport s report)) (few-end (fileReport s report) refl) rest (record { 0 = n }) ∙ rw there)
+
+-- adding folders
+no-matches : (s : FolderSet) (l : List ℕ) → any (fresh s .matched) l ≡ false
+unfolding any fresh
+no-matches s [] = refl
+no-matches s (i ∷ l) = no-matches s l
+
+same-matched : (s larger : FolderSet) (text report : List ℕ) → Accepted text larger → HasFolders larger s → (f : Folder) → List·Memᴰ f s → (x : Filed) → fileReport s report ≡ x
+    → folderMatched larger (endOf larger (fileReport larger report)) (folderNumber f) ≡ folderMatched s (endOf s x) (folderNumber f)
+same-matched s larger text report acc has f i (refused r) e =
+    let other : fileReport larger report ≡ refused r = given-refused (fileReport larger report) r (same-number larger s report ∙ ap numberGiven e) in
+    rw other (no-matches larger (placesOf larger (folderNumber f)) ∙ sym (no-matches s (placesOf s (folderNumber f))))
+same-matched s larger text report acc has f i (filed m) e =
+    let d = added s larger text report acc has m e in
+    rw (d .isFiled) (sym (d .same f i))
+
+-- of every accepted set, whatever stands behind its automaton, every run lent of the size of a run or more, and every report
+pub demand2-bytes : (text : List ℕ) (s : FolderSet) → Accepted text s → (behind lent : List ℕ) → runSize ≤ length lent → (c : Counters) (report : List ℕ)
+    (answer : ℕ) (run' : List ℕ) (c' : Counters) → Files (automatonOf s ++ behind) lent c report answer run' c'
+    → Demand2Bytes s (automatonOf s ++ behind) report lent answer run' c'
+demand2-bytes text s acc behind lent long c report answer run' c' f =
+    let a = automatonOf s ++ behind in
+    let w = means text s acc behind in
+    let is = answer-is s a w lent long c report answer run' c' f in
+    record {
+      refusals = λ r. (
+        λ e. refused-is s report r .0 (given-refused (fileReport s report) r (sym is ∙ e)),
+        λ h. is ∙ ap numberGiven (refused-is s report r .1 h),
+      );
+      filings = (
+        λ e. let (m, h) = given-filed (fileReport s report) (sym is ∙ e) in (m, filed-is s report m .0 h),
+        λ h. is ∙ ap numberGiven (filed-is s report (h .0) .1 (h .1)),
+      );
+      numbers = subst (λ (n : ℕ). List·Memᴰ n reportNumbers) (sym is) (given-among s report);
+      refusedLeaves = refused-leaves s a w lent long c report answer run' c' f (fileReport s report) refl;
+      filedLeaves = λ e.
+          let (m, h) = given-filed (fileReport s report) (sym is ∙ e) in
+          filed-leaves s a w lent long c report answer run' c' f m h;
+      adding = λ text₂ larger acc₂ has behind₂ lent₂ long₂ c₂ other run₂ c₃ g.
+          let b = automatonOf larger ++ behind₂ in
+          let v = means text₂ larger acc₂ behind₂ in
+          record {
+            answers = answer-is larger b v lent₂ long₂ c₂ report other run₂ c₃ g ∙ same-number larger s report ∙ sym is;
+            folders = λ x i.
+                folder-asked larger b v lent₂ long₂ c₂ report other run₂ c₃ g x (has x i)
+                ∙ ap yesNo (same-matched s larger text₂ report acc₂ has x i (fileReport s report) refl)
+                ∙ sym (folder-asked s a w lent long c report answer run' c' f x i);
+          };
+    }
