@@ -92,7 +92,7 @@ lent-room a run c size e = ltb-false size listingSize (go (tooShort a run) (ltb 
     go false false s h = refl
 
 -- the line of a refusal has room
-refused-short : (n : ℕ) → n < 256 → length (refusedLine n) ≤ listingSize
+pub refused-short : (n : ℕ) → n < 256 → length (refusedLine n) ≤ listingSize
 unfolding refusedLine refusedWord footer listingSize maxSetBytes maxMovesLine tens
 refused-short n h =
     let k : length (decimal n) ≤ 3 = decimal-few 2 n (omega arith) in
