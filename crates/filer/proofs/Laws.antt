@@ -1,0 +1,3 @@
+pub mod Shows
+pub mod Whole
+pub mod Within

@@ -1,0 +1,21 @@
+#!/usr/bin/env bash
+# Runs `filer` beside libxml2 (xmllint, Debian's libxml2-utils) on cases made from a fixed seed: every path's match is held to libxml2's
+# XPath 1.0, the opens to count(//*), and acceptance to its parser where the subset and XML 1.0 agree; where they differ by design,
+# make_cases.py has the reasons. CASES is how many.
+set -uo pipefail
+cd "$(dirname "$0")/.."
+
+if ! command -v xmllint >/dev/null; then
+    { apt-get update && apt-get install -y --no-install-recommends libxml2-utils; } >/dev/null 2>&1
+    command -v xmllint >/dev/null || { echo "xmllint is missing and could not be installed (Debian: libxml2-utils)"; exit 1; }
+fi
+command -v python3 >/dev/null || { echo "python3 is missing"; exit 1; }
+
+. tests/program.bash
+
+tests=$PWD/tests/xpath
+work=$(mktemp -d)
+trap 'rm -rf "$work"' EXIT
+python3 -B "$tests/make_cases.py" "$work" "${CASES:-4000}" || exit 1
+find "$work" -mindepth 1 -type d | sort | xargs -P 2 -n 100 bash "$tests/run_cases.sh" "$program" || exit 1
+python3 -B "$tests/compare.py" "$work"
