@@ -17,8 +17,3 @@ pub mod Page
 pub mod Listed
 pub mod Filer
 pub mod Taking
-pub mod Taking
-pub mod Listing
-pub mod Page
-pub mod Listed
-pub mod FiledReport

@@ -4,10 +4,8 @@ pub mod FilingRun
 pub mod FilingAdded
 pub mod FilingChildless
 pub mod Demand2
-pub mod Restart
 pub mod Taking
 pub mod FilingStored
 pub mod FilingAlike
 pub mod FilingNumbers
 pub mod FromBytes
-pub mod Taking
