@@ -1,0 +1,107 @@
+// Prints, for each case, its report and what filing it prints; a byte that does not print stands as `?`, and a long report as its name.
+mod say;
+mod texts;
+
+use say::show;
+use texts::nested;
+use texts::sized;
+
+fn example() {
+    let set = b"(folders\n(folder 3 (//clock/drift) (/lock/*/drift))\n(folder 8 (//*/lock))\n)\n";
+    show(set, b"<lock><clock><drift/></clock></lock>");
+    show(set, b"<lock/>");
+}
+
+fn errs() {
+    let set = b"(folders\n(folder 1 (//a//b))\n(folder 2 (//a/a/b))\n(folder 3 (//a/*))\n)\n";
+    show(set, b"<r><b/><a><b/></a></r>");
+    show(set, b"<r><a/><b/></r>");
+    show(set, b"<a><b/></a>");
+    show(
+        b"(folders\n(folder 1 (//a/a/b))\n)\n",
+        b"<r><a><a><c/><c/><c/><c/></a></a></r>",
+    );
+    show(
+        b"(folders\n(folder 1 (/a/b))\n)\n",
+        b"<a><c><b/></c><b/></a>",
+    );
+}
+
+fn foreign() {
+    show(b"(folders\n)\n", b"<a>\t\n\r ~</a>");
+    show(b"(folders\n)\n", b"<a>\x08</a>");
+    show(b"(folders\n)\n", b"<a>\x1f</a>");
+    show(b"(folders\n)\n", b"<a>\x7f</a>");
+    show(b"(folders\n)\n", b"<a>\x80</a>");
+}
+
+fn torn() {
+    show(b"(folders\n)\n", b"<a>]]></a>");
+    show(b"(folders\n)\n", b"<a b=\"]]>\"/>");
+    show(b"(folders\n)\n", b"<a>&copy;</a>");
+    show(b"(folders\n)\n", b"<a b='1'c='2'/>");
+    show(b"(folders\n)\n", b"<!--a--->");
+}
+
+fn loose() {
+    show(b"(folders\n)\n", b"");
+    show(b"(folders\n)\n", b" ");
+    show(b"(folders\n)\n", b"<!--a-->");
+    show(b"(folders\n)\n", b"<a>");
+    show(b"(folders\n)\n", b"</a>");
+    show(b"(folders\n)\n", b"<a/><b/>");
+}
+
+fn outside() {
+    show(b"(folders\n)\n", b"<a/>x");
+    show(b"(folders\n)\n", b"x<a/>");
+    show(b"(folders\n)\n", b"<a/>&amp;");
+    show(b"(folders\n)\n", b" <a/><!--a-->\n");
+}
+
+fn names() {
+    show(b"(folders\n)\n", b"<abcdefghijklmnopqrstuvwxyz012345/>");
+    show(b"(folders\n)\n", b"<abcdefghijklmnopqrstuvwxyz0123456/>");
+    show(b"(folders\n)\n", b"<a></abcdefghijklmnopqrstuvwxyz0123456>");
+    show(b"(folders\n)\n", b"<a></b>");
+}
+
+fn both() {
+    show(b"(folders\n)\n", b"<a\x7f");
+    show(b"(folders\n)\n", b"<a></b><");
+    show(b"(folders\n)\n", b"<a>]]><b>");
+    nested(b"65 nested, then a crossed close", 65, b"</b>", 0);
+    nested(
+        b"64 nested, a crossed close, then one more",
+        64,
+        b"</b><a>",
+        0,
+    );
+}
+
+fn edges() {
+    nested(b"64 nested", 64, b"", 64);
+    nested(b"65 nested", 65, b"", 65);
+    sized(b"65536 bytes", 65529);
+    sized(b"65537 bytes", 65530);
+}
+
+fn left() {
+    say::left(b"<a/>x");
+    say::left(b"<a><a/></b>");
+    say::left(b"<a><a/></a>");
+    say::short(b"<a");
+}
+
+fn main() {
+    example();
+    errs();
+    foreign();
+    torn();
+    loose();
+    outside();
+    names();
+    both();
+    edges();
+    left();
+}
