@@ -2,6 +2,7 @@
 mod say;
 mod texts;
 
+use say::judge;
 use say::show;
 use texts::nested;
 use texts::sized;
@@ -28,48 +29,48 @@ fn errs() {
 }
 
 fn foreign() {
-    show(b"(folders\n)\n", b"<a>\t\n\r ~</a>");
-    show(b"(folders\n)\n", b"<a>\x08</a>");
-    show(b"(folders\n)\n", b"<a>\x1f</a>");
-    show(b"(folders\n)\n", b"<a>\x7f</a>");
-    show(b"(folders\n)\n", b"<a>\x80</a>");
+    judge(b"<a>\t\n\r ~</a>");
+    judge(b"<a>\x08</a>");
+    judge(b"<a>\x1f</a>");
+    judge(b"<a>\x7f</a>");
+    judge(b"<a>\x80</a>");
 }
 
 fn torn() {
-    show(b"(folders\n)\n", b"<a>]]></a>");
-    show(b"(folders\n)\n", b"<a b=\"]]>\"/>");
-    show(b"(folders\n)\n", b"<a>&copy;</a>");
-    show(b"(folders\n)\n", b"<a b='1'c='2'/>");
-    show(b"(folders\n)\n", b"<!--a--->");
+    judge(b"<a>]]></a>");
+    judge(b"<a b=\"]]>\"/>");
+    judge(b"<a>&copy;</a>");
+    judge(b"<a b='1'c='2'/>");
+    judge(b"<!--a--->");
 }
 
 fn loose() {
-    show(b"(folders\n)\n", b"");
-    show(b"(folders\n)\n", b" ");
-    show(b"(folders\n)\n", b"<!--a-->");
-    show(b"(folders\n)\n", b"<a>");
-    show(b"(folders\n)\n", b"</a>");
-    show(b"(folders\n)\n", b"<a/><b/>");
+    judge(b"");
+    judge(b" ");
+    judge(b"<!--a-->");
+    judge(b"<a>");
+    judge(b"</a>");
+    judge(b"<a/><b/>");
 }
 
 fn outside() {
-    show(b"(folders\n)\n", b"<a/>x");
-    show(b"(folders\n)\n", b"x<a/>");
-    show(b"(folders\n)\n", b"<a/>&amp;");
-    show(b"(folders\n)\n", b" <a/><!--a-->\n");
+    judge(b"<a/>x");
+    judge(b"x<a/>");
+    judge(b"<a/>&amp;");
+    judge(b" <a/><!--a-->\n");
 }
 
 fn names() {
-    show(b"(folders\n)\n", b"<abcdefghijklmnopqrstuvwxyz012345/>");
-    show(b"(folders\n)\n", b"<abcdefghijklmnopqrstuvwxyz0123456/>");
-    show(b"(folders\n)\n", b"<a></abcdefghijklmnopqrstuvwxyz0123456>");
-    show(b"(folders\n)\n", b"<a></b>");
+    judge(b"<abcdefghijklmnopqrstuvwxyz012345/>");
+    judge(b"<abcdefghijklmnopqrstuvwxyz0123456/>");
+    judge(b"<a></abcdefghijklmnopqrstuvwxyz0123456>");
+    judge(b"<a></b>");
 }
 
 fn both() {
-    show(b"(folders\n)\n", b"<a\x7f");
-    show(b"(folders\n)\n", b"<a></b><");
-    show(b"(folders\n)\n", b"<a>]]><b>");
+    judge(b"<a\x7f");
+    judge(b"<a></b><");
+    judge(b"<a>]]><b>");
     nested(b"65 nested, then a crossed close", 65, b"</b>", 0);
     nested(
         b"64 nested, a crossed close, then one more",
