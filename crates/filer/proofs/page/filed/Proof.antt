@@ -1,3 +1,4 @@
+-- `page::filed`: the set's refusal goes before all else.
 use Rattle.filer.proofs.Laws.Whole.{prints-refused, prints-filed}
 use borrow.Author.Needs.{needs}
 use Rattle.filer.proofs.page.filed.Statement.{statement}

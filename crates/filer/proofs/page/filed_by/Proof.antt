@@ -1,3 +1,4 @@
+-- `page::filed_by`: the report's refusal goes before the listing.
 use Rattle.machine.specs.RunCalls.{noCounters}
 use Rattle.filing.specs.FileCall.{fileLeft}
 use Rattle.filer.proofs.Laws.Shows.{answer-refused, answer-none, left-shown}

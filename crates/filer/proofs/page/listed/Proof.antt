@@ -1,3 +1,4 @@
+-- `page::listed`: the listing, or the line of its refusal.
 use Rattle.filing.specs.Listed.{listingRefusal, listingIn}
 use Rattle.filer.proofs.Laws.Shows.{bytes-shown, refused-instead, listing-room}
 use borrow.Author.Needs.{needs}

@@ -1,3 +1,4 @@
+-- `page::refused`: the line has room.
 use native.Mathlib.Omega.{arith}
 use Rattle.filer.proofs.Laws.Shows.{line-shown}
 use borrow.Author.Needs.{needs}
