@@ -57,6 +57,19 @@ path 'moves in a tree' '//a/a/b' '<r><a><a><c/><c/><c/><c/></a></a></r>' 0 7 8
 path 'a path that ends in *' '//a/*' '<a><b/></a>' 1 2 1
 path 'a path that ends in *, alone' '//a/*' '<a/>' 0 1 0
 
+# the table of the fit definition
+path 'table 1' '/a' '<a/>' 1 1 0
+path 'table 2' '/a' '<r><a/></r>' 0 2 1
+path 'table 3' '//a' '<a/>' 1 1 0
+path 'table 4' '//*/a' '<a/>' 0 1 0
+path 'table 5' '//*/a' '<r><a/></r>' 1 2 0
+path 'table 6' '//a/*/c' '<a><a><b><c/></b></a></a>' 1 4 2
+path 'table 7' '/a/*' '<a/>' 0 1 0
+path 'table 8' '/a/*' '<a><b/></a>' 1 2 1
+path 'table 9' '//a/b//b' '<a><b/></a>' 0 2 0
+path 'table 10' '//a/b//b' '<a><b><b/></b></a>' 1 3 2
+path 'table 11' '//a//b' '<a><c><b/></c></a>' 1 3 1
+
 path '64 nested' '//a' "$(times '<a>' 64)$(times '</a>' 64)" 1 64 63
 files '65 nested' $'(folder 1 (//a))\n' "$(times '<a>' 65)$(times '</a>' 65)" '(refused 11)'
 path '16 steps' "$(times /a 16)" "$(times '<a>' 16)$(times '</a>' 16)" 1 16 0

@@ -35,18 +35,19 @@ def judge(folder, seen):
     """None, or what is wrong."""
     text, report = read(folder, "folders.txt"), read(folder, "report.xml")
     kind = read(folder, "kind").decode()
-    got = read(folder, "got")
-    if read(folder, "got.status") != b"0\n" or read(folder, "said"):
+    got, ended, _ = read(folder, "got").rpartition(b"status 0\n")
+    if not ended:
         return "the program failed"
     refused, folders = read_set(text)
     if refused:
         seen["sets refused"] += 1
         return None if got == b"(refused %d)\n" % refused else "a set to be refused with %d" % refused
     refused = report_refusal(report)
-    taken = read(folder, "selected.status") == b"0\n"
+    answers = read(folder, "selected")
+    taken = answers.endswith(b"status 0\n")
     if kind.startswith("refused") and not (taken and refused):
         return "no difference where there should be one: " + kind
-    if kind.startswith("taken") and (refused or not taken or read(folder, "otherwise") == read(folder, "selected")):
+    if kind.startswith("taken") and (refused or not taken or read(folder, "otherwise") == answers):
         return "no difference where there should be one: " + kind
     if refused:
         seen["reports refused"] += 1
@@ -59,7 +60,7 @@ def judge(folder, seen):
         if not doubled(report):
             return "libxml2 refuses a report that is to be filed"
         return None if got.startswith(b"(filed\n") else "a report to be filed"
-    words = read(folder, "selected").split()
+    words = answers.split()[:-2]
     selected = [word == b"true" for word in words[1:]]
     seen["reports filed"] += 1
     seen["paths compared"] += len(selected)

@@ -188,7 +188,7 @@ def expression(text):
     """One XPath 1.0 expression: the count of elements, and for each path whether it selects any."""
     _, folders = read_set(text)
     asked = [b"boolean(" + p + b")" for _, own in folders for p in own]
-    return b"concat(count(//*),' '" + b"".join(b",' '," + a for a in asked) + b")"
+    return b"concat(count(//*),' '" + b"".join(b",' '," + a for a in asked) + b")\n"
 
 
 def cases(count):

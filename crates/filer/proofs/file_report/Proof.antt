@@ -1,3 +1,4 @@
+-- `file_report`: what was read lies within its buffer.
 use mathlib.Core.Path.{sym}
 use lib.Seq.{length-take-le}
 use Rattle.filer.proofs.Laws.Within.{within-of}

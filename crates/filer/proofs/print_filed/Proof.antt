@@ -1,3 +1,4 @@
+-- `print_filed`: the buffers have their sizes, and what is printed lies within the page.
 use Prim.Native.Nat.{ℕ}
 use native.Mathlib.Omega.{arith}
 use lib.ListN.{length-replicate}

@@ -1,3 +1,4 @@
+-- `files::read_all`: the count stays within the buffer, and each turn that goes on makes it larger.
 use mathlib.Core.Path.{_≡_, refl, _∙_}
 use borrow.Author.Needs.{needs}
 use Rattle.filer.proofs.Laws.Within.{within-of}

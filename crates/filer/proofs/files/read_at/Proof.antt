@@ -1,3 +1,4 @@
+-- `files::read_at`: what was read into a part lies within the whole.
 use Rattle.filer.proofs.Laws.Within.{within-part}
 use borrow.Author.Needs.{needs}
 use Rattle.filer.proofs.files.read_at.Statement.{statement}

@@ -1,3 +1,4 @@
+-- `files::read_file`: a missing file has no bytes.
 use native.Mathlib.Omega.{arith}
 use Rattle.filer.proofs.Laws.Within.{within-more}
 use borrow.Author.Needs.{needs}

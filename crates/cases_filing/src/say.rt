@@ -1,0 +1,123 @@
+// Files a report with a set and prints what the program prints.
+use filing::limits::LISTING_SIZE;
+use filing::listing::write_listing;
+use filing::listing::write_refused;
+use filing::report::Taken;
+use filing::report::file_by;
+use machine::answers::Written;
+use machine::build::build;
+use machine::counters::Counters;
+
+fn put(s: &[u8]) {
+    let mut i = 0;
+    while i < s.len() {
+        let b = s[i];
+        if b < 32 {
+            io::write_all(1, b"?");
+        } else {
+            if b < 127 {
+                let j = i + 1;
+                io::write_all(1, &s[i..j]);
+            } else {
+                io::write_all(1, b"?");
+            }
+        }
+        i += 1;
+    }
+}
+
+fn line(text: &[u8]) {
+    put(text);
+    io::write_all(1, b"\n");
+}
+
+// What was written at the start of a page, or that it was refused.
+fn print(answer: Written, page: &[u8]) {
+    match answer {
+        Written::Bytes(n) => {
+            if n <= page.len() {
+                let from = 0;
+                io::write_all(1, &page[from..n]);
+            }
+        }
+        Written::Refused(_) => {
+            io::write_all(1, b"no page\n");
+        }
+    }
+}
+
+fn print_refused(n: u8) {
+    let mut page = [0u8; LISTING_SIZE];
+    let answer = write_refused(n, &mut page);
+    print(answer, &page);
+}
+
+fn print_listing(a: &[u8], run: &[u8], c: Counters) {
+    let mut page = [0u8; LISTING_SIZE];
+    let answer = write_listing(a, run, c, &mut page);
+    print(answer, &page);
+}
+
+fn print_taken(a: &[u8], run: &[u8], done: Taken) {
+    if done.refusal != 0 {
+        print_refused(done.refusal);
+    } else {
+        let c = done.counters;
+        print_listing(a, run, c);
+    }
+}
+
+fn print_answer(n: u8) {
+    io::write_all(1, b"answer ");
+    io::print_decimal(1, n as u64);
+    io::write_all(1, b"\n");
+}
+
+fn none() -> Counters {
+    Counters {
+        opens: 0,
+        closes: 0,
+        moves: 0,
+    }
+}
+
+// The name of a case, and what filing prints.
+pub fn file(name: &[u8], set: &[u8], report: &[u8]) {
+    let mut a = [0u8; 65536];
+    let mut run = [0u8; 65536];
+    line(name);
+    build(set, &mut a);
+    let done = file_by(&a, &mut run, none(), report);
+    print_taken(&a, &run, done);
+}
+
+pub fn show(set: &[u8], report: &[u8]) {
+    file(report, set, report);
+}
+
+// A report with a set that has no folders.
+pub fn judge(report: &[u8]) {
+    show(b"(folders\n)\n", report);
+}
+
+// A report after another on the same run: the number answered, and what is left.
+pub fn left(report: &[u8]) {
+    let mut a = [0u8; 65536];
+    let mut run = [0u8; 65536];
+    line(report);
+    build(b"(folders\n(folder 1 (//a))\n(folder 2 (//b))\n)\n", &mut a);
+    let first = file_by(&a, &mut run, none(), b"<b/>");
+    let done = file_by(&a, &mut run, first.counters, report);
+    print_answer(done.refusal);
+    print_listing(&a, &run, done.counters);
+}
+
+// A run that is too short: 1 comes before all else.
+pub fn short(report: &[u8]) {
+    let mut a = [0u8; 65536];
+    let mut run = [0u8; 65535];
+    line(report);
+    build(b"(folders\n)\n", &mut a);
+    let done = file_by(&a, &mut run, none(), report);
+    print_answer(done.refusal);
+}
