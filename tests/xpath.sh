@@ -5,11 +5,11 @@
 set -uo pipefail
 cd "$(dirname "$0")/.."
 
-if ! command -v xmllint >/dev/null; then
-    { apt-get update && apt-get install -y --no-install-recommends libxml2-utils; } >/dev/null 2>&1
-    command -v xmllint >/dev/null || { echo "xmllint is missing and could not be installed (Debian: libxml2-utils)"; exit 1; }
-fi
-command -v python3 >/dev/null || { echo "python3 is missing"; exit 1; }
+for need in xmllint:libxml2-utils python3:python3; do
+    command -v "${need%%:*}" >/dev/null && continue
+    { apt-get update && apt-get install -y --no-install-recommends "${need#*:}"; } >/dev/null 2>&1
+    command -v "${need%%:*}" >/dev/null || { echo "${need%%:*} is missing and could not be installed (Debian: ${need#*:})"; exit 1; }
+done
 
 . tests/program.bash
 
