@@ -12,6 +12,9 @@ ghost use Rattle.filing.specs.Reading.{front};
 pub fn blank(b: u8) -> bool
     ensures { λ r. ⌜ r ≡ blankByte b ⌝ }
 {
+    if 32 < b {
+        return false;
+    }
     if b == 9 {
         return true;
     }
@@ -28,19 +31,16 @@ pub fn blank(b: u8) -> bool
 pub fn listed(b: u8) -> bool
     ensures { λ r. ⌜ r ≡ listedByte b ⌝ }
 {
+    if 32 <= b {
+        return b <= 126;
+    }
     if b == 9 {
         return true;
     }
     if b == 10 {
         return true;
     }
-    if b == 13 {
-        return true;
-    }
-    if b < 32 {
-        return false;
-    }
-    b <= 126
+    b == 13
 }
 
 // A byte that may stand for itself in text.

@@ -84,11 +84,17 @@ fn end_tag(s: &[u8], at: usize) -> Found
     }
 }
 
-// `--` stands at the offset.
+// `--` stands at the offset. Its first byte is tested first: most bytes are another.
 fn dashes(s: &[u8], at: usize) -> bool
     requires { ⌜ at ≤ length (now s) ⌝ }
     ensures { λ r. ⌜ r ≡ begins (45 ∷ 45 ∷ []) (drop at (now (s .entry))) ⌝ }
 {
+    if s.len() <= at {
+        return false;
+    }
+    if s[at] != 45 {
+        return false;
+    }
     word_at(s, at, b"--")
 }
 
@@ -100,11 +106,17 @@ fn comment_close(s: &[u8], at: usize) -> bool
     word_at(s, at, b"-->")
 }
 
-// `]]>` stands at the offset.
+// `]]>` stands at the offset. Its first byte is tested first: most bytes are another.
 fn section_close(s: &[u8], at: usize) -> bool
     requires { ⌜ at ≤ length (now s) ⌝ }
     ensures { λ r. ⌜ r ≡ begins (93 ∷ 93 ∷ 62 ∷ []) (drop at (now (s .entry))) ⌝ }
 {
+    if s.len() <= at {
+        return false;
+    }
+    if s[at] != 93 {
+        return false;
+    }
     word_at(s, at, b"]]>")
 }
 

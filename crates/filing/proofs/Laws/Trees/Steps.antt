@@ -64,6 +64,15 @@ module _ (w s : List ℕ) (i k : ℕ) where
   unfolding begins
   begins-end h = ap (λ (v : List ℕ). begins v (drop k s)) (drop-of-length-le w h)
 
+module _ (b : ℕ) (w s : List ℕ) (k : ℕ) where
+  pub begins-other : k < length s → (getD s k 0 ≡ b → ⊥) → begins (b ∷ w) (drop k s) ≡ false
+  unfolding begins
+  begins-other l n = rw (drop-cons s k 0 l, ne-eqb b (getD s k 0) (λ e. n (sym e)))
+
+  pub begins-past : length s ≤ k → begins (b ∷ w) (drop k s) ≡ false
+  unfolding begins
+  begins-past h = ap (begins (b ∷ w)) (drop-of-length-le s h)
+
 pub begins-short : (w l : List ℕ) → length l < length w → begins w l ≡ false
 unfolding begins
 begins-short [] l h = absurd (omega arith)

@@ -1,13 +1,12 @@
 -- `filing::scan::blank` meets its contract.
 use mathlib.Core.Path.{sym, ap}
 use Rattle.filing.specs.Tokens.{blank}
-use Rattle.filing.proofs.Laws.Read.ByteTests.{blank-last}
+use Rattle.filing.proofs.Laws.Read.ByteTests.{blank-high, blank-last}
 use Rattle.filing.proofs.scan.blank.Statement.{statement}
 use Rattle.filing.proofs.scan.blank.Tie as tie
 
 returns : tie.Need-returns
-unfolding blank
-returns c = sym (ap blank (c .if1 .taken))
+returns c = sym (blank-high _ (c .if1 .taken))
 
 returns-2 : tie.Need-returns-2
 unfolding blank
@@ -18,7 +17,11 @@ unfolding blank
 returns-3 c = sym (ap blank (c .if3 .taken))
 
 returns-4 : tie.Need-returns-4
-returns-4 c = sym (blank-last _ (c .before .before .if1 .left) (c .before .if2 .left) (c .if3 .left))
+unfolding blank
+returns-4 c = sym (ap blank (c .if4 .taken))
+
+returns-5 : tie.Need-returns-5
+returns-5 c = sym (blank-last _ (c .before .before .if2 .left) (c .before .if3 .left) (c .if4 .left))
 
 pub blank-spec : {M : Type 1} → statement M
-blank-spec = tie.close (tie.spec returns returns-2 returns-3 returns-4)
+blank-spec = tie.close (tie.spec returns returns-2 returns-3 returns-4 returns-5)

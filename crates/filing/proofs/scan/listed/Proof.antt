@@ -1,14 +1,12 @@
 -- `filing::scan::listed` meets its contract.
 use mathlib.Core.Path.{sym, ap}
-use borrow.Author.Tests.{le-leb, lt-leb}
 use Rattle.filing.specs.Tokens.{listed}
-use Rattle.filing.proofs.Laws.Read.ByteTests.{listed-last}
+use Rattle.filing.proofs.Laws.Read.ByteTests.{listed-high, listed-last}
 use Rattle.filing.proofs.scan.listed.Statement.{statement}
 use Rattle.filing.proofs.scan.listed.Tie as tie
 
 returns : tie.Need-returns
-unfolding listed
-returns c = sym (ap listed (c .if1 .taken))
+returns c = sym (listed-high _ (c .if1 .taken))
 
 returns-2 : tie.Need-returns-2
 unfolding listed
@@ -19,10 +17,7 @@ unfolding listed
 returns-3 c = sym (ap listed (c .if3 .taken))
 
 returns-4 : tie.Need-returns-4
-returns-4 c = rw (listed-last _ (c .before .before .before .if1 .left) (c .before .before .if2 .left) (c .before .if3 .left), lt-leb 32 _ (c .if4 .taken))
-
-returns-5 : tie.Need-returns-5
-returns-5 c = rw (listed-last _ (c .before .before .before .if1 .left) (c .before .before .if2 .left) (c .before .if3 .left), le-leb 32 _ (c .if4 .left))
+returns-4 c = sym (listed-last _ (c .before .before .if1 .left) (c .before .if2 .left) (c .if3 .left))
 
 pub listed-spec : {M : Type 1} → statement M
-listed-spec = tie.close (tie.spec returns returns-2 returns-3 returns-4 returns-5)
+listed-spec = tie.close (tie.spec returns returns-2 returns-3 returns-4)
