@@ -2,7 +2,6 @@
 use machine::answers::Asked;
 use machine::answers::Length;
 use machine::answers::Opened;
-use machine::build;
 use machine::counters::Counters;
 use machine::run::asking;
 use machine::run::close;
@@ -10,6 +9,7 @@ use machine::run::open;
 use machine::run::start;
 use notation::FolderNumber;
 use notation::PathPlace;
+use notation::reads;
 
 pub fn bytes(s: &[u8]) {
     io::write_all(1, s);
@@ -49,14 +49,6 @@ pub fn begin(a: &[u8], run: &mut [u8], c: Counters) -> Counters {
     bytes(b"  start");
     refusal(r.refusal);
     r.counters
-}
-
-// A set is built, and a run of it begun.
-pub fn fresh(name: &[u8], a: &mut [u8], run: &mut [u8], set: &[u8]) -> Counters {
-    bytes(name);
-    bytes(b"\n");
-    build::build(set, a);
-    begin(a, run, made(0, 0, 0))
 }
 
 fn opened(answer: Opened) {
@@ -128,4 +120,18 @@ pub fn name(a: &[u8], run: &[u8], d: usize) {
     bytes(asking::open_name(a, run, d));
     bytes(b")");
     refusal(asking::name_refusal(a, run, d));
+}
+
+// The last byte of a buffer of 65,536, and the byte after it.
+pub fn ends(a: &[u8], run: &[u8]) {
+    byte(a, 65535);
+    byte(a, 65536);
+    byte(run, 65535);
+    byte(run, 65536);
+}
+
+fn byte(buffer: &[u8], at: usize) {
+    count(b"  byte ", at);
+    count(b" ", reads::byte_at(buffer, at));
+    bytes(b"\n");
 }
