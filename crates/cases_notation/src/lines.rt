@@ -1,5 +1,5 @@
 // A line of the script. `NAME = TEXT`: the text is read into the part. `?`: something asked. `=size N`: the first bytes of the buffer are
-// the part from here on. `=fill N`: every byte of the part is N. `>N NAME`: the set is written to N bytes. `#`: printed as it is.
+// the part from here on. `=fill N`: every byte of the part is N. `>N NAME`: the set is written to N bytes. `#`: printed as it is. `;`: a remark.
 use crate::stored;
 use cases::expand::expand;
 use cases::expand::times;
@@ -17,7 +17,7 @@ pub fn line(s: &[u8], buffer: &mut [u8], size: usize) -> usize {
 
 fn lent(s: &[u8], part: &mut [u8], size: usize) -> usize {
     match words::byte(s, 0) {
-        b'\n' => size,
+        b'\n' | b';' => size,
         b'=' => put(s, part, size),
         _ => {
             answered(s, part);

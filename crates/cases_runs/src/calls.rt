@@ -1,4 +1,6 @@
 // The calls, each with what it answers printed.
+use cases::say::bytes;
+use cases::say::count;
 use machine::answers::Asked;
 use machine::answers::Length;
 use machine::answers::Opened;
@@ -10,15 +12,6 @@ use machine::run::start;
 use notation::FolderNumber;
 use notation::PathPlace;
 use notation::reads;
-
-pub fn bytes(s: &[u8]) {
-    io::write_all(1, s);
-}
-
-pub fn count(word: &[u8], n: usize) {
-    bytes(word);
-    io::print_decimal(1, n as u64);
-}
 
 pub fn made(opens: usize, closes: usize, moves: usize) -> Counters {
     Counters {

@@ -1,9 +1,8 @@
 // The cases of a run. The file `stdin` has them, a call to a line: each is carried out, and printed with its answer.
 mod calls;
 mod script;
-mod words;
 
-use script::State;
+use cases::words;
 
 fn main() {
     let mut text = io::large_buffer();
@@ -17,7 +16,7 @@ fn lines(text: &[u8], a: &mut [u8], run: &mut [u8]) {
     let mut s = script::begin();
     let mut from = 0;
     while from < text.len() {
-        let end = words::end_of(text, from);
+        let end = words::line_end(text, from);
         s = script::line(&text[from..end], a, run, s);
         from = end;
     }

@@ -1,7 +1,9 @@
-// A line of the script is carried out. `#`: a title. `(`: a set, built. `?`: something asked. `=`: something put in place.
+// A line of the script is carried out. `#`: a title. `(`: a set, built. `?`: something asked. `=`: something put in place. `;`: a remark.
 // Any other line is a call that changes the run.
 use crate::calls;
-use crate::words;
+use cases::expand::expand;
+use cases::say;
+use cases::words;
 use machine::build;
 use machine::counters::Counters;
 use machine::run::open;
@@ -52,7 +54,7 @@ fn lend_run(text: &[u8], a: &mut [u8], run: &mut [u8], n: usize, s: State) -> St
 fn lent(text: &[u8], a: &mut [u8], run: &mut [u8], s: State) -> State {
     let c = s.counters;
     match words::byte(text, 0) {
-        b'#' => calls::bytes(words::rest(text)),
+        b'#' => say::bytes(words::after(text, b' ')),
         b'(' => build(text, a),
         b'?' => ask(text, a, run, c),
         b'=' => return put(text, a, run, s),
@@ -62,18 +64,24 @@ fn lent(text: &[u8], a: &mut [u8], run: &mut [u8], s: State) -> State {
 }
 
 fn build(text: &[u8], a: &mut [u8]) {
-    build::build(text, a);
+    let mut set = [0u8; 200];
+    let n = expand(&mut set, words::trimmed(text));
+    build::build(words::part(&set, 0, n), a);
 }
 
 // `start`, `open NAME`, `close NAME`, and `deepen N`: so many opens of `a` that are not printed.
 fn call(text: &[u8], a: &[u8], run: &mut [u8], c: Counters) -> Counters {
     match words::byte(text, 0) {
         b's' => calls::begin(a, run, c),
-        b'o' => calls::open(a, run, c, words::name(text)),
-        b'c' => calls::close(a, run, c, words::name(text)),
+        b'o' => calls::open(a, run, c, element(text)),
+        b'c' => calls::close(a, run, c, element(text)),
         b'd' => deepen(a, run, c, words::first(text)),
         _ => c,
     }
+}
+
+fn element(text: &[u8]) -> &[u8] {
+    words::trimmed(words::after(text, b' '))
 }
 
 fn deepen(a: &[u8], run: &mut [u8], start: Counters, n: usize) -> Counters {

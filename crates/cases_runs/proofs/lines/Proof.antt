@@ -18,8 +18,8 @@ begin-requires c κs = search needs
 loop-holds : tie.Need-loop-holds Inv-loop μ-loop
 loop-holds c = search needs
 
-end-of-requires : tie.Need-end-of-requires Inv-loop μ-loop
-end-of-requires c κs = search needs
+line-end-requires : tie.Need-line-end-requires Inv-loop μ-loop
+line-end-requires c κs = search needs
 
 sub-line : tie.Need-sub-line Inv-loop μ-loop
 sub-line c = search needs
@@ -56,7 +56,7 @@ lines-spec =
     μ-loop
     begin-requires
     loop-holds
-    end-of-requires
+    line-end-requires
     sub-line
     part-line-start
     part-line-end
