@@ -1,12 +1,23 @@
-// The cases of the automaton, a line each, held to what paper 01 and the layout say of them.
-mod damaged;
-mod edges;
-mod example;
-mod say;
-mod texts;
+// The cases of the automaton. The file `stdin` has them, a line each, which is printed with its answer.
+mod answers;
+mod lines;
+
+use cases::words;
 
 fn main() {
-    example::all();
-    edges::all();
-    damaged::all();
+    let mut script = io::large_buffer();
+    let n = io::read_full(0, &mut script);
+    let mut a = [7u8; 65537];
+    let mut out = [b'.'; 16384];
+    each(&script[..n], &mut a, &mut out);
+}
+
+fn each(script: &[u8], a: &mut [u8], out: &mut [u8]) {
+    let mut sizes = lines::whole();
+    let mut from = 0;
+    while from < script.len() {
+        let end = words::line_end(script, from);
+        sizes = lines::line(&script[from..end], a, out, sizes);
+        from = end;
+    }
 }

@@ -1,14 +1,22 @@
-// The cases of the notation, a line each, held to what paper 01 says of them.
-mod build;
-mod faults;
-mod forms;
-mod names;
-mod parts;
-mod say;
+// The cases of the notation. The file `stdin` has them, a line each, which is printed with its answer.
+mod lines;
+mod stored;
+
+use cases::words;
 
 fn main() {
-    forms::all();
-    faults::all();
-    names::all();
-    parts::all();
+    let mut script = io::large_buffer();
+    let n = io::read_full(0, &mut script);
+    let mut part = [0u8; 26123];
+    each(&script[..n], &mut part);
+}
+
+fn each(script: &[u8], part: &mut [u8]) {
+    let mut size = 26122;
+    let mut from = 0;
+    while from < script.len() {
+        let end = words::line_end(script, from);
+        size = lines::line(&script[from..end], part, size);
+        from = end;
+    }
 }

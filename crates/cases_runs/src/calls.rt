@@ -1,8 +1,9 @@
 // The calls, each with what it answers printed.
+use cases::say::bytes;
+use cases::say::count;
 use machine::answers::Asked;
 use machine::answers::Length;
 use machine::answers::Opened;
-use machine::build;
 use machine::counters::Counters;
 use machine::run::asking;
 use machine::run::close;
@@ -10,15 +11,7 @@ use machine::run::open;
 use machine::run::start;
 use notation::FolderNumber;
 use notation::PathPlace;
-
-pub fn bytes(s: &[u8]) {
-    io::write_all(1, s);
-}
-
-pub fn count(word: &[u8], n: usize) {
-    bytes(word);
-    io::print_decimal(1, n as u64);
-}
+use notation::reads;
 
 pub fn made(opens: usize, closes: usize, moves: usize) -> Counters {
     Counters {
@@ -49,14 +42,6 @@ pub fn begin(a: &[u8], run: &mut [u8], c: Counters) -> Counters {
     bytes(b"  start");
     refusal(r.refusal);
     r.counters
-}
-
-// A set is built, and a run of it begun.
-pub fn fresh(name: &[u8], a: &mut [u8], run: &mut [u8], set: &[u8]) -> Counters {
-    bytes(name);
-    bytes(b"\n");
-    build::build(set, a);
-    begin(a, run, made(0, 0, 0))
 }
 
 fn opened(answer: Opened) {
@@ -128,4 +113,18 @@ pub fn name(a: &[u8], run: &[u8], d: usize) {
     bytes(asking::open_name(a, run, d));
     bytes(b")");
     refusal(asking::name_refusal(a, run, d));
+}
+
+// The last byte of a buffer of 65,536, and the byte after it.
+pub fn ends(a: &[u8], run: &[u8]) {
+    byte(a, 65535);
+    byte(a, 65536);
+    byte(run, 65535);
+    byte(run, 65536);
+}
+
+fn byte(buffer: &[u8], at: usize) {
+    count(b"  byte ", at);
+    count(b" ", reads::byte_at(buffer, at));
+    bytes(b"\n");
 }

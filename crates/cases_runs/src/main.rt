@@ -1,27 +1,23 @@
-// The cases of a run: lists of calls, a line each, held to what paper 01 says of them.
-mod asking;
+// The cases of a run. The file `stdin` has them, a call to a line: each is carried out, and printed with its answer.
 mod calls;
-mod edges;
-mod errs;
-mod example;
-mod sizes;
-mod strange;
+mod script;
+
+use cases::words;
 
 fn main() {
-    let mut a = [0u8; 65536];
-    let mut run = [0u8; 65536];
-    all(&mut a, &mut run);
-    sizes::all();
+    let mut text = io::large_buffer();
+    let n = io::read_full(0, &mut text);
+    let mut a = [7u8; 65537];
+    let mut run = [7u8; 65537];
+    lines(&text[..n], &mut a, &mut run);
 }
 
-fn all(a: &mut [u8], run: &mut [u8]) {
-    errs::all(a, run);
-    example::all(a, run);
-    more(a, run);
-}
-
-fn more(a: &mut [u8], run: &mut [u8]) {
-    edges::all(a, run);
-    asking::all(a, run);
-    strange::all(a, run);
+fn lines(text: &[u8], a: &mut [u8], run: &mut [u8]) {
+    let mut s = script::begin();
+    let mut from = 0;
+    while from < text.len() {
+        let end = words::line_end(text, from);
+        s = script::line(&text[from..end], a, run, s);
+        from = end;
+    }
 }

@@ -1,27 +1,8 @@
-// Printing.
+// What is answered, printed.
+use cases::say::bytes;
+use cases::say::count;
 use machine::answers::Written;
 use notation::reads;
-
-pub fn bytes(s: &[u8]) {
-    io::write_all(1, s);
-}
-
-pub fn number(n: usize) {
-    io::print_decimal(1, n as u64);
-}
-
-// A word and a number after it.
-pub fn count(word: &[u8], n: usize) {
-    bytes(word);
-    number(n);
-}
-
-// A case: its name and the number answered.
-pub fn case(name: &[u8], answer: u8) {
-    bytes(name);
-    count(b": ", answer as usize);
-    bytes(b"\n");
-}
 
 // What writing a set back answered.
 pub fn written(name: &[u8], w: Written) {
@@ -30,6 +11,11 @@ pub fn written(name: &[u8], w: Written) {
         Written::Bytes(n) => count(b": bytes ", n),
         Written::Refused(r) => count(b": refused ", r as usize),
     }
+    bytes(b"\n");
+}
+
+pub fn text(s: &[u8]) {
+    bytes(s);
     bytes(b"\n");
 }
 

@@ -4,14 +4,10 @@ pub fn bytes(s: &[u8]) {
     io::write_all(1, s);
 }
 
-pub fn number(n: usize) {
-    io::print_decimal(1, n as u64);
-}
-
 // A word and a number after it.
 pub fn count(word: &[u8], n: usize) {
     bytes(word);
-    number(n);
+    io::print_decimal(1, n as u64);
 }
 
 pub fn yes_no(word: &[u8], holds: bool) {
