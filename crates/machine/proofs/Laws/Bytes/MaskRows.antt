@@ -76,21 +76,25 @@ or-no : (a : Bool) → (a || false) ≡ a
 or-no true = refl
 or-no false = refl
 
-or-and : (a x b : Bool) → ((a && x) || b) ≡ (b || (x && a))
-or-and true true true = refl
-or-and true true false = refl
-or-and true false true = refl
-or-and true false false = refl
-or-and false true true = refl
-or-and false true false = refl
-or-and false false true = refl
-or-and false false false = refl
+and-yes : (a : Bool) → (a && true) ≡ a
+and-yes true = refl
+and-yes false = refl
 
-or-swap : (x b : Bool) → (x || b) ≡ (b || (x && true))
-or-swap true true = refl
-or-swap true false = refl
-or-swap false true = refl
-or-swap false false = refl
+and-swap : (a b : Bool) → (a && b) ≡ (b && a)
+and-swap true true = refl
+and-swap true false = refl
+and-swap false true = refl
+and-swap false false = refl
+
+or-yes : (a : Bool) → (a || true) ≡ true
+or-yes true = refl
+or-yes false = refl
+
+or-last : (u v w b : Bool) → (u || (v || (w || b))) ≡ (b || (u || (v || w)))
+or-last true v w b = sym (or-yes b)
+or-last false true w b = sym (or-yes b)
+or-last false false true b = sym (or-yes b)
+or-last false false false b = sym (or-no b)
 
 or-none : (x b : Bool) → b ≡ (b || (x && false))
 or-none true true = refl
@@ -98,38 +102,52 @@ or-none true false = refl
 or-none false true = refl
 or-none false false = refl
 
--- bit by bit, of a step's axis, `*`, and whether it is first and last; x: it is this step
+-- whether mask m has a step, of its axis, `*`, and whether it is first and last
+child-mask : (m : ℕ) → m < 6 → (t : Test) (first last : Bool) → maskTest m (role (step child t) first last) ≡ ((eqb m 5 && last) || (eqb m (axisMask first false) || (eqb m 0 && isStar t)))
+child-mask zero h t true last = refl
+child-mask zero h t false last = refl
+child-mask (suc zero) h t true last = refl
+child-mask (suc zero) h t false last = refl
+child-mask (suc (suc zero)) h t true last = refl
+child-mask (suc (suc zero)) h t false last = refl
+child-mask (suc (suc (suc zero))) h t true last = refl
+child-mask (suc (suc (suc zero))) h t false last = refl
+child-mask (suc (suc (suc (suc zero)))) h t true last = refl
+child-mask (suc (suc (suc (suc zero)))) h t false last = refl
+child-mask (suc (suc (suc (suc (suc zero))))) h t true last = sym (or-no last)
+child-mask (suc (suc (suc (suc (suc zero))))) h t false last = sym (or-no last)
+child-mask (suc (suc (suc (suc (suc (suc m)))))) h t first last = absurd (omega arith)
+
+deep-mask : (m : ℕ) → m < 6 → (t : Test) (first last : Bool) → maskTest m (role (step descendant t) first last) ≡ ((eqb m 5 && last) || (eqb m (axisMask first true) || (eqb m 0 && isStar t)))
+deep-mask zero h t true last = refl
+deep-mask zero h t false last = refl
+deep-mask (suc zero) h t true last = refl
+deep-mask (suc zero) h t false last = refl
+deep-mask (suc (suc zero)) h t true last = refl
+deep-mask (suc (suc zero)) h t false last = refl
+deep-mask (suc (suc (suc zero))) h t true last = refl
+deep-mask (suc (suc (suc zero))) h t false last = refl
+deep-mask (suc (suc (suc (suc zero)))) h t true last = refl
+deep-mask (suc (suc (suc (suc zero)))) h t false last = refl
+deep-mask (suc (suc (suc (suc (suc zero))))) h t true last = sym (or-no last)
+deep-mask (suc (suc (suc (suc (suc zero))))) h t false last = sym (or-no last)
+deep-mask (suc (suc (suc (suc (suc (suc m)))))) h t first last = absurd (omega arith)
+
+-- the three bits of a step, where x: it is this step
+three : (p q r l s x b : Bool) → ((l && (p && x)) || ((q && x) || ((s && (r && x)) || b))) ≡ (b || (x && ((p && l) || (q || (r && s)))))
+three p q r l s true b = rw (and-yes p, and-yes q, and-yes r, and-swap l p, and-swap s r) (or-last (p && l) q (r && s) b)
+three p q r l s false b = rw (and-no p, and-no q, and-no r, and-no l, and-no s) (sym (or-no b))
+
+-- bit by bit
 one-step : (m : ℕ) → m < 6 → (t : Test) (first last x b : Bool)
     → ((last && (eqb m 5 && x)) || ((true && (eqb m (axisMask first false) && x)) || ((isStar t && (eqb m 0 && x)) || b))) ≡ (b || (x && maskTest m (role (step child t) first last)))
-one-step zero h t true last x b = simp and-no (or-and (isStar t) x b)
-one-step zero h t false last x b = simp and-no (or-and (isStar t) x b)
-one-step (suc zero) h t true last x b = simp and-no (sym (or-no b))
-one-step (suc zero) h t false last x b = simp and-no (or-swap x b)
-one-step (suc (suc zero)) h t true last x b = simp and-no (sym (or-no b))
-one-step (suc (suc zero)) h t false last x b = simp and-no (sym (or-no b))
-one-step (suc (suc (suc zero))) h t true last x b = simp and-no (sym (or-no b))
-one-step (suc (suc (suc zero))) h t false last x b = simp and-no (sym (or-no b))
-one-step (suc (suc (suc (suc zero)))) h t true last x b = simp and-no (or-swap x b)
-one-step (suc (suc (suc (suc zero)))) h t false last x b = simp and-no (sym (or-no b))
-one-step (suc (suc (suc (suc (suc zero))))) h t true last x b = simp and-no (or-and last x b)
-one-step (suc (suc (suc (suc (suc zero))))) h t false last x b = simp and-no (or-and last x b)
-one-step (suc (suc (suc (suc (suc (suc m)))))) h t first last x b = absurd (omega arith)
+one-step m h t first last x b =
+    three (eqb m 5) (eqb m (axisMask first false)) (eqb m 0) last (isStar t) x b ∙ ap (λ (y : Bool). b || (x && y)) (sym (child-mask m h t first last))
 
 one-deep : (m : ℕ) → m < 6 → (t : Test) (first last x b : Bool)
     → ((last && (eqb m 5 && x)) || ((true && (eqb m (axisMask first true) && x)) || ((isStar t && (eqb m 0 && x)) || b))) ≡ (b || (x && maskTest m (role (step descendant t) first last)))
-one-deep zero h t true last x b = simp and-no (or-and (isStar t) x b)
-one-deep zero h t false last x b = simp and-no (or-and (isStar t) x b)
-one-deep (suc zero) h t true last x b = simp and-no (sym (or-no b))
-one-deep (suc zero) h t false last x b = simp and-no (sym (or-no b))
-one-deep (suc (suc zero)) h t true last x b = simp and-no (sym (or-no b))
-one-deep (suc (suc zero)) h t false last x b = simp and-no (or-swap x b)
-one-deep (suc (suc (suc zero))) h t true last x b = simp and-no (or-swap x b)
-one-deep (suc (suc (suc zero))) h t false last x b = simp and-no (sym (or-no b))
-one-deep (suc (suc (suc (suc zero)))) h t true last x b = simp and-no (sym (or-no b))
-one-deep (suc (suc (suc (suc zero)))) h t false last x b = simp and-no (sym (or-no b))
-one-deep (suc (suc (suc (suc (suc zero))))) h t true last x b = simp and-no (or-and last x b)
-one-deep (suc (suc (suc (suc (suc zero))))) h t false last x b = simp and-no (or-and last x b)
-one-deep (suc (suc (suc (suc (suc (suc m)))))) h t first last x b = absurd (omega arith)
+one-deep m h t first last x b =
+    three (eqb m 5) (eqb m (axisMask first true)) (eqb m 0) last (isStar t) x b ∙ ap (λ (y : Bool). b || (x && y)) (sym (deep-mask m h t first last))
 
 module _ (m : ℕ) (small : m < 6) (j : ℕ) (hj : j < 8 * maskSize) where
   role-bit : (i : ℕ) → i < 8 * maskSize → (r : Role) (b : ℕ → Bool) → markBits i r b (place m j) ≡ (b (place m j) || (eqb j i && maskTest m r))

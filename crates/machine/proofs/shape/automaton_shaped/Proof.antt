@@ -1,6 +1,7 @@
 -- `shape::automaton_shaped`: the tests of the tables, one after the other.
 use Rattle.machine.specs.Shape.{automatonShaped}
 use borrow.Author.Needs.{needs}
+use Rattle.machine.proofs.Laws.Shapes.Tested.{and-by}
 use Rattle.machine.proofs.shape.automaton_shaped.Statement.{statement}
 use Rattle.machine.proofs.shape.automaton_shaped.Tie as tie
 
@@ -45,7 +46,13 @@ both-requires-6 c κs = search needs
 
 returns : tie.Need-returns
 unfolding automatonShaped
-returns c = cc
+returns c =
+    and-by (c .both6 .ensures) (c .before .before .before .before .before .before .before .counts-shaped .ensures)
+    (and-by (c .before .both5 .ensures) (c .before .before .before .before .before .before .folders-shaped .ensures)
+    (and-by (c .before .before .both4 .ensures) (c .before .before .before .before .before .paths-shaped .ensures)
+    (and-by (c .before .before .before .both3 .ensures) (c .before .before .before .before .steps-shaped .ensures)
+    (and-by (c .before .before .before .before .before .before .before .before .both2 .ensures) (c .before .before .before .before .before .before .before .before .before .before .before .before .labels-shaped .ensures)
+    (and-by (c .before .before .before .before .before .before .before .before .before .both .ensures) (c .before .before .before .before .before .before .before .before .before .before .before .heads-shaped .ensures) (c .before .before .before .before .before .before .before .before .before .before .links-shaped .ensures))))))
 
 pub automaton-shaped-spec : {M : Type 1} → statement M
 automaton-shaped-spec =

@@ -1,7 +1,9 @@
 -- `shape::counts_shaped`: the counts and the initial state.
+use mathlib.Core.Path.{refl}
 use Rattle.notation.specs.Limits.{maxSetBytes, maxPaths, maxSteps, maxLabels}
 use Rattle.machine.specs.Automaton.{startAt}
 use borrow.Author.Needs.{needs}
+use Rattle.machine.proofs.Laws.Shapes.Tested.{and-by, leb-by}
 use Rattle.machine.proofs.shape.counts_shaped.Statement.{statement}
 use Rattle.machine.proofs.shape.counts_shaped.Tie as tie
 
@@ -40,7 +42,12 @@ both-requires-5 c κs = search needs
 
 returns : tie.Need-returns
 unfolding maxSetBytes maxPaths maxSteps maxLabels startAt
-returns c = cc
+returns c =
+    and-by (c .both5 .ensures) (leb-by (c .before .before .before .before .before .text-len .ensures .0) refl)
+    (and-by (c .before .both4 .ensures) (leb-by (c .before .before .before .before .folders .ensures .0) refl)
+    (and-by (c .before .before .both3 .ensures) (leb-by (c .before .before .before .paths .ensures .0) refl)
+    (and-by (c .before .before .before .before .before .before .both2 .ensures) (leb-by (c .before .before .before .before .before .before .before .before .before .before .steps .ensures .0) refl)
+    (and-by (c .before .before .before .before .before .before .before .both .ensures) (leb-by (c .before .before .before .before .before .before .before .before .before .labels .ensures .0) refl) (leb-by (c .before .before .before .before .before .before .before .before .word-at .ensures .0) refl)))))
 
 pub counts-shaped-spec : {M : Type 1} → statement M
 counts-shaped-spec =

@@ -2,6 +2,7 @@
 use Rattle.notation.specs.Limits.{maxNumber}
 use Rattle.notation.specs.Layout.{folderSize, foldersAt}
 use borrow.Author.Needs.{needs}
+use Rattle.machine.proofs.Laws.Shapes.Tested.{and-by, leb-by, within-by}
 use Rattle.machine.proofs.shape.folder_shaped.Statement.{statement}
 use Rattle.machine.proofs.shape.folder_shaped.Tie as tie
 
@@ -31,7 +32,8 @@ both-requires c κs = search needs
 
 returns : tie.Need-returns
 unfolding foldersAt folderSize maxNumber
-returns c = cc
+returns c =
+    and-by (c .both .ensures) (within-by 1 maxNumber (c .before .before .before .between .ensures) (c .before .before .before .before .word-at .ensures .0)) (leb-by (c .before .before .word-at2 .ensures .0) (c .before .paths .ensures .0))
 
 pub folder-shaped-spec : {M : Type 1} → statement M
 folder-shaped-spec =

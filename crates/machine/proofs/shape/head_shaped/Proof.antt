@@ -2,6 +2,7 @@
 use native.Mathlib.Omega.{arith}
 use Rattle.machine.specs.Automaton.{hashes, headsAt}
 use borrow.Author.Needs.{needs}
+use Rattle.machine.proofs.Laws.Shapes.Tested.{leb-by}
 use Rattle.machine.proofs.shape.head_shaped.Statement.{statement}
 use Rattle.machine.proofs.shape.head_shaped.Tie as tie
 
@@ -21,7 +22,7 @@ labels-requires c κs = search needs
 
 returns : tie.Need-returns
 unfolding headsAt
-returns c = cc
+returns c = leb-by (c .before .word-at .ensures .0) (c .labels .ensures .0)
 
 pub head-shaped-spec : {M : Type 1} → statement M
 head-shaped-spec =

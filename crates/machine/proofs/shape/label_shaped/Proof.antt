@@ -1,7 +1,9 @@
 -- `shape::label_shaped`: the numbers of a label.
+use mathlib.Core.Path.{refl}
 use Rattle.notation.specs.Limits.{maxName}
 use Rattle.notation.specs.Layout.{labelSize, labelsAt}
 use borrow.Author.Needs.{needs}
+use Rattle.machine.proofs.Laws.Shapes.Tested.{and-by, leb-by, ltb-by, sum-by}
 use Rattle.machine.proofs.shape.label_shaped.Statement.{statement}
 use Rattle.machine.proofs.shape.label_shaped.Tie as tie
 
@@ -43,7 +45,9 @@ both-requires-2 c κs = search needs
 
 returns : tie.Need-returns
 unfolding labelsAt labelSize maxName
-returns c = cc
+returns c =
+    and-by (c .both2 .ensures) (leb-by (sum-by (c .before .before .before .before .before .word-at2 .ensures .0) (c .before .before .before .before .before .before .word-at .ensures .0)) (c .before .before .before .before .text-len .ensures .0))
+    (and-by (c .before .both .ensures) (leb-by (c .before .before .before .before .before .before .word-at .ensures .0) refl) (ltb-by (c .before .before .before .word-at3 .ensures .0) (c .before .before .steps .ensures .0)))
 
 pub label-shaped-spec : {M : Type 1} → statement M
 label-shaped-spec =

@@ -1,8 +1,9 @@
 -- `shape::link_shaped`: the links of a label.
-use native.Mathlib.Numerals.{add-one}
+use mathlib.Core.Path.{refl}
 use Rattle.notation.specs.Limits.{maxSteps}
 use Rattle.machine.specs.Automaton.{linkSize, linksAt}
 use borrow.Author.Needs.{needs}
+use Rattle.machine.proofs.Laws.Shapes.Tested.{and-by, or-by, leb-by, ltb-by, eqb-by, succ-by, size-by}
 use Rattle.machine.proofs.shape.link_shaped.Statement.{statement}
 use Rattle.machine.proofs.shape.link_shaped.Tie as tie
 
@@ -71,7 +72,13 @@ both-requires-5 c κs = search needs
 
 returns : tie.Need-returns
 unfolding linksAt linkSize maxSteps
-returns c = cc (add-one (c .before .before .before .before .before .before .before .before .before .before .before .before .before .args .l), add-one (c .before .before .before .before .before .before .before .before .before .before .before .labels .result))
+returns c =
+    and-by (c .both5 .ensures)
+    (or-by (c .before .before .before .before .before .before .either .ensures) (eqb-by (c .before .before .before .before .before .before .before .before .before .before .word-at .ensures .0) refl)
+    (and-by (c .before .before .before .before .before .before .before .both .ensures) (ltb-by (succ-by refl) (c .before .before .before .before .before .before .before .before .before .before .word-at .ensures .0)) (leb-by (c .before .before .before .before .before .before .before .before .before .before .word-at .ensures .0) (c .before .before .before .before .before .before .before .before .before .before .before .labels .ensures .0))))
+    (and-by (c .before .both4 .ensures) (leb-by (c .before .before .before .word-at4 .ensures .0) (succ-by (c .before .before .before .before .before .before .before .before .before .before .before .labels .ensures .0)))
+    (and-by (c .before .before .both3 .ensures) (leb-by (c .before .before .before .before .before .before .before .before .before .word-at2 .ensures .0) (succ-by (c .before .before .before .before .before .before .before .before .before .before .before .labels .ensures .0)))
+    (and-by (c .before .before .before .before .both2 .ensures) (leb-by (c .before .before .before .before .before .before .before .before .word-at3 .ensures .0) refl) (ltb-by (size-by (c .before .before .before .before .before .before .before .before .before .before .before .before .before .args .a .now) (c .before .before .before .before .before .size-of .ensures .0) (c .before .before .before .before .before .before .before .before .before .word-at2 .ensures .0)) (c .before .before .before .before .before .before .before .before .word-at3 .ensures .0)))))
 
 pub link-shaped-spec : {M : Type 1} → statement M
 link-shaped-spec =

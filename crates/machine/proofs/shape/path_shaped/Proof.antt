@@ -2,6 +2,7 @@
 use Rattle.notation.specs.Limits.{maxSteps}
 use Rattle.notation.specs.Layout.{pathSize, pathsAt}
 use borrow.Author.Needs.{needs}
+use Rattle.machine.proofs.Laws.Shapes.Tested.{and-by, leb-by, sum-by, within-by}
 use Rattle.machine.proofs.shape.path_shaped.Statement.{statement}
 use Rattle.machine.proofs.shape.path_shaped.Tie as tie
 
@@ -55,7 +56,10 @@ both-requires-2 c κs = search needs
 
 returns : tie.Need-returns
 unfolding pathsAt pathSize maxSteps
-returns c = cc
+returns c =
+    and-by (c .both2 .ensures) (within-by 1 maxSteps (c .before .before .before .before .between .ensures) (c .before .before .before .before .before .before .before .before .word-at .ensures .0))
+    (and-by (c .before .both .ensures) (leb-by (sum-by (c .before .before .before .word-at4 .ensures .0) (c .before .before .before .before .before .before .before .before .word-at .ensures .0)) (c .before .before .steps .ensures .0))
+    (leb-by (sum-by (c .before .before .before .before .before .before .before .word-at2 .ensures .0) (c .before .before .before .before .before .before .word-at3 .ensures .0)) (c .before .before .before .before .before .text-len .ensures .0)))
 
 pub path-shaped-spec : {M : Type 1} → statement M
 path-shaped-spec =
