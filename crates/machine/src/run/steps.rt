@@ -94,9 +94,6 @@ fn active_byte(a: &[u8], run: &[u8], taken: &[u8], d: usize, j: usize) -> usize
     ensures { λ r. ⌜ (r < 256) × ((k : ℕ) → k < 8 → bitOf r k ≡ ((maskBit (now (a .entry)) 0 (8 * j + k) || bitAt (now (taken .entry)) (8 * j + k)) && permitted (now (a .entry)) (now (run .entry)) d (8 * j + k))) ⌝ }
 {
     let candidates = bits::either(mask_byte(a, 0, j), byte(taken, j));
-    if candidates == 0 {
-        return 0;
-    }
     bits::both(candidates, permitted_byte(a, run, d, j))
 }
 

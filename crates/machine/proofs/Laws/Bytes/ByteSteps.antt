@@ -1,6 +1,6 @@
 -- Steps 8 j to 8 j + 7 are byte j of a row.
 use Prim.Native.Nat.{ℕ, zero, suc, _+_, _*_, _-_, _/_, _%_, _<_}
-use mathlib.Core.Path.{_≡_, refl, sym, ap, _∙_}
+use mathlib.Core.Path.{_≡_, refl}
 use mathlib.Core.Bool.{Bool, false, _&&_, _||_}
 use mathlib.Core.List.{List}
 use native.Mathlib.Omega.{arith}
@@ -46,20 +46,3 @@ join-and b x y x' y' p q r = rw (← q, ← r) p
 
 pub join-or : (b x y x' y' : Bool) → b ≡ (x || y) → x ≡ x' → y ≡ y' → b ≡ (x' || y')
 join-or b x y x' y' p q r = rw (← q, ← r) p
-
-no-bits : (k : ℕ) → k < 8 → bitOf 0 k ≡ false
-unfolding bitOf
-no-bits zero h = refl
-no-bits (suc zero) h = refl
-no-bits (suc (suc zero)) h = refl
-no-bits (suc (suc (suc zero))) h = refl
-no-bits (suc (suc (suc (suc zero)))) h = refl
-no-bits (suc (suc (suc (suc (suc zero))))) h = refl
-no-bits (suc (suc (suc (suc (suc (suc zero)))))) h = refl
-no-bits (suc (suc (suc (suc (suc (suc (suc zero))))))) h = refl
-no-bits (suc (suc (suc (suc (suc (suc (suc (suc k)))))))) h = absurd (omega arith)
-
--- no candidates, so none that is permitted
-pub none-and : (k : ℕ) (x p : Bool) (n : ℕ) → k < 8 → n ≡ 0 → bitOf n k ≡ x → bitOf 0 k ≡ (x && p)
-none-and k x p n h z f =
-    no-bits k h ∙ ap (λ (y : Bool). y && p) (sym (no-bits k h) ∙ ap (λ (m : ℕ). bitOf m k) (sym z) ∙ f)

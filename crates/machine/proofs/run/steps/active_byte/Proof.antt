@@ -1,10 +1,9 @@
 use mathlib.Core.Path.{_∙_, ap}
-use native.Mathlib.Omega.{arith}
 use mathlib.Core.Bool.{_||_}
 use Prim.Native.Nat.{ℕ, _+_, _*_}
 use Rattle.machine.specs.Bits.{bitOf, bitAt}
 use Rattle.machine.specs.RunCalls.{maskBit, permitted}
-use Rattle.machine.proofs.Laws.Bytes.ByteSteps.{byte-at-bit, join-and, join-or, none-and}
+use Rattle.machine.proofs.Laws.Bytes.ByteSteps.{byte-at-bit, join-and, join-or}
 use borrow.Author.Needs.{needs}
 use Rattle.machine.proofs.run.steps.active_byte.Statement.{statement}
 use Rattle.machine.proofs.run.steps.active_byte.Tie as tie
@@ -18,31 +17,19 @@ byte-requires c κs = search needs
 either-requires : tie.Need-either-requires
 either-requires c κs = search needs
 
-returns : tie.Need-returns
-returns c = let e = c .before .either in
-    let t = c .before .before .byte in
-    let m = c .before .before .before .mask-byte in
-    let a = c .before .before .before .before .before .before .before .args in (
-      omega arith,
-      λ k h.
-          let i : ℕ = 8 * a .j + k in
-          none-and k (maskBit (a .a .now) 0 i || bitAt (a .taken .now) i) (permitted (a .a .now) (a .run .now) (a .d) i) (e .result) h (c .if1 .taken)
-          (join-or (bitOf (e .result) k) (bitOf (m .result) k) (bitOf (t .result) k) (maskBit (a .a .now) 0 i) (bitAt (a .taken .now) i) (e .ensures .1 k) (m .ensures .1 k h) (ap (λ (n : ℕ). bitOf n k) (t .ensures .0) ∙ byte-at-bit (a .taken .now) (a .j) k h)),
-    )
-
 permitted-byte-requires : tie.Need-permitted-byte-requires
 permitted-byte-requires c κs = search needs
 
 both-requires : tie.Need-both-requires
 both-requires c κs = search needs
 
-returns-2 : tie.Need-returns-2
-returns-2 c = let x = c .both in
+returns : tie.Need-returns
+returns c = let x = c .both in
     let p = c .before .permitted-byte in
-    let e = c .before .before .before .either in
-    let t = c .before .before .before .before .byte in
-    let m = c .before .before .before .before .before .mask-byte in
-    let a = c .before .before .before .before .before .before .before .before .before .args in (
+    let e = c .before .before .either in
+    let t = c .before .before .before .byte in
+    let m = c .before .before .before .before .mask-byte in
+    let a = c .before .before .before .before .before .before .before .before .args in (
       x .ensures .0,
       λ k h.
           let i : ℕ = 8 * a .j + k in
@@ -58,7 +45,6 @@ active-byte-spec =
     mask-byte-requires
     byte-requires
     either-requires
-    returns
     permitted-byte-requires
     both-requires
-    returns-2)
+    returns)
