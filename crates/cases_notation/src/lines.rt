@@ -1,5 +1,6 @@
-// A line of the script. `NAME = TEXT`: the text is read into the part. `?`: something asked. `=size N`: the first bytes of the buffer are
-// the part from here on. `=fill N`: every byte of the part is N. `>N NAME`: the set is written to N bytes. `#`: printed as it is. `;`: a remark.
+// A line of the script. `NAME = TEXT`: the text is read into the part. `?`: something asked. `=size N`: the part is the first N bytes of
+// the buffer from here on. `=fill N`: every byte of the part is N. `>N NAME`: the set is written to N bytes. `#`: printed as it is.
+// `;`: a remark.
 use crate::stored;
 use cases::expand::expand;
 use cases::expand::times;
