@@ -90,14 +90,7 @@ pub fn name_end(s: &[u8], at: usize) -> usize
     requires { ⌜ at ≤ length (now s) ⌝ }
     ensures { λ r. ⌜ r ≡ at + length (front inName (drop at (now (s .entry)))) ⌝ }
 {
-    let mut i = at;
-    while i < s.len() {
-        if !names::in_name(s[i]) {
-            return i;
-        }
-        i += 1;
-    }
-    i
+    names::name_end(s, at)
 }
 
 // Whether the word stands at an offset.

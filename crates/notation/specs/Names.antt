@@ -1,6 +1,6 @@
 -- Names: a letter or `_`, then letters, digits, `_`, `-` and `.`, all ASCII. Length is a matter of its own (Limits).
 use Prim.Native.Nat.{ℕ, suc}
-use mathlib.Core.Bool.{Bool, true, false, _&&_, _||_}
+use mathlib.Core.Bool.{Bool, true, false, _&&_, _||_, cond}
 use mathlib.Core.List.{List, [], _∷_}
 use lib.Dec.{leb, eqb}
 use lib.ListN.{length}
@@ -36,6 +36,11 @@ allInName (b ∷ bs) = inName b && allInName bs
 unfoldable pub nameForm : List ℕ → Bool
 nameForm [] = false
 nameForm (b ∷ bs) = beginsName b && allInName bs
+
+-- how many name bytes stand first
+unfoldable pub nameRun : List ℕ → ℕ
+nameRun [] = 0
+nameRun (b ∷ bs) = cond (inName b) (suc (nameRun bs)) 0
 
 -- over the limit of a name's length
 abbrev pub tooLong : List ℕ → Bool

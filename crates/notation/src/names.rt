@@ -1,8 +1,10 @@
 // Byte classes, and the name test, which goes by them.
 use crate::limits::MAX_NAME;
 ghost use mathlib.Core.Path.{_≡_};
+ghost use Prim.Native.Nat.{_+_};
+ghost use lib.ListN.{drop};
 ghost use Rattle.notation.specs.Classes.{classOf};
-ghost use Rattle.notation.specs.Names.{beginsName, inName, nameForm, tooLong};
+ghost use Rattle.notation.specs.Names.{beginsName, inName, nameForm, nameRun, tooLong};
 ghost use Rattle.notation.specs.Activity.{sameName};
 
 // The classes; their numbers are those of specs/Classes.antt. The name classes come first: one up to START can begin a name, one up to
@@ -89,14 +91,27 @@ pub fn name_form(s: &[u8]) -> bool
     if !begins_name(s[0]) {
         return false;
     }
-    let mut i = 1;
+    name_end(s, 1) == s.len()
+}
+
+// Where the name bytes that begin at an offset end. The table is taken once for the scan.
+pub fn name_end(s: &[u8], at: usize) -> usize
+    ensures { λ r. ⌜ r ≡ at + nameRun (drop at (now (s .entry))) ⌝ }
+{
+    let classes = CLASSES;
+    let mut i = at;
     while i < s.len() {
-        if !in_name(s[i]) {
-            return false;
+        let b = s[i];
+        if 128 <= b {
+            return i;
+        }
+        let k = b as usize;
+        if DOT < classes[k] {
+            return i;
         }
         i += 1;
     }
-    true
+    i
 }
 
 // Over the limit of a name's length.

@@ -9,7 +9,9 @@ use lib.Dec.{eqb}
 use borrow.Author.Tests.{eq-eqb, ne-eqb}
 use lib.ListN.{length, getD, drop, drop-of-length-le}
 use lib.Seq.{drop-cons}
+use Rattle.notation.specs.Names.{inName, nameRun}
 use Rattle.notation.specs.Form.{every}
+use Rattle.notation.proofs.Laws.Tests.{cases}
 use Rattle.filing.specs.Tokens.{begins}
 use Rattle.filing.specs.Reading.{front}
 
@@ -48,6 +50,12 @@ module _ (ok : ℕ → Bool) (s : List ℕ) (i : ℕ) where
 
   pub span-end : length s ≤ i → i + length (front ok (drop i s)) ≡ i
   span-end h = omega (arith, front-end h)
+
+-- the run of name bytes is the front of them
+pub name-front : (l : List ℕ) → nameRun l ≡ length (front inName l)
+unfolding nameRun front
+name-front [] = refl
+name-front (b ∷ l) = cases (inName b) (λ t. rw t (ap suc (name-front l))) (λ f. rw f)
 
 module _ (w s : List ℕ) (i k : ℕ) where
   pub begins-no : i < length w → k < length s → (getD s k 0 ≡ getD w i 0 → ⊥) → begins (drop i w) (drop k s) ≡ false

@@ -1,57 +1,16 @@
--- `filing::scan::name_end` meets its contract. The loop's invariant: the end is as far from here as the bytes that pass go.
-use Prim.Native.Nat.{_+_, _≤_, _-_}
-use mathlib.Core.Path.{_≡_, refl, sym, _∙_}
-use native.Mathlib.Omega.{arith}
+-- `filing::scan::name_end` meets its contract: the scan is notation's.
+use mathlib.Core.Path.{_∙_, ap}
+use Prim.Native.Nat.{ℕ, _+_}
 use borrow.Author.Needs.{needs}
-use borrow.Author.Tests.{not-true, not-false}
-use lib.ListN.{length, drop}
-use Rattle.notation.specs.Names.{inName}
-use Rattle.filing.specs.Reading.{front}
-use Rattle.filing.proofs.Laws.Trees.Steps.{span-no, span-yes, span-end}
+use Rattle.filing.proofs.Laws.Trees.Steps.{name-front}
 use Rattle.filing.proofs.scan.name_end.Statement.{statement}
 use Rattle.filing.proofs.scan.name_end.Tie as tie
 
-abbrev Inv-loop : tie.InvT-loop
-Inv-loop s at i₀ i = (i ≤ length s) × (at + length (front inName (drop at s)) ≡ i + length (front inName (drop i s)))
+name-end-requires : tie.Need-name-end-requires
+name-end-requires c κs = search needs
 
-abbrev μ-loop : tie.MeasureT-loop
-μ-loop s at i₀ i = length s - i
-
-loop-holds : tie.Need-loop-holds Inv-loop μ-loop
-loop-holds c = (c .before .pre, refl)
-
-shared-slice-read-in-name : tie.Need-shared-slice-read-in-name Inv-loop μ-loop
-shared-slice-read-in-name c = omega arith
-
-in-name-requires : tie.Need-in-name-requires Inv-loop μ-loop
-in-name-requires c κs = search needs
-
-returns : tie.Need-returns Inv-loop μ-loop
-returns c = sym (c .before .before .before .before .loop .inv .1 ∙ span-no inName _ _ (c .before .before .before .loop-test .taken) (sym (c .before .in-name .ensures) ∙ not-true _ (c .if1 .taken)))
-
-add-i : tie.Need-add-i Inv-loop μ-loop
-add-i c = omega arith
-
-loop-less : tie.Need-loop-less Inv-loop μ-loop
-loop-less c = omega arith
-
-loop-again : tie.Need-loop-again Inv-loop μ-loop
-loop-again c = (omega arith, c .before .before .before .before .loop .inv .1 ∙ span-yes inName _ _ (c .before .before .before .loop-test .taken) (sym (c .before .in-name .ensures) ∙ not-false _ (c .if1 .left)))
-
-returns-2 : tie.Need-returns-2 Inv-loop μ-loop
-returns-2 c = sym (c .before .loop .inv .1 ∙ span-end inName _ _ (c .loop-test .left))
+returns : tie.Need-returns
+returns c = c .name-end .ensures ∙ ap (λ (n : ℕ). c .before .before .args .at + n) (name-front _)
 
 pub name-end-spec : {M : Type 1} → statement M
-name-end-spec =
-    tie.close
-    (tie.spec
-    Inv-loop
-    μ-loop
-    loop-holds
-    shared-slice-read-in-name
-    in-name-requires
-    returns
-    add-i
-    loop-less
-    loop-again
-    returns-2)
+name-end-spec = tie.close (tie.spec name-end-requires returns)
