@@ -1,15 +1,14 @@
 use native.Mathlib.Omega.{arith}
 use mathlib.Core.Path.{_≡_, refl, sym, _∙_, ap}
-use mathlib.Core.Bool.{Bool, true, false, _||_}
+use mathlib.Core.Bool.{_||_}
 use mathlib.Core.List.{List}
 use Prim.Native.Nat.{ℕ, _+_, _-_, _≤_}
 use lib.Dec.{eqb}
 use lib.ListN.{length}
-use borrow.Author.Needs.{needs}
 use Rattle.notation.specs.Limits.{maxLabels}
 use Rattle.notation.specs.Reads.{word16, labelCount, labelEntryAt}
 use Rattle.machine.specs.Words.{any}
-use Rattle.machine.specs.Automaton.{hashes, hash, headsAt, linksAt, linkSize}
+use Rattle.machine.specs.Automaton.{hashes, hash, headsAt, linksAt, linkSize, automatonSize}
 use Rattle.machine.specs.Tables.{headAt, nextAt}
 use Rattle.machine.specs.Bits.{bitAt}
 use Rattle.machine.specs.Chain.{chainFrom, chainLabels}
@@ -25,16 +24,18 @@ Inv-loop out₀ a e h k₀ out k = (k ≤ labelCount a) × ((length out ≡ leng
 abbrev μ-loop : tie.MeasureT-loop
 μ-loop out₀ a e h k₀ out k = left (labelCount a) k
 
-mul-word-at : tie.Need-mul-word-at Inv-loop μ-loop
+mul-word : tie.Need-mul-word Inv-loop μ-loop
 unfolding hashes
-mul-word-at c = omega (arith, hash-small (c .before .before .before .args .e .now), c .before .before .before .pre .1 .1)
+mul-word c = omega (arith, hash-small (c .before .before .before .args .e .now), c .before .before .before .pre .1 .1)
 
-add-word-at : tie.Need-add-word-at Inv-loop μ-loop
+add-word : tie.Need-add-word Inv-loop μ-loop
 unfolding hashes
-add-word-at c = omega (arith, hash-small (c .before .before .before .args .e .now), c .before .before .before .pre .1 .1)
+add-word c = omega (arith, hash-small (c .before .before .before .args .e .now), c .before .before .before .pre .1 .1)
 
-word-at-requires : tie.Need-word-at-requires Inv-loop μ-loop
-word-at-requires c κs = search needs
+word-requires : tie.Need-word-requires Inv-loop μ-loop
+unfolding hashes automatonSize
+word-requires c κs = let b = c .before .before .before in
+    omega (arith, hash-small (b .args .e .now), b .pre .1 .1, b .pre .1 .0 .size)
 
 loop-holds : tie.Need-loop-holds Inv-loop μ-loop
 unfolding chainLabels headsAt
@@ -42,7 +43,7 @@ loop-holds c = let b = c .before .before .before .before in
     let a = b .args .a .now in
     let e = b .args .e .now in
     let hh : b .args .h ≡ hash e = b .pre .1 .1 in
-    let r : c .word-at .result ≡ headAt a (hash e) = rw hh at (c .word-at .ensures .0) in
+    let r : c .word .result ≡ headAt a (hash e) = rw hh at (c .word .ensures .0) in
     (rw r (b .pre .1 .0 .walkable .searchable .head (hash e) (hash-small e)), (refl, λ j. rw r))
 
 sub-mark-label : tie.Need-sub-mark-label Inv-loop μ-loop
@@ -53,25 +54,27 @@ mark-label-requires c κs = let b = c .before .before .before .before .before .b
     let l = c .before .before .loop in
     (omega (arith, l .inv .1 .0, b .pre .0), (b .pre .1 .0, low (b .args .a .now) (b .pre .1 .0 .walkable .searchable) (l .k) (c .before .loop-test .taken) (l .inv .0)))
 
-sub-word-at : tie.Need-sub-word-at Inv-loop μ-loop
-sub-word-at c = omega arith
+sub-word : tie.Need-sub-word Inv-loop μ-loop
+sub-word c = omega arith
 
-mul-word-at-2 : tie.Need-mul-word-at-2 Inv-loop μ-loop
+mul-word-2 : tie.Need-mul-word-2 Inv-loop μ-loop
 unfolding maxLabels
-mul-word-at-2 c = omega (arith, c .before .before .before .before .before .before .before .before .before .before .pre .1 .0 .walkable .searchable .few)
+mul-word-2 c = omega (arith, c .before .before .before .before .before .before .before .before .before .before .pre .1 .0 .walkable .searchable .few)
 
-add-word-at-2 : tie.Need-add-word-at-2 Inv-loop μ-loop
+add-word-2 : tie.Need-add-word-2 Inv-loop μ-loop
 unfolding maxLabels
-add-word-at-2 c = omega (arith, c .before .before .before .before .before .before .before .before .before .before .pre .1 .0 .walkable .searchable .few)
+add-word-2 c = omega (arith, c .before .before .before .before .before .before .before .before .before .before .pre .1 .0 .walkable .searchable .few)
 
-word-at-requires-2 : tie.Need-word-at-requires-2 Inv-loop μ-loop
-word-at-requires-2 c κs = search needs
+word-requires-2 : tie.Need-word-requires-2 Inv-loop μ-loop
+unfolding maxLabels automatonSize
+word-requires-2 c κs = let b = c .before .before .before .before .before .before .before .before .before .before in
+    omega (arith, c .before .before .before .before .before .loop .inv .0, b .pre .1 .0 .walkable .searchable .few, b .pre .1 .0 .size)
 
 loop-less : tie.Need-loop-less Inv-loop μ-loop
 unfolding linksAt linkSize
 loop-less c = let b = c .before .before .before .before .before .before .before .before .before .before .before in
     let l = c .before .before .before .before .before .before .loop in
-    let r : c .word-at2 .result ≡ nextAt (b .args .a .now) (l .k - 1) = c .word-at2 .ensures .0 in
+    let r : c .word2 .result ≡ nextAt (b .args .a .now) (l .k - 1) = c .word2 .ensures .0 in
     rw r (rises (b .args .a .now) (b .pre .1 .0 .walkable .searchable) (l .k) (c .before .before .before .before .before .loop-test .taken) (l .inv .0))
 
 loop-again : tie.Need-loop-again Inv-loop μ-loop
@@ -82,7 +85,7 @@ loop-again c = let b = c .before .before .before .before .before .before .before
     let e = b .args .e .now in
     let s = b .pre .1 .0 .walkable .searchable in
     let z = c .before .before .before .before .before .loop-test .taken in
-    let r : c .word-at2 .result ≡ nextAt a (l .k - 1) = c .word-at2 .ensures .0 in
+    let r : c .word2 .result ≡ nextAt a (l .k - 1) = c .word2 .ensures .0 in
     let m = c .before .before .before .mark-label in
     (rw r (s .next (l .k - 1) (low a s (l .k) z (l .inv .0))), (m .kept .0 ∙ l .inv .1 .0, λ j. rw r (marked a s (l .k) z (l .inv .0) e (λ n. eqb (word16 a (labelEntryAt n + 4)) j) (bitAt (m .last .0) j) (bitAt (l .out) j) (m .ensures j) ∙ l .inv .1 .1 j)))
 
@@ -102,16 +105,16 @@ mark-labels-spec =
     (tie.spec
     Inv-loop
     μ-loop
-    mul-word-at
-    add-word-at
-    word-at-requires
+    mul-word
+    add-word
+    word-requires
     loop-holds
     sub-mark-label
     mark-label-requires
-    sub-word-at
-    mul-word-at-2
-    add-word-at-2
-    word-at-requires-2
+    sub-word
+    mul-word-2
+    add-word-2
+    word-requires-2
     loop-less
     loop-again
     same-length
