@@ -1,5 +1,3 @@
-pub mod Printed
 pub mod Read
 pub mod Filing
-pub mod Trees
 pub mod Listing

@@ -8,11 +8,11 @@ use lib.Dec.{eqb}
 use Rattle.notation.specs.Sets.{Path, Folder, FolderSet, folderNumber}
 use Rattle.notation.specs.Refusals.{Refusal}
 use Rattle.notation.specs.Accepted.{Accepted}
-use Rattle.machine.specs.Calls.{State, pathAt, fresh, run}
-use Rattle.machine.specs.Folders.{placesOf, folderMatched, HasFolders}
-use Rattle.filing.specs.Tree.{Node, element, text, comment, Nodes, none, _then_, Document, Place, kindAt}
-use Rattle.filing.specs.XPath.{IsElement, selected}
-use Rattle.filing.specs.Document.{eventsOf, elementsAmong, Report, documentIn}
+use Rattle.theory.specs.Calls.{State, pathAt, fresh, run}
+use Rattle.theory.specs.Folders.{placesOf, folderMatched, HasFolders}
+use Rattle.documents.specs.Tree.{Node, element, text, comment, Nodes, none, _then_, Document, Place, kindAt}
+use Rattle.documents.specs.XPath.{IsElement, selected}
+use Rattle.documents.specs.Document.{eventsOf, elementsAmong, Report, documentIn}
 use Rattle.filing.specs.Filing.{refused, filed, callsIn, allAccepted, fileReport, Refused, FiledWith}
 
 -- how many elements there are in a document

@@ -13,9 +13,9 @@ use Rattle.machine.specs.RunCalls.{depthOf, startRefusal, openRefusal, openRun,
 use Rattle.machine.specs.Demand3.{Left, started}
 use Rattle.machine.specs.declared.counters.Counters.{Counters}
 use Rattle.filing.specs.Limits.{maxReportBytes}
-use Rattle.filing.specs.Tokens.{Token, blank, listed}
-use Rattle.filing.specs.Reading.{Read, fail, got, readReport}
-use Rattle.filing.specs.Document.{Event, opening, closing, textHere, commentHere, eventsOfToken}
+use Rattle.documents.specs.Tokens.{Token, blank, listed}
+use Rattle.documents.specs.Reading.{Read, fail, got, readReport}
+use Rattle.documents.specs.Document.{Event, opening, closing, textHere, commentHere, eventsOfToken}
 
 -- refused with a number, or run and counters as left
 pub data Outcome : Type 0 where

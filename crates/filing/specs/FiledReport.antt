@@ -11,15 +11,15 @@ use Rattle.notation.specs.Refusals.{Refusal, numberOf}
 use Rattle.notation.specs.Accepted.{Accepted}
 use Rattle.notation.specs.declared.PathPlace.{PathPlace}
 use Rattle.notation.specs.declared.FolderNumber.{FolderNumber}
-use Rattle.machine.specs.Calls.{State, pathAt}
-use Rattle.machine.specs.Folders.{HasFolders}
+use Rattle.theory.specs.Calls.{State, pathAt}
+use Rattle.theory.specs.Folders.{HasFolders}
 use Rattle.machine.specs.Automaton.{automatonOf}
 use Rattle.machine.specs.Run.{runSize, runOf}
 use Rattle.machine.specs.RunCalls.{startRun, noCounters}
 use Rattle.machine.specs.Asking.{askPath, askFolder}
 use Rattle.machine.specs.Demand3.{Answers, HasFolder}
 use Rattle.machine.specs.declared.counters.Counters.{Counters}
-use Rattle.filing.specs.Document.{documentIn}
+use Rattle.documents.specs.Document.{documentIn}
 use Rattle.filing.specs.Filing.{Refused, FiledWith}
 use Rattle.filing.specs.Demand2.{countIn, childlessIn, SelectsElement, FolderSelects, OfDocument}
 use Rattle.filing.specs.FileCall.{Files}

@@ -10,11 +10,11 @@ use lib.ListN.{length}
 use Rattle.notation.specs.Sets.{FolderSet}
 use Rattle.notation.specs.Form.{every, nonEmpty}
 use Rattle.notation.specs.Refusals.{Refusal, oversize, foreignByte, torn, looseEnd, numberOf}
-use Rattle.machine.specs.Calls.{asLeft, Call, openCall, closeCall, State, nothingOpen, fresh, refusal, accepted, step}
+use Rattle.theory.specs.Calls.{asLeft, Call, openCall, closeCall, State, nothingOpen, fresh, refusal, accepted, step}
 use Rattle.filing.specs.Limits.{maxReportBytes}
-use Rattle.filing.specs.Tokens.{Token, blank, listed, RunOfTokens}
-use Rattle.filing.specs.Reading.{Read, fail, got, readReport}
-use Rattle.filing.specs.Document.{Event, opening, closing, textHere, commentHere, eventsOfToken}
+use Rattle.documents.specs.Tokens.{Token, blank, listed, RunOfTokens}
+use Rattle.documents.specs.Reading.{Read, fail, got, readReport}
+use Rattle.documents.specs.Document.{Event, opening, closing, textHere, commentHere, eventsOfToken}
 
 -- refused, or filed with the machine as it is at the end
 pub data Filed : Type 0 where

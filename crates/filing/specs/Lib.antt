@@ -1,10 +1,3 @@
-pub mod Tree
-pub mod XPath
-pub mod NameList
-pub mod SelectTable
-pub mod Tokens
-pub mod Reading
-pub mod Document
 pub mod Reaches
 pub mod Seen
 pub mod Limits

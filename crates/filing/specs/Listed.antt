@@ -11,9 +11,9 @@ use Rattle.notation.specs.Print.{decimal, folderWord, footer}
 use Rattle.notation.specs.Reads.{folderCount, folderAt, pathText}
 use Rattle.notation.specs.Refusals.{shortBuffer, strangeShape}
 use Rattle.notation.specs.declared.reads.FolderAt.{FolderAt}
-use Rattle.machine.specs.Words.{any}
-use Rattle.machine.specs.Folders.{countFrom}
-use Rattle.machine.specs.Order.{Condition, gives}
+use Rattle.theory.specs.Words.{any}
+use Rattle.theory.specs.Folders.{countFrom}
+use Rattle.theory.specs.Order.{Condition, gives}
 use Rattle.machine.specs.RunCalls.{shaped, tooShort, given}
 use Rattle.machine.specs.Asking.{placeMatched, pathsOfFolder}
 use Rattle.machine.specs.declared.answers.Written.{Written}

@@ -7,7 +7,7 @@ use lib.ListN.{length}
 use Rattle.notation.specs.Sets.{Path, folder, FolderSet}
 use Rattle.notation.specs.Print.{decimal, footer, printFolder}
 use Rattle.notation.specs.Refusals.{numberOf}
-use Rattle.machine.specs.Calls.{State}
+use Rattle.theory.specs.Calls.{State}
 use Rattle.filing.specs.Filing.{Filed, refused, filed, fileReport}
 
 -- "(filed" and the line's end

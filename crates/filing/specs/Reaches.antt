@@ -4,8 +4,8 @@ use lib.ListN.{length, drop}
 use Rattle.filing.specs.declared.tags.Reach.{Reach}
 use Rattle.filing.specs.declared.tags.Reach.the-variants.{No, To}
 use mathlib.Core.List.{List, [], _∷_}
-use Rattle.filing.specs.Tokens.{quoteByte, blank, inValue}
-use Rattle.filing.specs.Reading.{Read, fail, got, thenRead, back, readWord, readQuote, readParts, readAttributes}
+use Rattle.documents.specs.Tokens.{quoteByte, blank, inValue}
+use Rattle.documents.specs.Reading.{Read, fail, got, thenRead, back, readWord, readQuote, readParts, readAttributes}
 
 abbrev pub reachOf : {A : Type 0} → ℕ → Read A → Reach
 reachOf total fail = No

@@ -8,8 +8,8 @@ use Rattle.notation.specs.Names.{Name}
 use Rattle.notation.specs.Form.{every}
 use Rattle.filing.specs.declared.tokens.Found.{Found}
 use Rattle.filing.specs.declared.tokens.Found.the-variants.{Nothing, Declaration, Comment, Start, Empty, End, Text}
-use Rattle.filing.specs.Tokens.{Token, declaration, comment, startTag, emptyTag, endTag, text, declarationBytes, printParts, blank}
-use Rattle.filing.specs.Reading.{Read, fail, got, thenRead, readWord}
+use Rattle.documents.specs.Tokens.{Token, declaration, comment, startTag, emptyTag, endTag, text, declarationBytes, printParts, blank}
+use Rattle.documents.specs.Reading.{Read, fail, got, thenRead, readWord}
 
 -- of a token with its `<` at an offset, in bytes of this length in all
 abbrev pub shown : Token → ℕ → ℕ → Found

@@ -13,8 +13,8 @@ use Rattle.machine.specs.declared.answers.Opened.{Opened}
 use Rattle.machine.specs.declared.answers.Opened.the-variants.{Accepted, Refused}
 use Rattle.filing.specs.declared.tokens.Found.{Found}
 use Rattle.filing.specs.declared.tokens.Found.the-variants.{Nothing, Declaration, Comment, Start, Empty, End, Text}
-use Rattle.filing.specs.Tokens.{Token}
-use Rattle.filing.specs.Reading.{Read, fail, got}
+use Rattle.documents.specs.Tokens.{Token}
+use Rattle.documents.specs.Reading.{Read, fail, got}
 use Rattle.filing.specs.Seen.{foundEnd, declares}
 use Rattle.filing.specs.FileCall.{Outcome, refusedWith, leaving, numberLeft, thenGo, outcome, leftIn, openOutcome, closeOutcome, textOutcome, tokensOutcome}
 

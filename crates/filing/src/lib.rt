@@ -1,4 +1,4 @@
-// Reports: their bytes, tokens and tags; filing them, and what the filing program prints. The document tree and XPath 1.0 stand in specs.
+// Reports: reading their tokens and tags; filing them, and what the filing program prints.
 
 pub mod limits;
 pub mod listing;

@@ -21,7 +21,7 @@ ghost use Prim.Native.Nat.{_≤_};
 ghost use lib.ListN.{length};
 ghost use Rattle.notation.specs.Print.{decimal, folderWord};
 ghost use Rattle.notation.specs.Reads.{folderAt, folderCount};
-ghost use Rattle.machine.specs.Folders.{countFrom};
+ghost use Rattle.theory.specs.Folders.{countFrom};
 ghost use Rattle.machine.specs.RunCalls.{given};
 ghost use Rattle.filing.specs.Limits.{listingSize};
 ghost use Rattle.filing.specs.Page.{On, Adds, Holds, soFar};

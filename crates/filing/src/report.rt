@@ -19,7 +19,7 @@ ghost use Rattle.machine.specs.Run.{runSize};
 ghost use Rattle.machine.specs.RunCalls.{startRun, noCounters};
 ghost use Rattle.machine.specs.Openable.{Usable};
 ghost use Rattle.machine.specs.Demand3.{started};
-ghost use Rattle.filing.specs.Reading.{readToken, readReport};
+ghost use Rattle.documents.specs.Reading.{readToken, readReport};
 ghost use Rattle.filing.specs.Seen.{foundOf, tagName};
 ghost use Rattle.filing.specs.FileCall.{Files, thenGo, openOutcome, closeOutcome, textOutcome, endOutcome, runOutcome, reportOutcome};
 ghost use Rattle.filing.specs.Taking.{openNumber, so, Takes, Leaves, foundOutcome, tornAt, runFrom};

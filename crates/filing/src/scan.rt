@@ -5,8 +5,8 @@ ghost use Prim.Native.Nat.{_+_, _≤_};
 ghost use lib.ListN.{length, drop};
 ghost use Rattle.notation.specs.Names.{inName};
 ghost use Rattle.notation.specs.Form.{every};
-ghost use Rattle.filing.specs.Tokens.{blank as blankByte, listed as listedByte, inText, begins};
-ghost use Rattle.filing.specs.Reading.{front};
+ghost use Rattle.documents.specs.Tokens.{blank as blankByte, listed as listedByte, inText, begins};
+ghost use Rattle.documents.specs.Reading.{front};
 
 // 9, 10, 13 or 32.
 pub fn blank(b: u8) -> bool

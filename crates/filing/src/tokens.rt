@@ -13,8 +13,8 @@ ghost use Prim.Native.Nat.{_+_, _≤_, _<_};
 ghost use lib.ListN.{length, drop};
 ghost use mathlib.Core.Bool.{_&&_};
 ghost use mathlib.Core.List.{[], _∷_};
-ghost use Rattle.filing.specs.Tokens.{begins};
-ghost use Rattle.filing.specs.Reading.{readTag, readEndTag, readContents, readComment, readText, readToken, readReport};
+ghost use Rattle.documents.specs.Tokens.{begins};
+ghost use Rattle.documents.specs.Reading.{readTag, readEndTag, readContents, readComment, readText, readToken, readReport};
 ghost use Rattle.filing.specs.Reaches.{reachOf};
 ghost use Rattle.filing.specs.Seen.{foundOf, tagEndOf, textFound, declarationAt, tagName, nameFrom, nameTo, foundEnd, declares, isGot};
 

@@ -1,7 +1,4 @@
-pub mod Basics
 pub mod Lent
-pub mod Keywords
-pub mod Machine
 pub mod Bytes
 pub mod Tables
 pub mod Building

@@ -11,9 +11,9 @@ use Rattle.notation.specs.declared.FolderNumber.{FolderNumber}
 use Rattle.notation.specs.declared.reads.PathAt.{PathAt}
 use Rattle.notation.specs.declared.reads.FolderAt.{FolderAt}
 use Rattle.notation.specs.declared.reads.FolderIndex.{FolderIndex}
-use Rattle.machine.specs.Words.{any}
-use Rattle.machine.specs.Folders.{countFrom}
-use Rattle.machine.specs.Order.{Condition, gives}
+use Rattle.theory.specs.Words.{any}
+use Rattle.theory.specs.Folders.{countFrom}
+use Rattle.theory.specs.Order.{Condition, gives}
 use Rattle.machine.specs.Tables.{sizeOf}
 use Rattle.machine.specs.Shape.{automatonShaped}
 use Rattle.machine.specs.RunCalls.{depthOf, storedName, stateAt, activeAt, matchedAt, runShaped, tooShort, given}

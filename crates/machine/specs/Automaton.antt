@@ -11,8 +11,8 @@ use Rattle.notation.specs.Sets.{Axis, child, descendant, Test, label, star, Ste
 use Rattle.notation.specs.Form.{pathsOf, stepsOf, labelsOf}
 use Rattle.notation.specs.Layout.{setSize, setPart, le16, joined, padded}
 use Rattle.notation.specs.Reads.{isDescendant, isStar}
-use Rattle.machine.specs.Words.{Symbol, document, name, Word, sameSymbol, before, labelWords, begins}
-use Rattle.machine.specs.Prefix.{failure}
+use Rattle.theory.specs.Words.{Symbol, document, name, Word, sameSymbol, before, labelWords, begins}
+use Rattle.theory.specs.Prefix.{failure}
 
 -- sizes and offsets
 

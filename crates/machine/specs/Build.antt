@@ -12,7 +12,7 @@ use Rattle.notation.specs.Scan.{refusalOf}
 use Rattle.notation.specs.Accepted.{Accepted}
 use Rattle.notation.specs.Reads.{textLen, textOf}
 use Rattle.notation.specs.Refusals.{shortBuffer, strangeShape}
-use Rattle.machine.specs.Order.{Condition, gives}
+use Rattle.theory.specs.Order.{Condition, gives}
 use Rattle.machine.specs.Automaton.{automatonOf, automatonSize}
 use Rattle.machine.specs.Shape.{automatonShaped}
 use Rattle.machine.specs.RunCalls.{given}

@@ -10,10 +10,10 @@ use Rattle.notation.specs.Sets.{child, label, star, step, FolderSet, testOf}
 use Rattle.notation.specs.Form.{pathsOf, labelsOf}
 use Rattle.notation.specs.Activity.{sameName}
 use Rattle.notation.specs.Reads.{word16, pathCount, stepCount, labelCount, labelEntryAt}
-use Rattle.machine.specs.Words.{Word, begins}
-use Rattle.machine.specs.Prefix.{IsPrefix, failure}
-use Rattle.machine.specs.Walk.{followedBy, Walked, movesOf, arrivedAt, walk}
-use Rattle.machine.specs.Calls.{fresh}
+use Rattle.theory.specs.Words.{Word, begins}
+use Rattle.theory.specs.Prefix.{IsPrefix, failure}
+use Rattle.theory.specs.Walk.{followedBy, Walked, movesOf, arrivedAt, walk}
+use Rattle.theory.specs.Calls.{fresh}
 use Rattle.machine.specs.Automaton.{maskSize, masksAt, allSteps, allLabels, stateOf, roles, roleAt, startState}
 use Rattle.machine.specs.Tables.{startOf, sizeOf, failOf, goto, walkOver}
 use Rattle.machine.specs.Bits.{bitIn}

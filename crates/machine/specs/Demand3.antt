@@ -13,13 +13,13 @@ use Rattle.notation.specs.Form.{pathsOf}
 use Rattle.notation.specs.Fit.{nameAt, Active}
 use Rattle.notation.specs.declared.PathPlace.{PathPlace}
 use Rattle.notation.specs.declared.FolderNumber.{FolderNumber}
-use Rattle.machine.specs.Words.{Word}
-use Rattle.machine.specs.Prefix.{CurrentPrefix}
-use Rattle.machine.specs.Order.{numberIn}
-use Rattle.machine.specs.Calls.{asLeft, otherwise, Call, openCall, closeCall, pathAt, refusal, run}
-use Rattle.machine.specs.History.{acceptedCalls, opensIn, closesIn, stillOpen, FittedAfterOpen}
-use Rattle.machine.specs.Elements.{elementsOf, childlessDepths}
-use Rattle.machine.specs.Folders.{placesOf}
+use Rattle.theory.specs.Words.{Word}
+use Rattle.theory.specs.Prefix.{CurrentPrefix}
+use Rattle.theory.specs.Order.{numberIn}
+use Rattle.theory.specs.Calls.{asLeft, otherwise, Call, openCall, closeCall, pathAt, refusal, run}
+use Rattle.theory.specs.History.{acceptedCalls, opensIn, closesIn, stillOpen, FittedAfterOpen}
+use Rattle.theory.specs.Elements.{elementsOf, childlessDepths}
+use Rattle.theory.specs.Folders.{placesOf}
 use Rattle.machine.specs.RunCalls.{startRefusal, startRun, noCounters, openRefusal, openRun, openCounters, closeRefusal, closeRun, closeCounters}
 use Rattle.machine.specs.Asking.{askPath, askFolder, askStep, askPrefix, nameRefusal, askName}
 use Rattle.machine.specs.declared.counters.Counters.{Counters}

@@ -1,13 +1,3 @@
-pub mod Limits
-pub mod Words
-pub mod Prefix
-pub mod Walk
-pub mod Order
-pub mod Calls
-pub mod History
-pub mod Elements
-pub mod Folders
-pub mod Examples
 pub mod Automaton
 pub mod Tables
 pub mod Shape

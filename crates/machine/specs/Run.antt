@@ -12,9 +12,9 @@ use Rattle.notation.specs.Sets.{Path, FolderSet}
 use Rattle.notation.specs.Form.{pathsOf}
 use Rattle.notation.specs.Layout.{le16, joined, padded}
 use Rattle.notation.specs.Activity.{active, seen}
-use Rattle.machine.specs.Prefix.{prefixOf}
+use Rattle.theory.specs.Prefix.{prefixOf}
 use Rattle.machine.specs.Automaton.{maskSize, stateOf, bitBytes}
-use Rattle.machine.specs.Calls.{State, openNames}
+use Rattle.theory.specs.Calls.{State, openNames}
 
 -- sizes and offsets
 

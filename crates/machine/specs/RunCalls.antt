@@ -10,7 +10,7 @@ use Rattle.notation.specs.Limits.{maxName}
 use Rattle.notation.specs.Layout.{le16, padded}
 use Rattle.notation.specs.Activity.{sameName}
 use Rattle.notation.specs.Reads.{word16, stepCount, labelCount, labelEntryAt}
-use Rattle.machine.specs.Limits.{maxDepth, maxOpens}
+use Rattle.theory.specs.Limits.{maxDepth, maxOpens}
 use Rattle.machine.specs.Automaton.{maskSize, masksAt, automatonSize, byteOf, tabulate}
 use Rattle.machine.specs.Tables.{startOf, walkOver}
 use Rattle.machine.specs.Chain.{chainLabels}
@@ -20,8 +20,8 @@ use Rattle.machine.specs.Run.{matchesAt, nameIn, stateIn, activeIn, seen
 use Rattle.machine.specs.declared.counters.Counters.{Counters}
 use Rattle.machine.specs.declared.walk.Walk.{Walk}
 use Rattle.notation.specs.Refusals.{Refusal, numberOf, shortBuffer, strangeShape, torn, longName, looseEnd, tooDeep, full, crossed, noSuchPlace}
-use Rattle.machine.specs.Words.{any}
-use Rattle.machine.specs.Order.{Condition, gives}
+use Rattle.theory.specs.Words.{any}
+use Rattle.theory.specs.Order.{Condition, gives}
 
 -- what is stored of a run
 

@@ -1,14 +1,8 @@
-pub mod ByteTests
-pub mod Bytes
-pub mod Chain
 pub mod Comments
-pub mod Holds
 pub mod Inside
 pub mod Next
 pub mod Offsets
-pub mod PartsSound
 pub mod Reaches
-pub mod ReadSound
 pub mod RunAt
 pub mod TagName
 pub mod Tags

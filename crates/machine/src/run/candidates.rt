@@ -17,7 +17,7 @@ ghost use lib.ListN.{length};
 ghost use Rattle.notation.specs.Activity.{sameName};
 ghost use Rattle.notation.specs.Layout.{setSize};
 ghost use Rattle.notation.specs.Reads.{word16, labelCount, labelEntryAt, labelName, textSlice};
-ghost use Rattle.machine.specs.Words.{any};
+ghost use Rattle.theory.specs.Words.{any};
 ghost use Rattle.machine.specs.Automaton.{maskSize, hash};
 ghost use Rattle.machine.specs.Bits.{bitAt};
 ghost use Rattle.machine.specs.Chain.{chainLabels, ownLabel};

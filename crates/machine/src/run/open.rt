@@ -18,7 +18,7 @@ ghost use mathlib.Core.Path.{_≡_};
 ghost use Prim.Native.Nat.{suc, _≤_, _<_};
 ghost use lib.ListN.{length};
 ghost use Rattle.notation.specs.Limits.{maxName, maxSteps};
-ghost use Rattle.machine.specs.Limits.{maxDepth};
+ghost use Rattle.theory.specs.Limits.{maxDepth};
 ghost use Rattle.machine.specs.Automaton.{hash};
 ghost use Rattle.machine.specs.RunContracts.{Opens, OpensBy};
 ghost use Rattle.machine.specs.Openable.{Openable, Ready, Usable};

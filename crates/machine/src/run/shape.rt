@@ -8,7 +8,7 @@ use notation::limits::MAX_NAME;
 use notation::reads;
 ghost use mathlib.Core.Path.{_≡_};
 ghost use Prim.Native.Nat.{_<_, _≤_};
-ghost use Rattle.machine.specs.Limits.{maxDepth};
+ghost use Rattle.theory.specs.Limits.{maxDepth};
 ghost use Rattle.machine.specs.RunCalls.{depthOf, rowShaped, runShaped, countersShaped};
 
 // The count of open elements.

@@ -13,7 +13,7 @@ ghost use mathlib.Core.Bool.{_&&_, _||_};
 ghost use Prim.Native.Nat.{ℕ, suc, _+_, _*_, _≤_, _<_};
 ghost use lib.Dec.{eqb};
 ghost use lib.ListN.{length, getD, set};
-ghost use Rattle.machine.specs.Limits.{maxDepth};
+ghost use Rattle.theory.specs.Limits.{maxDepth};
 ghost use Rattle.machine.specs.Automaton.{maskSize, automatonSize};
 ghost use Rattle.machine.specs.Bits.{bitOf, bitIn, bitAt};
 ghost use Rattle.machine.specs.Run.{runSize, rowAt, activeIn, seenIn, matchesAt};

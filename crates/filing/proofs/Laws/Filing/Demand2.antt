@@ -12,23 +12,23 @@ use Rattle.notation.specs.Form.{nonEmpty}
 use Rattle.notation.specs.Sets.{FolderSet}
 use Rattle.notation.specs.Activity.{fits}
 use Rattle.notation.proofs.Laws.Meaning.Fit.{fits-is}
-use Rattle.machine.specs.Words.{any}
-use Rattle.machine.specs.Calls.{Call, Level, State, openNames, pathAt, fresh, run}
-use Rattle.machine.specs.Folders.{folderMatched}
-use Rattle.machine.specs.Elements.{elementsOf, childlessDepths}
-use Rattle.machine.specs.History.{acceptedCalls}
-use Rattle.machine.proofs.Laws.Basics.{any-is, is-any}
-use Rattle.machine.proofs.Laws.Machine.Folders.{folder-matched}
-use Rattle.machine.proofs.Laws.Machine.Sound.{Sound, sound}
-use Rattle.machine.proofs.Laws.Machine.Whole.{whole}
-use Rattle.filing.specs.Document.{Event, eventsOf, TreeOf, passed, Report, documentIn, passedIn}
-use Rattle.filing.specs.NameList.{nameLists}
+use Rattle.theory.specs.Words.{any}
+use Rattle.theory.specs.Calls.{Call, Level, State, openNames, pathAt, fresh, run}
+use Rattle.theory.specs.Folders.{folderMatched}
+use Rattle.theory.specs.Elements.{elementsOf, childlessDepths}
+use Rattle.theory.specs.History.{acceptedCalls}
+use Rattle.theory.proofs.Laws.Basics.{any-is, is-any}
+use Rattle.theory.proofs.Laws.Machine.Folders.{folder-matched}
+use Rattle.theory.proofs.Laws.Machine.Sound.{Sound, sound}
+use Rattle.theory.proofs.Laws.Machine.Whole.{whole}
+use Rattle.documents.specs.Document.{Event, eventsOf, TreeOf, passed, Report, documentIn, passedIn}
+use Rattle.documents.specs.NameList.{nameLists}
 use Rattle.filing.specs.Filing.{filed, fileEvents, callsIn, allAccepted, FiledWith}
 use Rattle.filing.specs.Demand2.{countIn, childlessIn, SelectsElement, FolderSelects, OfDocument, Demand2}
-use Rattle.filing.proofs.Laws.Read.Bytes.{neither}
-use Rattle.filing.proofs.Laws.Trees.Balance.{balanced-is}
-use Rattle.filing.proofs.Laws.Trees.Passed.{passed-is}
-use Rattle.filing.proofs.Laws.Trees.OneDocument.{one-document, report-selects}
+use Rattle.documents.proofs.Laws.Read.Bytes.{neither}
+use Rattle.documents.proofs.Laws.Trees.Balance.{balanced-is}
+use Rattle.documents.proofs.Laws.Trees.Passed.{passed-is}
+use Rattle.documents.proofs.Laws.Trees.OneDocument.{one-document, report-selects}
 use Rattle.filing.proofs.Laws.Filing.FilingOrder.{refused-is, filed-is}
 use Rattle.filing.proofs.Laws.Filing.FilingRun.{tokens-events, taken-after, taken-accepted, fresh-balanced, taken-matched, taken-opens}
 use Rattle.filing.proofs.Laws.Filing.FilingChildless.{count-in, calls-childless}

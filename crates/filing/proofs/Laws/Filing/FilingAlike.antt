@@ -11,15 +11,15 @@ use Rattle.notation.specs.Form.{every}
 use Rattle.notation.specs.Sets.{FolderSet}
 use Rattle.notation.specs.Refusals.{Refusal, looseEnd}
 use Rattle.notation.specs.Activity.{sameName}
-use Rattle.machine.specs.Order.{first}
-use Rattle.machine.specs.Calls.{asLeft, Call, openCall, closeCall, Level, level, nameOf, State, fresh, isInnermost, refusal, step, after, run}
-use Rattle.machine.proofs.Laws.Basics.{cases}
-use Rattle.machine.proofs.Laws.Machine.Steps.{one-more}
-use Rattle.machine.proofs.Laws.Machine.Alike.{run-alike}
+use Rattle.theory.specs.Order.{first}
+use Rattle.theory.specs.Calls.{asLeft, Call, openCall, closeCall, Level, level, nameOf, State, fresh, isInnermost, refusal, step, after, run}
+use Rattle.theory.proofs.Laws.Basics.{cases}
+use Rattle.theory.proofs.Laws.Machine.Steps.{one-more}
+use Rattle.theory.proofs.Laws.Machine.Alike.{run-alike}
 use Rattle.filing.specs.Limits.{maxReportBytes}
-use Rattle.filing.specs.Tokens.{Token, listed}
-use Rattle.filing.specs.Reading.{Read, fail, got, readReport}
-use Rattle.filing.specs.Document.{Event, opening, closing, textHere, commentHere, eventsOf}
+use Rattle.documents.specs.Tokens.{Token, listed}
+use Rattle.documents.specs.Reading.{Read, fail, got, readReport}
+use Rattle.documents.specs.Document.{Event, opening, closing, textHere, commentHere, eventsOf}
 use Rattle.filing.specs.Filing.{Filed, refused, filed, numberGiven, thenFile, unless, fileCall, looseText, fileEvents, unfinished, fileEnd, fileRun, fileReport}
 use Rattle.filing.proofs.Laws.Filing.FilingRun.{tokens-events}
 use Rattle.filing.proofs.Laws.Filing.FilingAdded.{same-open, same-finished}

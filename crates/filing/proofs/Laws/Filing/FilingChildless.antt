@@ -9,15 +9,15 @@ use borrow.Author.Tests.{ne-eqb}
 use native.Mathlib.Omega.{arith}
 use Rattle.notation.specs.Names.{Name}
 use Rattle.notation.specs.Sets.{FolderSet}
-use Rattle.machine.specs.Calls.{asLeft, Call, openCall, closeCall, State, fresh, accepted, step}
-use Rattle.machine.specs.History.{acceptedAfter, acceptedCalls}
-use Rattle.machine.specs.Elements.{Element, element as item, Elements, elements, withChild, opening as openOne, closing as closeOne, elementsOf, sumDepths, childlessDepths}
-use Rattle.filing.specs.Tree.{Node, element, text, comment, Nodes, none, _then_}
-use Rattle.filing.specs.NameList.{listsOf, listsIn}
-use Rattle.filing.specs.Document.{Event, opening, closing, textHere, commentHere, eventsAt, eventsIn, elementHere, elementsAmong, keep, documentOf}
+use Rattle.theory.specs.Calls.{asLeft, Call, openCall, closeCall, State, fresh, accepted, step}
+use Rattle.theory.specs.History.{acceptedAfter, acceptedCalls}
+use Rattle.theory.specs.Elements.{Element, element as item, Elements, elements, withChild, opening as openOne, closing as closeOne, elementsOf, sumDepths, childlessDepths}
+use Rattle.documents.specs.Tree.{Node, element, text, comment, Nodes, none, _then_}
+use Rattle.documents.specs.NameList.{listsOf, listsIn}
+use Rattle.documents.specs.Document.{Event, opening, closing, textHere, commentHere, eventsAt, eventsIn, elementHere, elementsAmong, keep, documentOf}
 use Rattle.filing.specs.Filing.{callsIn, allAccepted}
 use Rattle.filing.specs.Demand2.{countAt, countIn, childlessAt, childlessIn}
-use Rattle.filing.proofs.Laws.Read.Bytes.{left, right}
+use Rattle.documents.proofs.Laws.Read.Bytes.{left, right}
 
 -- as many elements as name lists
 mutual

@@ -9,11 +9,11 @@ use borrow.Author.Tests.{eqb-true}
 use Rattle.notation.specs.Form.{every}
 use Rattle.notation.specs.Sets.{FolderSet}
 use Rattle.notation.specs.Refusals.{Refusal, looseEnd, numberOf}
-use Rattle.machine.specs.Words.{any}
-use Rattle.machine.specs.Order.{Condition, gives, refusalOf, first}
-use Rattle.machine.specs.Calls.{asLeft, Call, openCall, closeCall, State, orderOf, refusal, step}
-use Rattle.machine.proofs.Laws.Basics.{any-is, both}
-use Rattle.filing.specs.Document.{Event, opening, closing, textHere, commentHere, eventsOfToken}
+use Rattle.theory.specs.Words.{any}
+use Rattle.theory.specs.Order.{Condition, gives, refusalOf, first}
+use Rattle.theory.specs.Calls.{asLeft, Call, openCall, closeCall, State, orderOf, refusal, step}
+use Rattle.theory.proofs.Laws.Basics.{any-is, both}
+use Rattle.documents.specs.Document.{Event, opening, closing, textHere, commentHere, eventsOfToken}
 use Rattle.filing.specs.Filing.{Filed, refused, filed, numberGiven, unless, looseText, fileEvent, fileEvents, fileReport, Refused, tooMany, notListed, noRun, atToken, atEnd}
 use Rattle.filing.specs.FiledReport.{reportNumbers}
 use Rattle.filing.proofs.Laws.Filing.FilingOrder.{clash, first-refused, refused-is}

@@ -11,15 +11,15 @@ use native.Mathlib.Omega.{arith}
 use Rattle.notation.specs.Form.{every}
 use Rattle.notation.specs.Sets.{FolderSet}
 use Rattle.notation.specs.Refusals.{Refusal, oversize, foreignByte, torn, looseEnd}
-use Rattle.machine.specs.Calls.{State, fresh}
-use Rattle.machine.proofs.Laws.Basics.{cases}
+use Rattle.theory.specs.Calls.{State, fresh}
+use Rattle.theory.proofs.Laws.Basics.{cases}
 use Rattle.filing.specs.Limits.{maxReportBytes}
-use Rattle.filing.specs.Tokens.{Token, listed, RunOfTokens}
-use Rattle.filing.specs.Reading.{Read, fail, got, readReport}
-use Rattle.filing.specs.Document.{eventsOfToken}
+use Rattle.documents.specs.Tokens.{Token, listed, RunOfTokens}
+use Rattle.documents.specs.Reading.{Read, fail, got, readReport}
+use Rattle.documents.specs.Document.{eventsOfToken}
 use Rattle.filing.specs.Filing.{Filed, refused, filed, thenFile, fileEvents, fileTokens, unfinished, fileEnd, fileRun, fileReport, StopsAt, Refused, tooMany, notListed, noRun, atToken, atEnd, FiledWith}
-use Rattle.filing.proofs.Laws.Read.ReadSound.{found-run, run-found, none-found}
-use Rattle.filing.proofs.Laws.Printed.AllListed.{run-listed}
+use Rattle.documents.proofs.Laws.Read.ReadSound.{found-run, run-found, none-found}
+use Rattle.documents.proofs.Laws.Printed.AllListed.{run-listed}
 
 pub clash : {A : Type 0} → _≡_ {A = ℕ} 0 1 → A
 clash z = absurd (omega arith)

@@ -14,16 +14,16 @@ use Rattle.notation.specs.Sets.{FolderSet}
 use Rattle.notation.specs.Refusals.{Refusal, looseEnd}
 use Rattle.notation.specs.Activity.{fits}
 use Rattle.notation.proofs.Laws.Meaning.Fit.{sameName-is}
-use Rattle.machine.specs.Words.{any}
-use Rattle.machine.specs.Calls.{asLeft, openCall, closeCall, Level, level, nameOf, State, openNames, pathAt, fresh, opened, closedFrom, refusal, accepted, step, after}
-use Rattle.machine.proofs.Laws.Machine.Calls.{open-accepted, Closable, close-accepted}
-use Rattle.machine.proofs.Laws.Machine.Steps.{open-accepted-is, close-accepted-is, step-accepted, step-open-names, step-close-names}
-use Rattle.machine.proofs.Laws.Machine.Sound.{Sound, fresh-sound, open-sound, close-sound}
-use Rattle.filing.specs.Tokens.{Token, blank}
-use Rattle.filing.specs.Document.{Event, opening, closing, textHere, commentHere, eventsOfToken, eventsOf, balanced, passed}
+use Rattle.theory.specs.Words.{any}
+use Rattle.theory.specs.Calls.{asLeft, openCall, closeCall, Level, level, nameOf, State, openNames, pathAt, fresh, opened, closedFrom, refusal, accepted, step, after}
+use Rattle.theory.proofs.Laws.Machine.Calls.{open-accepted, Closable, close-accepted}
+use Rattle.theory.proofs.Laws.Machine.Steps.{open-accepted-is, close-accepted-is, step-accepted, step-open-names, step-close-names}
+use Rattle.theory.proofs.Laws.Machine.Sound.{Sound, fresh-sound, open-sound, close-sound}
+use Rattle.documents.specs.Tokens.{Token, blank}
+use Rattle.documents.specs.Document.{Event, opening, closing, textHere, commentHere, eventsOfToken, eventsOf, balanced, passed}
 use Rattle.filing.specs.Filing.{Filed, refused, filed, thenFile, unless, fileCall, looseText, fileEvent, fileEvents, fileTokens, callsIn, allAccepted, unfinished}
-use Rattle.filing.proofs.Laws.Read.Bytes.{join, neither}
-use Rattle.filing.proofs.Laws.Trees.Passed.{last-off}
+use Rattle.documents.proofs.Laws.Read.Bytes.{join, neither}
+use Rattle.documents.proofs.Laws.Trees.Passed.{last-off}
 use Rattle.filing.proofs.Laws.Filing.FilingOrder.{clash, both-filed}
 
 then-more : (f : Filed) (k k₂ g : State → Filed) → ((m : State) → k m ≡ thenFile (k₂ m) g) → thenFile f k ≡ thenFile (thenFile f k₂) g

@@ -12,20 +12,20 @@ use native.Mathlib.Omega.{arith}
 use Rattle.notation.specs.Form.{every, nonEmpty}
 use Rattle.notation.specs.Sets.{FolderSet}
 use Rattle.notation.specs.Refusals.{Refusal, looseEnd, numberOf}
-use Rattle.machine.specs.Order.{numberIn}
-use Rattle.machine.specs.Calls.{asLeft, openCall, closeCall, Level, State, fresh, refusal, step, after}
+use Rattle.theory.specs.Order.{numberIn}
+use Rattle.theory.specs.Calls.{asLeft, openCall, closeCall, Level, State, fresh, refusal, step, after}
 use Rattle.machine.specs.Run.{runSize}
 use Rattle.machine.specs.RunCalls.{openRefusal, openRun, openCounters, closeRefusal, closeRun, closeCounters}
 use Rattle.machine.specs.Demand3.{openAsLeft, closeAsLeft, Left, started, leftAfter}
-use Rattle.machine.proofs.Laws.Basics.{cases}
-use Rattle.machine.proofs.Laws.Machine.Moves.{Few, fresh-few}
+use Rattle.theory.proofs.Laws.Basics.{cases}
+use Rattle.theory.proofs.Laws.Machine.Moves.{Few, fresh-few}
 use Rattle.machine.proofs.Laws.Running.Means.{Means}
 use Rattle.machine.proofs.Laws.Running.Following.{leftOf, few-after, number-none, one-leaves, left-by}
 use Rattle.machine.proofs.Laws.Shapes.Passing.{stored-depth, open-refused, close-refused}
 use Rattle.filing.specs.Limits.{maxReportBytes}
-use Rattle.filing.specs.Tokens.{Token, listed}
-use Rattle.filing.specs.Reading.{Read, fail, got, readReport}
-use Rattle.filing.specs.Document.{Event, opening, closing, textHere, commentHere, eventsOfToken, eventsOf}
+use Rattle.documents.specs.Tokens.{Token, listed}
+use Rattle.documents.specs.Reading.{Read, fail, got, readReport}
+use Rattle.documents.specs.Document.{Event, opening, closing, textHere, commentHere, eventsOfToken, eventsOf}
 use Rattle.filing.specs.Filing.{Filed, refused, filed, thenFile, unless, looseText, fileEvent, fileEvents, fileTokens, callsIn, unfinished, fileEnd, fileRun, fileReport}
 use Rattle.filing.specs.FileCall.{Outcome, refusedWith, leaving, thenGo, outcome, eventOutcome, eventsOutcome, tokensOutcome, endOutcome, runOutcome, reportOutcome}
 use Rattle.filing.proofs.Laws.Filing.FilingOrder.{clash}

@@ -10,12 +10,12 @@ use Rattle.notation.specs.Names.{Name}
 use Rattle.notation.specs.Sets.{FolderSet}
 use Rattle.notation.specs.Refusals.{Refusal, looseEnd}
 use Rattle.notation.proofs.Laws.Meaning.Fit.{sameName-is}
-use Rattle.machine.specs.Order.{FirstOf, first}
-use Rattle.machine.specs.Calls.{asLeft, Call, openCall, closeCall, State, openOrder, closeOrder, opened, refusal, accepted, step}
-use Rattle.machine.proofs.Laws.Machine.Calls.{open-accepted}
-use Rattle.machine.proofs.Laws.Machine.Steps.{refusal-is, open-accepted-is, step-accepted}
-use Rattle.filing.specs.Tokens.{Part, Attribute, declaration, comment, startTag, emptyTag, endTag, text, printParts}
-use Rattle.filing.specs.Document.{eventsOfToken, closing}
+use Rattle.theory.specs.Order.{FirstOf, first}
+use Rattle.theory.specs.Calls.{asLeft, Call, openCall, closeCall, State, openOrder, closeOrder, opened, refusal, accepted, step}
+use Rattle.theory.proofs.Laws.Machine.Calls.{open-accepted}
+use Rattle.theory.proofs.Laws.Machine.Steps.{refusal-is, open-accepted-is, step-accepted}
+use Rattle.documents.specs.Tokens.{Part, Attribute, declaration, comment, startTag, emptyTag, endTag, text, printParts}
+use Rattle.documents.specs.Document.{eventsOfToken, closing}
 use Rattle.filing.specs.Filing.{refused, filed, thenFile, unless, fileCall, looseText, fileEvents}
 use Rattle.filing.proofs.Laws.Filing.FilingOrder.{clash, first-refused}
 use Rattle.filing.proofs.Laws.Filing.FilingRun.{unless-filed}

@@ -21,9 +21,9 @@ use Rattle.machine.proofs.Laws.Running.Restart.{start-restart, open-restart, cl
 use Rattle.filing.specs.Limits.{maxReportBytes}
 use Rattle.filing.specs.declared.tokens.Found.{Found}
 use Rattle.filing.specs.declared.tokens.Found.the-variants.{Nothing, Declaration, Comment, Start, Empty, End, Text}
-use Rattle.filing.specs.Tokens.{Token, declaration, comment, startTag, emptyTag, endTag, text, listed, isDeclaration}
-use Rattle.filing.specs.Reading.{Read, fail, got, thenRead, readToken, readReport}
-use Rattle.filing.specs.Document.{eventsOfToken}
+use Rattle.documents.specs.Tokens.{Token, declaration, comment, startTag, emptyTag, endTag, text, listed, isDeclaration}
+use Rattle.documents.specs.Reading.{Read, fail, got, thenRead, readToken, readReport}
+use Rattle.documents.specs.Document.{eventsOfToken}
 use Rattle.filing.specs.Seen.{shown, foundOf, foundEnd, declares, tagName, nameOfToken}
 use Rattle.filing.specs.FileCall.{Outcome, refusedWith, leaving, thenGo, openOutcome, closeOutcome, textOutcome, eventsOutcome, tokensOutcome, endOutcome, runOutcome, reportOutcome, Files}
 use Rattle.filing.specs.Taking.{openNumber, so, Takes, Leaves, foundOutcome, tornAt, runFrom}

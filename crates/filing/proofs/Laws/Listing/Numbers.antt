@@ -8,7 +8,7 @@ use lib.ListN.{length, length-append}
 use borrow.Author.Tests.{ltb-true, ltb-false}
 use Rattle.notation.specs.Print.{digits, decimal}
 use Rattle.notation.proofs.Laws.Form.Decimal.{digits-one, digits-more, decimal-one, decimal-more}
-use Rattle.machine.proofs.Laws.Basics.{cases}
+use Rattle.theory.proofs.Laws.Basics.{cases}
 
 pub decimal-small : (n : ℕ) → n < 10 → (48 + n) ∷ [] ≡ decimal n
 decimal-small n h = sym (decimal-one n h)

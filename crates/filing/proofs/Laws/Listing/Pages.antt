@@ -10,7 +10,7 @@ use lib.Dec.{leb}
 use lib.ListN.{length, take, drop, length-append}
 use lib.Seq.{sets, sets-eq, length-sets, take-at, length-take-le}
 use borrow.Author.Tests.{le-leb, lt-leb, leb-false}
-use Rattle.machine.proofs.Laws.Basics.{cases}
+use Rattle.theory.proofs.Laws.Basics.{cases}
 use Rattle.filing.specs.declared.page.Pen.{Pen}
 use Rattle.filing.specs.Page.{soFar, addTo, On, Adds, Holds}
 

@@ -22,7 +22,7 @@ use Rattle.machine.specs.Build.{buildAnswer, Built}
 use Rattle.machine.specs.Demand3.{Left}
 use Rattle.machine.specs.declared.answers.Written.{Written}
 use Rattle.machine.specs.declared.counters.Counters.{Counters}
-use Rattle.machine.proofs.Laws.Basics.{cases}
+use Rattle.theory.proofs.Laws.Basics.{cases}
 use Rattle.machine.proofs.Laws.Running.Means.{Means, means}
 use Rattle.filing.specs.Limits.{listingSize}
 use Rattle.filing.specs.Filing.{Filed, refused, filed, numberGiven, fileReport}

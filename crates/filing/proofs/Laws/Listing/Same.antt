@@ -16,14 +16,14 @@ use Rattle.notation.proofs.Laws.Stored.FolderTable.{noFolder, pathsBefore, path
 use Rattle.notation.proofs.Laws.Stored.ReadPaths.{path-read}
 use Rattle.notation.proofs.Laws.Stored.ReadFolders.{folder-read}
 use Rattle.notation.proofs.Laws.Stored.Reads.{folders-read}
-use Rattle.machine.specs.Words.{any}
-use Rattle.machine.specs.Folders.{countFrom}
-use Rattle.machine.specs.Calls.{State}
+use Rattle.theory.specs.Words.{any}
+use Rattle.theory.specs.Folders.{countFrom}
+use Rattle.theory.specs.Calls.{State}
 use Rattle.machine.specs.Run.{runOf}
 use Rattle.machine.specs.Asking.{placeMatched}
 use Rattle.machine.specs.declared.counters.Counters.{Counters}
-use Rattle.machine.proofs.Laws.Basics.{cases}
-use Rattle.machine.proofs.Laws.Machine.Moves.{Few}
+use Rattle.theory.proofs.Laws.Basics.{cases}
+use Rattle.theory.proofs.Laws.Machine.Moves.{Few}
 use Rattle.machine.proofs.Laws.Running.Means.{Means}
 use Rattle.machine.proofs.Laws.Running.Asking.{place-matched}
 use Rattle.filing.specs.Listing.{matchedPaths, lineOf, linesFrom, listing}

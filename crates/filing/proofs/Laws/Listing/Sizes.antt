@@ -9,9 +9,9 @@ use Rattle.notation.specs.Limits.{maxSetBytes}
 use Rattle.notation.specs.Sets.{Path, folder, FolderSet}
 use Rattle.notation.specs.Print.{decimal, printPath, printPaths, folderWord, header, footer, printFolder, printFolders, print}
 use Rattle.notation.proofs.Laws.Refused.Fitting.{Fitting}
-use Rattle.machine.specs.Limits.{maxDepth, maxOpens}
-use Rattle.machine.specs.Calls.{State}
-use Rattle.machine.proofs.Laws.Basics.{cases}
+use Rattle.theory.specs.Limits.{maxDepth, maxOpens}
+use Rattle.theory.specs.Calls.{State}
+use Rattle.theory.proofs.Laws.Basics.{cases}
 use Rattle.filing.specs.Limits.{maxMovesLine, listingSize}
 use Rattle.filing.specs.Listing.{filedHeader, movesWord, matchedPaths, lineOf, linesFrom, movesLine, listing}
 use Rattle.filing.proofs.Laws.Listing.Numbers.{tens, decimal-few}

@@ -4,8 +4,8 @@ use native.Mathlib.Nat.{zero-add, add-zero, add-suc, suc-add}
 use mathlib.Core.Path.{_≡_, refl, sym, _∙_, ap}
 use mathlib.Core.Bool.{Bool, true, false, cond}
 use mathlib.Core.List.{List, [], _∷_, _++_, append-assoc, append-nil}
-use Rattle.machine.specs.Folders.{countFrom}
-use Rattle.machine.specs.Words.{any}
+use Rattle.theory.specs.Folders.{countFrom}
+use Rattle.theory.specs.Words.{any}
 use Rattle.machine.specs.Asking.{placeMatched, pathsOfFolder}
 use Rattle.notation.specs.Print.{decimal, folderWord, footer}
 use Rattle.notation.specs.Reads.{folderAt}

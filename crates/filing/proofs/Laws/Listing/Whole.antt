@@ -8,11 +8,11 @@ use lib.Dec.{ltb}
 use lib.ListN.{length}
 use borrow.Author.Tests.{le-ltb}
 use Rattle.notation.specs.Sets.{FolderSet}
-use Rattle.machine.specs.Calls.{State}
+use Rattle.theory.specs.Calls.{State}
 use Rattle.machine.specs.Run.{runOf}
 use Rattle.machine.specs.RunCalls.{given}
 use Rattle.machine.specs.declared.answers.Written.{Written}
-use Rattle.machine.proofs.Laws.Machine.Moves.{Few}
+use Rattle.theory.proofs.Laws.Machine.Moves.{Few}
 use Rattle.machine.proofs.Laws.Running.Means.{Means}
 use Rattle.machine.proofs.Laws.Shapes.Passing.{countersOf, all-shaped, long-enough}
 use Rattle.filing.specs.Limits.{listingSize}

@@ -14,7 +14,7 @@ use Rattle.notation.specs.Print.{decimal, footer}
 use Rattle.machine.specs.RunCalls.{shaped, tooShort, given}
 use Rattle.machine.specs.declared.answers.Written.{Written}
 use Rattle.machine.specs.declared.counters.Counters.{Counters}
-use Rattle.machine.proofs.Laws.Basics.{cases}
+use Rattle.theory.proofs.Laws.Basics.{cases}
 use Rattle.filing.specs.declared.page.Pen.{Pen}
 use Rattle.filing.specs.Limits.{maxMovesLine, listingSize}
 use Rattle.filing.specs.Page.{soFar, On}

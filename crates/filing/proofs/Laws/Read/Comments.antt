@@ -12,8 +12,8 @@ use Rattle.notation.proofs.Laws.Tests.{cases}
 use Rattle.filing.specs.declared.tags.Reach.{Reach}
 use Rattle.filing.specs.declared.tags.Reach.the-variants.{No, To}
 use Rattle.filing.specs.declared.tokens.Found.the-variants.{Nothing, Comment}
-use Rattle.filing.specs.Tokens.{listed, begins, comment}
-use Rattle.filing.specs.Reading.{Read, fail, got, thenRead, when, readWord, readContents, readComment}
+use Rattle.documents.specs.Tokens.{listed, begins, comment}
+use Rattle.documents.specs.Reading.{Read, fail, got, thenRead, when, readWord, readContents, readComment}
 use Rattle.filing.specs.Reaches.{reachOf}
 use Rattle.filing.specs.Seen.{foundOf}
 use Rattle.filing.proofs.Laws.Read.Reaches.{word-fits, never}

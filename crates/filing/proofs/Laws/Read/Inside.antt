@@ -10,13 +10,13 @@ use Rattle.notation.specs.Names.{beginsName}
 use Rattle.notation.specs.Form.{nonEmpty}
 use Rattle.notation.proofs.Laws.Tests.{cases}
 use Rattle.filing.specs.declared.tags.Reach.the-variants.{No, To}
-use Rattle.filing.specs.Tokens.{blank, inValue, quoteByte, Attribute, printAttribute, formedAttribute}
-use Rattle.filing.specs.Reading.{Read, fail, got, thenRead, front, back, readWord, readName, readQuote, readParts, readAttributeFrom, readAttribute, attributeAhead, readAttributes}
+use Rattle.documents.specs.Tokens.{blank, inValue, quoteByte, Attribute, printAttribute, formedAttribute}
+use Rattle.documents.specs.Reading.{Read, fail, got, thenRead, front, back, readWord, readName, readQuote, readParts, readAttributeFrom, readAttribute, attributeAhead, readAttributes}
 use Rattle.filing.specs.Reaches.{reachOf, insideReach}
-use Rattle.filing.proofs.Laws.Read.Bytes.{left, join}
-use Rattle.filing.proofs.Laws.Printed.AttributesBack.{attribute-length}
-use Rattle.filing.proofs.Laws.Read.Holds.{holds-map, holds-got}
-use Rattle.filing.proofs.Laws.Read.PartsSound.{attribute-sound}
+use Rattle.documents.proofs.Laws.Read.Bytes.{left, join}
+use Rattle.documents.proofs.Laws.Printed.AttributesBack.{attribute-length}
+use Rattle.documents.proofs.Laws.Read.Holds.{holds-map, holds-got}
+use Rattle.documents.proofs.Laws.Read.PartsSound.{attribute-sound}
 use Rattle.filing.proofs.Laws.Read.Reaches.{reached}
 use Rattle.filing.proofs.Laws.Read.Values.{then-same, reach-no}
 use Rattle.filing.proofs.Laws.Read.Offsets.{reach-then, back-at, left-at}

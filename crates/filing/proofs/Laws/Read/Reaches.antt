@@ -10,11 +10,11 @@ use lib.Seq.{drop-append-seam, drop-drop}
 use Rattle.notation.specs.Names.{Name}
 use Rattle.filing.specs.declared.tags.Reach.{Reach}
 use Rattle.filing.specs.declared.tags.Reach.the-variants.{No, To}
-use Rattle.filing.specs.Tokens.{amp, lt, gt, quot, apos, begins}
-use Rattle.filing.specs.Reading.{Read, fail, got, readReference}
+use Rattle.documents.specs.Tokens.{amp, lt, gt, quot, apos, begins}
+use Rattle.documents.specs.Reading.{Read, fail, got, readReference}
 use Rattle.filing.specs.Reaches.{reachOf}
-use Rattle.filing.proofs.Laws.Read.Bytes.{right}
-use Rattle.filing.proofs.Laws.Read.Holds.{Holds, holds-got}
+use Rattle.documents.proofs.Laws.Read.Bytes.{right}
+use Rattle.documents.proofs.Laws.Read.Holds.{Holds, holds-got}
 
 -- what was read stands in front of what is left
 abbrev pub Suffix : {A : Type 0} → List ℕ → Read A → Type 0

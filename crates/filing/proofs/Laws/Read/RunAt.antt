@@ -9,10 +9,10 @@ use lib.Dec.{eqb}
 use borrow.Author.Tests.{ne-eqb, eq-eqb}
 use lib.ListN.{length, drop}
 use Rattle.filing.specs.declared.tokens.Found.{Found}
-use Rattle.filing.specs.Tokens.{Token, declaration, comment, startTag, emptyTag, endTag, text, isDeclaration, RunOfTokens}
-use Rattle.filing.specs.Reading.{Read, fail, got, thenRead, readToken, readReport}
+use Rattle.documents.specs.Tokens.{Token, declaration, comment, startTag, emptyTag, endTag, text, isDeclaration, RunOfTokens}
+use Rattle.documents.specs.Reading.{Read, fail, got, thenRead, readToken, readReport}
 use Rattle.filing.specs.Seen.{shown, foundOf, foundEnd, declares, isGot}
-use Rattle.filing.proofs.Laws.Read.ReadSound.{found-run, run-found}
+use Rattle.documents.proofs.Laws.Read.ReadSound.{found-run, run-found}
 use Rattle.filing.proofs.Laws.Read.Next.{tokensFrom, token-next, from-end, from-torn, from-late, from-next}
 
 -- the test says whether the bytes are a run of tokens

@@ -9,12 +9,12 @@ use lib.ListN.{length, take, drop, length-append, length-drop}
 use lib.Seq.{take-append-seam, drop-append-seam, drop-drop}
 use Rattle.notation.specs.Names.{Name}
 use Rattle.filing.specs.declared.tokens.Found.{Found}
-use Rattle.filing.specs.Tokens.{Token, declaration, comment, startTag, emptyTag, endTag, text, printAttributes, printToken, formedToken, isText}
-use Rattle.filing.specs.Reading.{Read, fail, got, readToken}
+use Rattle.documents.specs.Tokens.{Token, declaration, comment, startTag, emptyTag, endTag, text, printAttributes, printToken, formedToken, isText}
+use Rattle.documents.specs.Reading.{Read, fail, got, readToken}
 use Rattle.filing.specs.Seen.{shown, foundOf, nameOfToken, tagName, nameFrom, nameTo}
-use Rattle.filing.proofs.Laws.Printed.ReadBack.{token-back}
-use Rattle.filing.proofs.Laws.Read.Holds.{Holds, holds-got}
-use Rattle.filing.proofs.Laws.Read.ReadSound.{Good, token-sound}
+use Rattle.documents.proofs.Laws.Printed.ReadBack.{token-back}
+use Rattle.documents.proofs.Laws.Read.Holds.{Holds, holds-got}
+use Rattle.documents.proofs.Laws.Read.ReadSound.{Good, token-sound}
 
 -- a name that stands between two offsets
 pub record Cut (s : List ℕ) (from to : ℕ) (n : Name) : Type 0 where

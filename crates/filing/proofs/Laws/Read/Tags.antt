@@ -13,12 +13,12 @@ use Rattle.notation.specs.Names.{Name}
 use Rattle.notation.proofs.Laws.Tests.{cases}
 use Rattle.filing.specs.declared.tags.Reach.the-variants.{No, To}
 use Rattle.filing.specs.declared.tokens.Found.the-variants.{Nothing, Start, Empty, End}
-use Rattle.filing.specs.Tokens.{blank, Attribute, printAttributes, emptyTag}
-use Rattle.filing.specs.Reading.{Read, fail, got, thenRead, front, back, readWord, readName, readAttributes, readTagEnd, readTag, readEndTag}
+use Rattle.documents.specs.Tokens.{blank, Attribute, printAttributes, emptyTag}
+use Rattle.documents.specs.Reading.{Read, fail, got, thenRead, front, back, readWord, readName, readAttributes, readTagEnd, readTag, readEndTag}
 use Rattle.filing.specs.Reaches.{reachOf, insideReach}
 use Rattle.filing.specs.Seen.{foundOf, tagEndOf}
-use Rattle.filing.proofs.Laws.Read.Holds.{holds-got, then-holds, gotten, front-back, name-sound}
-use Rattle.filing.proofs.Laws.Read.PartsSound.{attributes-sound}
+use Rattle.documents.proofs.Laws.Read.Holds.{holds-got, then-holds, gotten, front-back, name-sound}
+use Rattle.documents.proofs.Laws.Read.PartsSound.{attributes-sound}
 use Rattle.filing.proofs.Laws.Read.Reaches.{Suffix, reached}
 use Rattle.filing.proofs.Laws.Read.Values.{reach-no}
 use Rattle.filing.proofs.Laws.Read.Offsets.{name-suffix, mark-suffix, left-at}

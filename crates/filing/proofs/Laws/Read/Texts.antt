@@ -15,13 +15,13 @@ use Rattle.notation.proofs.Laws.Tests.{cases}
 use Rattle.filing.specs.declared.tags.Reach.the-variants.{No, To}
 use Rattle.filing.specs.declared.tokens.Found.{Found}
 use Rattle.filing.specs.declared.tokens.Found.the-variants.{Nothing, Text}
-use Rattle.filing.specs.Tokens.{Part, plain, reference, printPart, printParts, text, blank, listed, inText, isEntity, begins, occurs}
-use Rattle.filing.specs.Reading.{Read, fail, got, thenRead, when, readReference, readParts, textEnds, readText}
+use Rattle.documents.specs.Tokens.{Part, plain, reference, printPart, printParts, text, blank, listed, inText, isEntity, begins, occurs}
+use Rattle.documents.specs.Reading.{Read, fail, got, thenRead, when, readReference, readParts, textEnds, readText}
 use Rattle.filing.specs.Reaches.{reachOf}
 use Rattle.filing.specs.Seen.{foundOf}
-use Rattle.filing.proofs.Laws.Read.Bytes.{left, right, entity-cases}
-use Rattle.filing.proofs.Laws.Read.Holds.{Holds, holds-map, holds-got}
-use Rattle.filing.proofs.Laws.Read.PartsSound.{parts-sound, reference-sound}
+use Rattle.documents.proofs.Laws.Read.Bytes.{left, right, entity-cases}
+use Rattle.documents.proofs.Laws.Read.Holds.{Holds, holds-map, holds-got}
+use Rattle.documents.proofs.Laws.Read.PartsSound.{parts-sound, reference-sound}
 use Rattle.filing.proofs.Laws.Read.Reaches.{reached}
 use Rattle.filing.proofs.Laws.Read.Values.{reach-no, reference-suffix, parts-enough}
 

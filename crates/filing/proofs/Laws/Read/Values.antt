@@ -11,11 +11,11 @@ use lib.ListN.{length, getD, drop, length-append, length-drop, drop-of-length-le
 use lib.Seq.{drop-cons}
 use Rattle.filing.specs.declared.tags.Reach.{Reach}
 use Rattle.filing.specs.declared.tags.Reach.the-variants.{No, To}
-use Rattle.filing.specs.Tokens.{Part, plain, reference}
-use Rattle.filing.specs.Reading.{Read, fail, got, thenRead, readReference, readParts}
+use Rattle.documents.specs.Tokens.{Part, plain, reference}
+use Rattle.documents.specs.Reading.{Read, fail, got, thenRead, readReference, readParts}
 use Rattle.filing.specs.Reaches.{reachOf}
-use Rattle.filing.proofs.Laws.Read.Holds.{Holds, failed, gotten, holds-map}
-use Rattle.filing.proofs.Laws.Read.PartsSound.{reference-sound}
+use Rattle.documents.proofs.Laws.Read.Holds.{Holds, failed, gotten, holds-map}
+use Rattle.documents.proofs.Laws.Read.PartsSound.{reference-sound}
 use Rattle.filing.proofs.Laws.Read.Reaches.{Suffix, never, reached}
 
 pub then-same : {A B : Type 0} {P : A → List ℕ → Type 0} {m : Read A} {k j : A → List ℕ → Read B}

@@ -1,5 +1,5 @@
 -- `listing::emit_folder_line`: head, paths, and the line's end.
-use Rattle.machine.specs.Folders.{countFrom}
+use Rattle.theory.specs.Folders.{countFrom}
 use Rattle.filing.proofs.Laws.Listing.Steps.{line-joined}
 use Rattle.notation.specs.Print.{footer}
 use Rattle.filing.proofs.Laws.Listing.Pages.{and-then, told-as}

@@ -5,7 +5,7 @@ use native.Mathlib.Numerals.{add-one}
 use mathlib.Core.Path.{_≡_, sym, _∙_, ap}
 use borrow.Author.Needs.{needs}
 use Rattle.notation.specs.Reads.{folderCount}
-use Rattle.machine.specs.Folders.{countFrom}
+use Rattle.theory.specs.Folders.{countFrom}
 use Rattle.filing.specs.Page.{Adds}
 use Rattle.filing.specs.Listed.{foldersListed}
 use Rattle.filing.proofs.Laws.Listing.Pages.{nothing, and-then, told-as}

@@ -1,5 +1,5 @@
 use native.Mathlib.Omega.{arith}
-use Rattle.filing.specs.Reading.{readReport}
+use Rattle.documents.specs.Reading.{readReport}
 use Rattle.filing.proofs.Laws.Filing.Taking.{run-left}
 use borrow.Author.Needs.{needs}
 use Rattle.filing.proofs.report.take_run.Statement.{statement}

@@ -7,8 +7,8 @@ use borrow.Author.Needs.{needs}
 use borrow.Author.Tests.{not-true, not-false}
 use lib.ListN.{length, drop}
 use Rattle.notation.specs.Form.{every}
-use Rattle.filing.specs.Tokens.{listed}
-use Rattle.filing.proofs.Laws.Trees.Steps.{every-no, every-yes, every-end}
+use Rattle.documents.specs.Tokens.{listed}
+use Rattle.documents.proofs.Laws.Trees.Steps.{every-no, every-yes, every-end}
 use Rattle.filing.proofs.scan.all_listed.Statement.{statement}
 use Rattle.filing.proofs.scan.all_listed.Tie as tie
 

@@ -1,7 +1,7 @@
 -- `filing::scan::blank` meets its contract.
 use mathlib.Core.Path.{sym, ap}
-use Rattle.filing.specs.Tokens.{blank}
-use Rattle.filing.proofs.Laws.Read.ByteTests.{blank-high, blank-last}
+use Rattle.documents.specs.Tokens.{blank}
+use Rattle.documents.proofs.Laws.Read.ByteTests.{blank-high, blank-last}
 use Rattle.filing.proofs.scan.blank.Statement.{statement}
 use Rattle.filing.proofs.scan.blank.Tie as tie
 

@@ -1,7 +1,7 @@
 -- `filing::scan::in_text` meets its contract.
 use mathlib.Core.Path.{sym, ap, _∙_}
-use Rattle.filing.specs.Tokens.{inText, listed}
-use Rattle.filing.proofs.Laws.Read.ByteTests.{text-last}
+use Rattle.documents.specs.Tokens.{inText, listed}
+use Rattle.documents.proofs.Laws.Read.ByteTests.{text-last}
 use borrow.Author.Needs.{needs}
 use Rattle.filing.proofs.scan.in_text.Statement.{statement}
 use Rattle.filing.proofs.scan.in_text.Tie as tie

@@ -1,7 +1,7 @@
 -- `filing::scan::listed` meets its contract.
 use mathlib.Core.Path.{sym, ap}
-use Rattle.filing.specs.Tokens.{listed}
-use Rattle.filing.proofs.Laws.Read.ByteTests.{listed-high, listed-last}
+use Rattle.documents.specs.Tokens.{listed}
+use Rattle.documents.proofs.Laws.Read.ByteTests.{listed-high, listed-last}
 use Rattle.filing.proofs.scan.listed.Statement.{statement}
 use Rattle.filing.proofs.scan.listed.Tie as tie
 

@@ -2,7 +2,7 @@
 use mathlib.Core.Path.{_∙_, ap}
 use Prim.Native.Nat.{ℕ, _+_}
 use borrow.Author.Needs.{needs}
-use Rattle.filing.proofs.Laws.Trees.Steps.{name-front}
+use Rattle.documents.proofs.Laws.Trees.Steps.{name-front}
 use Rattle.filing.proofs.scan.name_end.Statement.{statement}
 use Rattle.filing.proofs.scan.name_end.Tie as tie
 

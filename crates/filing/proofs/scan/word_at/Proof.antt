@@ -5,8 +5,8 @@ use native.Mathlib.Omega.{arith}
 use native.Mathlib.Numerals.{add-one}
 use lib.ListN.{length, drop, length-drop}
 use native.Mathlib.Nat.{add-zero, add-suc}
-use Rattle.filing.specs.Tokens.{begins}
-use Rattle.filing.proofs.Laws.Trees.Steps.{begins-no, begins-yes, begins-end, begins-short}
+use Rattle.documents.specs.Tokens.{begins}
+use Rattle.documents.proofs.Laws.Trees.Steps.{begins-no, begins-yes, begins-end, begins-short}
 use Rattle.filing.proofs.scan.word_at.Statement.{statement}
 use Rattle.filing.proofs.scan.word_at.Tie as tie
 

@@ -1,6 +1,6 @@
 -- `filing::tags::in_value` meets its contract.
 use mathlib.Core.Path.{sym, _∙_}
-use Rattle.filing.proofs.Laws.Read.ByteTests.{value-quote, value-last}
+use Rattle.documents.proofs.Laws.Read.ByteTests.{value-quote, value-last}
 use borrow.Author.Needs.{needs}
 use Rattle.filing.proofs.tags.in_value.Statement.{statement}
 use Rattle.filing.proofs.tags.in_value.Tie as tie

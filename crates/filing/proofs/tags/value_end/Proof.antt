@@ -5,7 +5,7 @@ use native.Mathlib.Omega.{arith}
 use borrow.Author.Needs.{needs}
 use borrow.Author.Tests.{not-true, not-false}
 use lib.ListN.{length}
-use Rattle.filing.specs.Tokens.{inValue}
+use Rattle.documents.specs.Tokens.{inValue}
 use Rattle.filing.proofs.Laws.Read.Values.{PartsReach, amp-no, amp-to, plain-on, plain-off, parts-end}
 use Rattle.filing.proofs.tags.value_end.Statement.{statement}
 use Rattle.filing.proofs.tags.value_end.Tie as tie

@@ -1,6 +1,6 @@
 -- `filing::tokens::declaration` meets its contract.
 use mathlib.Core.Path.{sym, _∙_}
-use Rattle.filing.specs.Tokens.{declarationBytes}
+use Rattle.documents.specs.Tokens.{declarationBytes}
 use Rattle.filing.proofs.Laws.Read.TokenAt.{declared-to, declared-no}
 use borrow.Author.Needs.{needs}
 use Rattle.filing.proofs.tokens.declaration.Statement.{statement}

@@ -3,7 +3,7 @@ use Prim.Native.Nat.{_-_, _≤_}
 use mathlib.Core.Path.{_≡_, refl, sym, _∙_}
 use native.Mathlib.Omega.{arith}
 use lib.ListN.{length}
-use Rattle.filing.specs.Reading.{readReport}
+use Rattle.documents.specs.Reading.{readReport}
 use Rattle.filing.specs.Seen.{isGot}
 use Rattle.filing.proofs.Laws.Read.RunAt.{RunFrom, run-torn, run-late, run-next, run-first, run-end}
 use borrow.Author.Needs.{needs}

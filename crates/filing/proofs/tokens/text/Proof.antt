@@ -6,7 +6,7 @@ use borrow.Author.Tests.{not-true, not-false, lt-ltb, le-ltb}
 use lib.Dec.{ltb}
 use lib.ListN.{length, drop}
 use mathlib.Core.Bool.{Bool, true, false}
-use Rattle.filing.specs.Reading.{readText}
+use Rattle.documents.specs.Reading.{readText}
 use Rattle.filing.specs.Seen.{foundOf}
 use Rattle.filing.proofs.Laws.Read.Texts.{TextFrom, text-start, text-less, text-end, text-foreign, text-amp-no, text-amp, text-section, text-plain}
 use borrow.Author.Needs.{needs}

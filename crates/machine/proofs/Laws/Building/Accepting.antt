@@ -9,7 +9,7 @@ use Rattle.notation.specs.Sets.{Path, folder, FolderSet}
 use Rattle.notation.specs.Form.{every, nonEmpty, formedStep, formedPath, formedFolder, formed, pathsOf}
 use Rattle.notation.specs.Accepted.{Accepted}
 use Rattle.notation.proofs.Laws.Tests.{and-left, and-right}
-use Rattle.machine.proofs.Laws.Basics.{both-true}
+use Rattle.theory.proofs.Laws.Basics.{both-true}
 
 every-append : {A : Type 0} (f : A → Bool) (l k : List A) → every f l ≡ true → every f k ≡ true → every f (l ++ k) ≡ true
 unfolding every

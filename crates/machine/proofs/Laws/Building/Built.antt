@@ -18,7 +18,7 @@ use Rattle.notation.proofs.Laws.Refused.ReadAnswer.{answer-refusal, buffer-refu
 use Rattle.machine.specs.Automaton.{automatonSize, automatonOf}
 use Rattle.machine.specs.Build.{Built, buildAnswer}
 use Rattle.machine.specs.Passes.{ReadIn, made}
-use Rattle.machine.proofs.Laws.Basics.{cases}
+use Rattle.theory.proofs.Laws.Basics.{cases}
 use Rattle.machine.proofs.Laws.Building.Build.{made-is, behind-same}
 
 set-within : (n : ℕ) → automatonSize ≤ n → setSize ≤ n

@@ -14,7 +14,7 @@ use Rattle.machine.specs.Automaton.{hashes, headsAt, linksAt, linkSize}
 use Rattle.machine.specs.Tables.{headAt, nextAt, sizeOf}
 use Rattle.machine.specs.Walkable.{Searchable}
 use Rattle.machine.specs.Parents.{wordStored}
-use Rattle.machine.proofs.Laws.Basics.{cases}
+use Rattle.theory.proofs.Laws.Basics.{cases}
 
 byte-other : (a : List ℕ) (i v j : ℕ) → (j < i) ⊎ (i + 1 < j) → getD (sets a i (le16 v)) j 0 ≡ getD a j 0
 byte-other a i v j (inl h) =

@@ -15,15 +15,15 @@ use Rattle.notation.specs.Sets.{FolderSet}
 use Rattle.notation.specs.Layout.{le16}
 use Rattle.notation.specs.Reads.{labelCount, labelName}
 use Rattle.notation.proofs.Laws.Refused.Fitting.{Fitting}
-use Rattle.machine.specs.Words.{Symbol, name, Word}
-use Rattle.machine.specs.Prefix.{IsPrefix, failure}
-use Rattle.machine.specs.Walk.{followedBy}
+use Rattle.theory.specs.Words.{Symbol, name, Word}
+use Rattle.theory.specs.Prefix.{IsPrefix, failure}
+use Rattle.theory.specs.Walk.{followedBy}
 use Rattle.machine.specs.Automaton.{maskSize, linksAt, linkSize, allLabels, allWords, stateOf, shortened, heads, nexts, Link, link, linksOf, links, assembled}
 use Rattle.machine.specs.Tables.{parentAt, sizeAt, sizeOf}
 use Rattle.machine.specs.Fails.{failTo, failed, failedIf, failedBelow, failedTo}
-use Rattle.machine.proofs.Laws.Basics.{cases}
-use Rattle.machine.proofs.Laws.Keywords.Prefix.{failure-is}
-use Rattle.machine.proofs.Laws.Keywords.Walk.{failure-extends, failure-single}
+use Rattle.theory.proofs.Laws.Basics.{cases}
+use Rattle.theory.proofs.Laws.Keywords.Prefix.{failure-is}
+use Rattle.theory.proofs.Laws.Keywords.Walk.{failure-extends, failure-single}
 use Rattle.machine.proofs.Laws.Tables.Assembled.{nextOf, parentOf, failureOf, lengthOf, withFailure, noLink, fail-put}
 use Rattle.machine.proofs.Laws.Tables.States.{StateKind, ofEmpty, ofRoot, ofLabel, state-kind, state-empty, words-count, word-ends, label-parent, shortened-followed}
 use Rattle.machine.proofs.Laws.Tables.Goto.{Linked}

@@ -16,7 +16,7 @@ use Rattle.notation.specs.Reads.{word16, labelCount, labelName}
 use Rattle.machine.specs.Automaton.{hashes, hash, automatonSize, headsAt, linksAt, linkSize}
 use Rattle.machine.specs.Tables.{headAt, nextAt, parentAt, failAt, sizeAt, sizeOf, failOf, follows, gotoFrom, goto, walkFrom, walkOver}
 use Rattle.machine.specs.Fails.{failTo, failed, failedIf, failedBelow, failedTo, Growing}
-use Rattle.machine.proofs.Laws.Basics.{cases, both}
+use Rattle.theory.proofs.Laws.Basics.{cases, both}
 use Rattle.machine.proofs.Laws.Tables.Goto.{hash-small}
 use Rattle.machine.proofs.Laws.Tables.Fuel.{fail-state, fail-shorter, over-state}
 

@@ -20,14 +20,14 @@ use Rattle.notation.proofs.Laws.Stored.LabelTable.{noStep}
 use Rattle.notation.proofs.Laws.Stored.PathTable.{stepsBefore}
 use Rattle.notation.proofs.Laws.Refused.Fitting.{Fitting}
 use Rattle.notation.proofs.Laws.Stored.ReadPaths.{path-read, path-missing}
-use Rattle.machine.specs.Words.{document, name, Word, labelWords}
-use Rattle.machine.specs.Walk.{followedBy}
-use Rattle.machine.specs.Prefix.{IsPrefix}
+use Rattle.theory.specs.Words.{document, name, Word, labelWords}
+use Rattle.theory.specs.Walk.{followedBy}
+use Rattle.theory.specs.Prefix.{IsPrefix}
 use Rattle.machine.specs.Automaton.{maskSize, linksAt, linkSize, Link, find, allSteps, allLabels, wordsIn, allWords, sameWord, stateIn, stateOf, shortened, heads, nexts, assembled}
 use Rattle.machine.specs.Tables.{sizeAt, sizeOf, goto}
 use Rattle.machine.specs.Parents.{startsAt, wordStored, labelled, tested, passedBy, passed, parented, outset}
 use Rattle.machine.specs.declared.build.parents.Place.{Place}
-use Rattle.machine.proofs.Laws.Basics.{cases, clash}
+use Rattle.theory.proofs.Laws.Basics.{cases, clash}
 use Rattle.machine.proofs.Laws.Bytes.Tabulate.{tabulate-length}
 use Rattle.machine.proofs.Laws.Tables.Assembled.{nextOf, parentOf, lengthOf, withParent, withLength, noLink, Sized, parent-put, size-put, size-read}
 use Rattle.machine.proofs.Laws.Tables.SetReads.{of-set, label-bytes, step-entry, step-count}

@@ -12,10 +12,10 @@ use lib.ListN.{length, getD, set, take, drop, length-append, length-take, length
 use lib.Seq.{take-suc, drop-cons, drop-length, take-length, getD-take, getD-drop, getD-append-add, set-at, length-take-le}
 use Rattle.notation.specs.Sets.{child, descendant, label, star, step, Path, FolderSet}
 use Rattle.notation.specs.Form.{pathsOf}
-use Rattle.machine.specs.Words.{name, Word, before, labelWords}
-use Rattle.machine.specs.Walk.{followedBy}
+use Rattle.theory.specs.Words.{name, Word, before, labelWords}
+use Rattle.theory.specs.Walk.{followedBy}
 use Rattle.machine.specs.Automaton.{Link, link, find, wordsIn, allWords, stateOf, shortened}
-use Rattle.machine.proofs.Laws.Basics.{cases}
+use Rattle.theory.proofs.Laws.Basics.{cases}
 use Rattle.machine.proofs.Laws.Bytes.Finding.{find-here, find-later}
 use Rattle.machine.proofs.Laws.Tables.Assembled.{nextOf, parentOf, lengthOf, withParent, withLength, noLink}
 

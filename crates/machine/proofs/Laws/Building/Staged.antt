@@ -9,12 +9,12 @@ use Rattle.notation.specs.Limits.{maxSteps, maxLabels}
 use Rattle.notation.specs.Sets.{FolderSet}
 use Rattle.notation.specs.Reads.{labelCount}
 use Rattle.notation.proofs.Laws.Refused.Fitting.{Fitting}
-use Rattle.machine.specs.Words.{name, Word}
-use Rattle.machine.specs.Prefix.{IsPrefix, failure}
+use Rattle.theory.specs.Words.{name, Word}
+use Rattle.theory.specs.Prefix.{IsPrefix, failure}
 use Rattle.machine.specs.Automaton.{hashes, maskSize, automatonSize, allLabels, allWords, stateOf, shortened, heads, nexts, Link, assembled}
 use Rattle.machine.specs.Tables.{failAt, sizeAt, sizeOf}
 use Rattle.machine.specs.Fails.{Growing}
-use Rattle.machine.proofs.Laws.Keywords.Prefix.{failure-is}
+use Rattle.theory.proofs.Laws.Keywords.Prefix.{failure-is}
 use Rattle.machine.proofs.Laws.Bytes.Tabulate.{tabulate-length}
 use Rattle.machine.proofs.Laws.Tables.Assembled.{nextOf, parentOf, failureOf, lengthOf, noLink, Sized, assembled-length, fail-read, size-read}
 use Rattle.machine.proofs.Laws.Tables.SetReads.{label-count}

@@ -18,12 +18,12 @@ use Rattle.notation.proofs.Laws.Refused.Fitting.{Fitting}
 use Rattle.notation.proofs.Laws.Stored.Reads.{paths-read}
 use Rattle.notation.proofs.Laws.Stored.LabelTable.{noStep}
 use Rattle.notation.proofs.Laws.Stored.ReadSteps.{step-read}
-use Rattle.machine.specs.Words.{document, before, any, begins}
+use Rattle.theory.specs.Words.{document, before, any, begins}
 use Rattle.machine.specs.Automaton.{allSteps, Link, startState, assembled}
 use Rattle.machine.specs.Masks.{rooted, anyRooted, withStart}
-use Rattle.machine.proofs.Laws.Basics.{both, any-is, is-any, clash}
-use Rattle.machine.proofs.Laws.Keywords.Words.{begins-is, is-begins}
-use Rattle.machine.proofs.Laws.Keywords.Labels.{begins-document}
+use Rattle.theory.proofs.Laws.Basics.{both, any-is, is-any, clash}
+use Rattle.theory.proofs.Laws.Keywords.Words.{begins-is, is-begins}
+use Rattle.theory.proofs.Laws.Keywords.Labels.{begins-document}
 use Rattle.machine.proofs.Laws.Tables.Goto.{same-test}
 use Rattle.machine.proofs.Laws.Tables.Assembled.{Sized, after-set, start-put}
 use Rattle.machine.proofs.Laws.Building.Masked.{path-in, steps-here}

@@ -8,9 +8,9 @@ use lib.Dec.{eqb}
 use lib.ListN.{length, getD, set}
 use lib.Seq.{getD-set-same, getD-set-other}
 use borrow.Author.Tests.{eqb-true, eqb-false, eq-eqb, ne-eqb}
-use Rattle.machine.specs.Words.{any}
+use Rattle.theory.specs.Words.{any}
 use Rattle.machine.specs.Bits.{bitOf, bitAt}
-use Rattle.machine.proofs.Laws.Basics.{cases}
+use Rattle.theory.proofs.Laws.Basics.{cases}
 
 or-false : (b : Bool) → (b || false) ≡ b
 or-false true = refl

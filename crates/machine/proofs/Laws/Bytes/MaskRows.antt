@@ -12,7 +12,7 @@ use Rattle.notation.specs.Sets.{child, descendant, Test, step, FolderSet, axisO
 use Rattle.notation.specs.Reads.{isDescendant, isStar}
 use Rattle.machine.specs.Automaton.{maskSize, tabulate, packed, byteOf, bitBytes, Role, role, roles, roleAt, mask, masks, isLastRole}
 use Rattle.machine.specs.Masks.{axisMask, maskTest}
-use Rattle.machine.proofs.Laws.Basics.{cases, both, both-true}
+use Rattle.theory.proofs.Laws.Basics.{cases, both, both-true}
 use Rattle.machine.proofs.Laws.Bytes.Tabulate.{tabulate-same, tabulate-constant}
 use Rattle.machine.proofs.Laws.Bytes.WithBit.{packed-same}
 use Rattle.machine.proofs.Laws.Tables.Goto.{same-test}

@@ -10,7 +10,7 @@ use lib.Seq.{ext-getD, getD-set-same, getD-set-other}
 use Rattle.machine.specs.Bits.{bitOf}
 use Rattle.machine.specs.Automaton.{bit, packed, byteOf, bitBytes}
 use Rattle.machine.specs.Masks.{withBit}
-use Rattle.machine.proofs.Laws.Basics.{cases}
+use Rattle.theory.proofs.Laws.Basics.{cases}
 use Rattle.machine.proofs.Laws.Bytes.Tabulate.{tabulate-length, tabulate-at}
 use Rattle.machine.proofs.Laws.Bytes.Bits.{packed-bit}
 use Rattle.machine.proofs.Laws.Tables.Goto.{same-test}

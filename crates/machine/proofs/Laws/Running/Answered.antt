@@ -9,12 +9,12 @@ use native.Mathlib.Omega.{arith}
 use lib.Dec.{leb}
 use borrow.Author.Tests.{leb-true}
 use Rattle.notation.specs.Names.{within}
-use Rattle.machine.specs.Words.{any}
-use Rattle.machine.specs.Folders.{countFrom}
+use Rattle.theory.specs.Words.{any}
+use Rattle.theory.specs.Folders.{countFrom}
 use Rattle.machine.specs.Asking.{answered, measured}
 use Rattle.machine.specs.declared.answers.Asked.{Asked}
 use Rattle.machine.specs.declared.answers.Length.{Length}
-use Rattle.machine.proofs.Laws.Basics.{both}
+use Rattle.theory.proofs.Laws.Basics.{both}
 
 pub refused-asked : (r : ℕ) (b : Bool) → (r ≡ 0 → ⊥) → Asked.Refused r ≡ answered r b
 refused-asked zero b h = absurd (h refl)

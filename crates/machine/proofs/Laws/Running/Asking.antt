@@ -24,20 +24,20 @@ use Rattle.notation.proofs.Laws.Stored.PathTable.{stepsBefore, steps-through}
 use Rattle.notation.proofs.Laws.Stored.FolderTable.{noFolder, pathsBefore, paths-between, paths-before-most}
 use Rattle.notation.proofs.Laws.Stored.ReadPaths.{PathRead, path-read, path-missing}
 use Rattle.notation.proofs.Laws.Stored.ReadFolders.{folder-read, folder-of-read}
-use Rattle.machine.specs.Prefix.{prefixOf}
-use Rattle.machine.specs.Words.{any}
-use Rattle.machine.specs.Folders.{countFrom, placesFrom, folderMatched}
-use Rattle.machine.specs.Calls.{State, openNames, depth, activeStep}
+use Rattle.theory.specs.Prefix.{prefixOf}
+use Rattle.theory.specs.Words.{any}
+use Rattle.theory.specs.Folders.{countFrom, placesFrom, folderMatched}
+use Rattle.theory.specs.Calls.{State, openNames, depth, activeStep}
 use Rattle.machine.specs.Automaton.{maskSize}
 use Rattle.machine.specs.Run.{runOf}
 use Rattle.machine.specs.RunCalls.{depthOf, storedName, activeAt, given}
 use Rattle.machine.specs.Asking.{askRefusal, yesNo, answered, hasPath, placeMatched, askPath, hasFolder, indexPaths, askFolder, askStep, askPrefix, nameRefusal, askName}
 use Rattle.machine.specs.declared.answers.Asked.{Asked}
 use Rattle.machine.specs.declared.answers.Length.{Length}
-use Rattle.machine.proofs.Laws.Basics.{cases}
-use Rattle.machine.proofs.Laws.Keywords.Prefix.{current-prefix}
-use Rattle.machine.proofs.Laws.Machine.Sound.{Sound}
-use Rattle.machine.proofs.Laws.Machine.Moves.{Few}
+use Rattle.theory.proofs.Laws.Basics.{cases}
+use Rattle.theory.proofs.Laws.Keywords.Prefix.{current-prefix}
+use Rattle.theory.proofs.Laws.Machine.Sound.{Sound}
+use Rattle.theory.proofs.Laws.Machine.Moves.{Few}
 use Rattle.machine.proofs.Laws.Running.PathSteps.{bit-at, match-at}
 use Rattle.machine.proofs.Laws.Running.RunBytes.{matched-read, active-at, state-at, name-at}
 use Rattle.machine.proofs.Laws.Running.Means.{Means}

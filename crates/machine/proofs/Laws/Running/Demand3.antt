@@ -15,9 +15,9 @@ use Rattle.notation.specs.Fit.{nameAt, Active}
 use Rattle.notation.specs.Accepted.{Accepted}
 use Rattle.notation.specs.declared.PathPlace.{PathPlace}
 use Rattle.notation.specs.declared.FolderNumber.{FolderNumber}
-use Rattle.machine.specs.Calls.{asLeft, Call, openCall, State, openNames, pathAt, activeStep, run}
-use Rattle.machine.specs.History.{stillOpen, FittedAfterOpen, opensOf, SameAnswers}
-use Rattle.machine.specs.Folders.{placesOf, folderMatched}
+use Rattle.theory.specs.Calls.{asLeft, Call, openCall, State, openNames, pathAt, activeStep, run}
+use Rattle.theory.specs.History.{stillOpen, FittedAfterOpen, opensOf, SameAnswers}
+use Rattle.theory.specs.Folders.{placesOf, folderMatched}
 use Rattle.machine.specs.Automaton.{automatonSize, automatonOf}
 use Rattle.machine.specs.Run.{runSize, runOf}
 use Rattle.machine.specs.RunCalls.{given, startRefusal}
@@ -25,11 +25,11 @@ use Rattle.machine.specs.Asking.{askPath, askFolder, askStep, askPrefix,
 use Rattle.machine.specs.Demand3.{Made, openAsLeft, callsOf, leftBy, Answers, HasFolder, HasMatchedPath, StepThere, PrefixAnswered, SameAsked, Demand3}
 use Rattle.machine.specs.declared.answers.Asked.{Asked}
 use Rattle.machine.specs.declared.answers.Length.{Length}
-use Rattle.machine.proofs.Laws.Basics.{cases, clash, both-true, any-is, is-any}
-use Rattle.machine.proofs.Laws.Machine.Matches.{run-matched, run-matched-there}
-use Rattle.machine.proofs.Laws.Machine.Moves.{Few}
-use Rattle.machine.proofs.Laws.Machine.Whole.{whole}
-use Rattle.machine.proofs.Laws.Machine.Folders.{folder-matched}
+use Rattle.theory.proofs.Laws.Basics.{cases, clash, both-true, any-is, is-any}
+use Rattle.theory.proofs.Laws.Machine.Matches.{run-matched, run-matched-there}
+use Rattle.theory.proofs.Laws.Machine.Moves.{Few}
+use Rattle.theory.proofs.Laws.Machine.Whole.{whole}
+use Rattle.theory.proofs.Laws.Machine.Folders.{folder-matched}
 use Rattle.machine.proofs.Laws.Running.Means.{Means, means}
 use Rattle.machine.proofs.Laws.Shapes.Passing.{open-refused, close-refused}
 use Rattle.machine.proofs.Laws.Running.FolderPlaces.{hasNumber, Placed, missing, at, placed}

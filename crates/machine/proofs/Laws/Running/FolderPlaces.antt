@@ -13,9 +13,9 @@ use Rattle.notation.specs.Form.{pathsOf, numbersFallAfter}
 use Rattle.notation.specs.Reads.{folderIndex}
 use Rattle.notation.specs.declared.reads.FolderIndex.{FolderIndex}
 use Rattle.notation.proofs.Laws.Stored.FolderTable.{noFolder, pathsBefore}
-use Rattle.machine.specs.Words.{any}
-use Rattle.machine.specs.Folders.{countFrom, placesFrom}
-use Rattle.machine.proofs.Laws.Basics.{cases}
+use Rattle.theory.specs.Words.{any}
+use Rattle.theory.specs.Folders.{countFrom, placesFrom}
+use Rattle.theory.proofs.Laws.Basics.{cases}
 
 -- some folder of the set has this number
 abbrev pub hasNumber : FolderSet → ℕ → Bool

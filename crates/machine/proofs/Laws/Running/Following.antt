@@ -15,22 +15,22 @@ use Rattle.notation.specs.Sets.{FolderSet}
 use Rattle.notation.specs.Form.{pathsOf}
 use Rattle.notation.specs.Refusals.{Refusal, shortBuffer, oversize, bentForm, outOfTurn, longName, longPath, full, foreignByte, torn, looseEnd, tooDeep, crossed, noSuchPlace, strangeShape}
 use Rattle.notation.specs.Activity.{fits}
-use Rattle.machine.specs.Limits.{maxDepth}
-use Rattle.machine.specs.Words.{Word}
-use Rattle.machine.specs.Walk.{movesOf, walk}
-use Rattle.machine.specs.Order.{isNone, numberIn}
-use Rattle.machine.specs.Calls.{asLeft, otherwise, Call, openCall, closeCall, Level, nameOf, State, namesOf, openNames, fresh, opened, closedFrom, closed, refusal, accepted, step, after}
-use Rattle.machine.specs.Calls as machine
+use Rattle.theory.specs.Limits.{maxDepth}
+use Rattle.theory.specs.Words.{Word}
+use Rattle.theory.specs.Walk.{movesOf, walk}
+use Rattle.theory.specs.Order.{isNone, numberIn}
+use Rattle.theory.specs.Calls.{asLeft, otherwise, Call, openCall, closeCall, Level, nameOf, State, namesOf, openNames, fresh, opened, closedFrom, closed, refusal, accepted, step, after}
+use Rattle.theory.specs.Calls as machine
 use Rattle.machine.specs.Run.{runSize, runWith, runOf}
 use Rattle.machine.specs.RunCalls.{openWalk, openRun, openCounters, closeRun, closeCounters, noCounters}
 use Rattle.machine.specs.Demand3.{Made, openAsLeft, closeAsLeft, openOther, closeOther, callOf, callsOf, Left, leaves, leftAfter, leftBy}
 use Rattle.machine.specs.declared.counters.Counters.{Counters}
 use Rattle.machine.specs.declared.walk.Walk.{Walk}
-use Rattle.machine.proofs.Laws.Basics.{cases}
-use Rattle.machine.proofs.Laws.Machine.Calls.{Openable, open-accepted, Closable, close-accepted, lent-otherwise-open, lent-otherwise-close, always}
-use Rattle.machine.proofs.Laws.Machine.Steps.{step-refused}
-use Rattle.machine.proofs.Laws.Machine.Sound.{Sound}
-use Rattle.machine.proofs.Laws.Machine.Moves.{Few, fresh-few, open-few, close-few}
+use Rattle.theory.proofs.Laws.Basics.{cases}
+use Rattle.theory.proofs.Laws.Machine.Calls.{Openable, open-accepted, Closable, close-accepted, lent-otherwise-open, lent-otherwise-close, always}
+use Rattle.theory.proofs.Laws.Machine.Steps.{step-refused}
+use Rattle.theory.proofs.Laws.Machine.Sound.{Sound}
+use Rattle.theory.proofs.Laws.Machine.Moves.{Few, fresh-few, open-few, close-few}
 use Rattle.machine.proofs.Laws.Running.RunBytes.{Short}
 use Rattle.machine.proofs.Laws.Running.Means.{Means}
 use Rattle.machine.proofs.Laws.Running.Opening.{short-close, open-walk, open-run, close-run}

@@ -10,7 +10,7 @@ use Rattle.notation.specs.Limits.{maxNumber}
 use Rattle.notation.specs.Names.{within}
 use Rattle.notation.specs.Sets.{Path, Folder, folder, FolderSet, folderPaths}
 use Rattle.notation.specs.Form.{every, nonEmpty, formedStep, formedPath, formedFolder, formed, pathsOf}
-use Rattle.machine.proofs.Laws.Basics.{both, clash}
+use Rattle.theory.proofs.Laws.Basics.{both, clash}
 use Rattle.machine.proofs.Laws.Tables.States.{at-among}
 
 every-at : {A : Type 0} (f : A → Bool) (l : List A) (a : A) → every f l ≡ true → List·Memᴰ a l → f a ≡ true

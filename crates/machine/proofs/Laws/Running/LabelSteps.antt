@@ -17,12 +17,12 @@ use Rattle.notation.specs.Activity.{sameName}
 use Rattle.notation.specs.Reads.{word16, labelEntryAt}
 use Rattle.notation.proofs.Laws.Stored.PathTable.{stepsBefore}
 use Rattle.notation.proofs.Laws.Stored.LabelTable.{noStep}
-use Rattle.machine.specs.Words.{any}
+use Rattle.theory.specs.Words.{any}
 use Rattle.machine.specs.Automaton.{allSteps, allLabels, Role, role, roles, rolesIn, roleAt}
 use Rattle.machine.specs.Chain.{chainLabels}
 use Rattle.machine.specs.Compiled.{placesOf, Compiled}
-use Rattle.machine.proofs.Laws.Basics.{cases, clash, any-is, is-any}
-use Rattle.machine.proofs.Laws.Keywords.Words.{same-name, name-same}
+use Rattle.theory.proofs.Laws.Basics.{cases, clash, any-is, is-any}
+use Rattle.theory.proofs.Laws.Keywords.Words.{same-name, name-same}
 use Rattle.machine.proofs.Laws.Tables.Goto.{same-test}
 use Rattle.machine.proofs.Laws.Running.PathSteps.{anyStep, locate, role-at, role-past}
 

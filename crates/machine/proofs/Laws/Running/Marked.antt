@@ -11,8 +11,8 @@ use lib.Seq.{sets}
 use Rattle.notation.specs.Limits.{maxName}
 use Rattle.notation.specs.Layout.{le16, padded}
 use Rattle.notation.specs.Reads.{word16, labelEntryAt}
-use Rattle.machine.specs.Limits.{maxDepth}
-use Rattle.machine.specs.Words.{any}
+use Rattle.theory.specs.Limits.{maxDepth}
+use Rattle.theory.specs.Words.{any}
 use Rattle.machine.specs.Chain.{chainLabels}
 use Rattle.machine.specs.Automaton.{maskSize, byteOf, tabulate}
 use Rattle.machine.specs.Bits.{bitOf, bitAt}

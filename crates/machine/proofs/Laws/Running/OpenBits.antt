@@ -17,11 +17,11 @@ use Rattle.notation.specs.Fit.{stepAt}
 use Rattle.notation.specs.Activity.{takes, byAxis, allowed, here, isEmpty, active, seen, fits}
 use Rattle.notation.proofs.Laws.Meaning.Innermost.{active-more, seen-more}
 use Rattle.notation.proofs.Laws.Stored.PathTable.{stepsBefore}
-use Rattle.machine.specs.Limits.{maxDepth}
+use Rattle.theory.specs.Limits.{maxDepth}
 use Rattle.machine.specs.Automaton.{maskSize, Role, role, roles, roleAt, isStarRole, isChildRole, isDescendantRole, isAnywhereRole, isRootRole, isLastRole}
 use Rattle.machine.specs.Run.{stepBit, matchBit, activeBits, seenBits, runWith}
 use Rattle.machine.specs.RunCalls.{depthOf, activeAt, seenAt, maskBit, candidate, shifted, permitted, nowActive, nowSeen, nowMatched}
-use Rattle.machine.proofs.Laws.Basics.{cases}
+use Rattle.theory.proofs.Laws.Basics.{cases}
 use Rattle.machine.proofs.Laws.Running.PathSteps.{anyStep, Located, locate, bit-at, bit-past, match-at, match-past, roleOf, role-at, role-past}
 use Rattle.machine.proofs.Laws.Running.RunBytes.{Short, depth-read, active-at, seen-at, matched-read}
 use Rattle.machine.proofs.Laws.Running.Means.{Means}

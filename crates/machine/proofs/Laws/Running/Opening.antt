@@ -16,15 +16,15 @@ use Rattle.notation.specs.Layout.{le16, joined, padded}
 use Rattle.notation.specs.Reads.{stepCount}
 use Rattle.notation.specs.Activity.{active, seen, fits}
 use Rattle.notation.proofs.Laws.Fill.Padded.{sets-front, length-padded, joined-snoc}
-use Rattle.machine.specs.Limits.{maxDepth}
-use Rattle.machine.specs.Prefix.{prefixOf}
-use Rattle.machine.specs.Walk.{walk}
+use Rattle.theory.specs.Limits.{maxDepth}
+use Rattle.theory.specs.Prefix.{prefixOf}
+use Rattle.theory.specs.Walk.{walk}
 use Rattle.machine.specs.Automaton.{maskSize, stateOf, byteOf, bitBytes}
 use Rattle.machine.specs.Run.{matchesAt, rowsAt, nameIn, stateIn, activeIn, rowSize, rowAt, runSize, matchBit, activeBits, seenBits, rowOf, rowsFrom, runWith}
 use Rattle.machine.specs.RunCalls.{usedBytes, usedBits, nowActive, nowSeen, nowMatched, openWalk, rowWritten, openRun, rowCleared, closeRun}
 use Rattle.machine.specs.declared.walk.Walk.{Walk}
-use Rattle.machine.proofs.Laws.Keywords.Prefix.{current-prefix}
-use Rattle.machine.proofs.Laws.Keywords.Walk.{walk-current}
+use Rattle.theory.proofs.Laws.Keywords.Prefix.{current-prefix}
+use Rattle.theory.proofs.Laws.Keywords.Walk.{walk-current}
 use Rattle.machine.specs.Compiled.{storedWalk}
 use Rattle.machine.proofs.Laws.Bytes.Tabulate.{tabulate-length}
 use Rattle.machine.proofs.Laws.Bytes.MaskRows.{bits-same, bits-none}

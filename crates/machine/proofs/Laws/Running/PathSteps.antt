@@ -13,7 +13,7 @@ use Rattle.notation.specs.Form.{stepsOf}
 use Rattle.notation.proofs.Laws.Stored.PathTable.{stepsBefore}
 use Rattle.machine.specs.Automaton.{Role, role, rolesFrom, rolesIn, roleAt}
 use Rattle.machine.specs.Run.{stepBit, matchBit}
-use Rattle.machine.proofs.Laws.Basics.{cases}
+use Rattle.theory.proofs.Laws.Basics.{cases}
 use Rattle.machine.proofs.Laws.Building.Masked.{all-roles-length}
 
 abbrev pub anyStep : Step

@@ -15,15 +15,15 @@ use Rattle.notation.specs.Layout.{le16, joined, padded}
 use Rattle.notation.specs.Activity.{active, seen}
 use Rattle.notation.proofs.Laws.Fill.Padded.{sets-front, padded-none}
 use Rattle.notation.proofs.Laws.Meaning.Innermost.{active-none, seen-none}
-use Rattle.machine.specs.Words.{document, begins}
-use Rattle.machine.specs.Prefix.{longestEnd, prefixOf}
+use Rattle.theory.specs.Words.{document, begins}
+use Rattle.theory.specs.Prefix.{longestEnd, prefixOf}
 use Rattle.machine.specs.Automaton.{maskSize, stateIn, stateOf, startState, bitBytes}
-use Rattle.machine.specs.Calls.{fresh}
+use Rattle.theory.specs.Calls.{fresh}
 use Rattle.machine.specs.Tables.{startOf}
 use Rattle.machine.specs.Run.{matchesAt, rowsAt, nameIn, activeIn, seenIn, rowSize, rowAt, runSize, stepBit, matchBit, activeBits, seenBits, rowOf, rowsFrom, runWith, runOf}
 use Rattle.machine.specs.Run as layout
 use Rattle.machine.specs.RunCalls.{startRun}
-use Rattle.machine.proofs.Laws.Basics.{cases}
+use Rattle.theory.proofs.Laws.Basics.{cases}
 use Rattle.machine.proofs.Laws.Bytes.Stores.{past, zeros}
 use Rattle.machine.proofs.Laws.Running.RunBytes.{Short, rowBytes, zerosFrom, run-parts}
 use Rattle.machine.proofs.Laws.Bytes.MaskRows.{bits-same, bits-none}

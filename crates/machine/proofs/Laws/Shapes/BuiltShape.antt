@@ -16,13 +16,13 @@ use Rattle.notation.specs.Reads.{textLen, folderCount, pathCount, stepCount, la
 use Rattle.notation.proofs.Laws.Refused.Fitting.{Fitting}
 use Rattle.notation.proofs.Laws.Refused.AcceptedSet.{accepted-fits}
 use Rattle.notation.proofs.Laws.Stored.Reads.{text-len, folders-read, paths-read, steps-read}
-use Rattle.machine.specs.Words.{name, Word, before, labelWords, begins, document}
-use Rattle.machine.specs.Walk.{followedBy}
+use Rattle.theory.specs.Words.{name, Word, before, labelWords, begins, document}
+use Rattle.theory.specs.Walk.{followedBy}
 use Rattle.machine.specs.Automaton.{maskSize, masks, allLabels, heads, links, startState, automatonOf}
 use Rattle.machine.specs.Shape.{automatonShaped}
 use Rattle.machine.specs.Walkable.{Walkable}
 use Rattle.machine.specs.Fails.{Growing}
-use Rattle.machine.proofs.Laws.Keywords.Labels.{LabelWord, begins-label}
+use Rattle.theory.proofs.Laws.Keywords.Labels.{LabelWord, begins-label}
 use Rattle.machine.proofs.Laws.Bytes.Bits.{bit-small}
 use Rattle.machine.proofs.Laws.Bytes.Tabulate.{tabulate-length}
 use Rattle.machine.proofs.Laws.Tables.Assembled.{nextOf, parentOf, failureOf, lengthOf, start-read}

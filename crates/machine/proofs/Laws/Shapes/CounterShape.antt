@@ -6,12 +6,12 @@ use mathlib.Core.List.{List}
 use native.Mathlib.Omega.{arith}
 use lib.Dec.{leb, eqb}
 use borrow.Author.Tests.{leb-true, eqb-true}
-use Rattle.machine.specs.Limits.{maxDepth, maxOpens}
+use Rattle.theory.specs.Limits.{maxDepth, maxOpens}
 use Rattle.machine.specs.RunCalls.{depthOf, countersShaped}
 use Rattle.machine.specs.RunContracts.{openAnswer}
 use Rattle.machine.specs.declared.counters.Counters.{Counters}
 use Rattle.machine.specs.declared.answers.Opened.{Opened}
-use Rattle.machine.proofs.Laws.Basics.{both}
+use Rattle.theory.proofs.Laws.Basics.{both}
 
 module _ (run : List ℕ) (c : Counters) (h : countersShaped run c ≡ true) where
   pub closes-fit : c .closes ≤ 65535

@@ -13,8 +13,8 @@ use Rattle.notation.specs.Limits.{maxName}
 use Rattle.notation.specs.Layout.{le16}
 use Rattle.notation.specs.Activity.{sameName}
 use Rattle.notation.specs.Refusals.{Refusal, numberOf, shortBuffer, oversize, bentForm, outOfTurn, longName, longPath, full, foreignByte, torn, looseEnd, tooDeep, crossed, noSuchPlace, strangeShape}
-use Rattle.machine.specs.Limits.{maxDepth, maxOpens}
-use Rattle.machine.specs.Order.{Condition, gives}
+use Rattle.theory.specs.Limits.{maxDepth, maxOpens}
+use Rattle.theory.specs.Order.{Condition, gives}
 use Rattle.machine.specs.Automaton.{automatonSize}
 use Rattle.machine.specs.Tables.{startOf}
 use Rattle.machine.specs.Shape.{automatonShaped}
@@ -23,7 +23,7 @@ use Rattle.machine.specs.RunCalls.{depthOf, storedName, runShaped, count
 use Rattle.machine.specs.Asking.{askRefusal}
 use Rattle.machine.specs.Openable.{Ready, Usable}
 use Rattle.machine.specs.declared.counters.Counters.{Counters}
-use Rattle.machine.proofs.Laws.Basics.{both}
+use Rattle.theory.proofs.Laws.Basics.{both}
 
 pub given-here : (r : Refusal) (later : List Condition) → given (gives true r ∷ later) ≡ numberOf r
 unfolding given

@@ -16,7 +16,7 @@ use Rattle.notation.specs.Reads.{word16, stepCount, labelCount}
 use Rattle.notation.proofs.Laws.Stored.Stands.{Stands, read, right}
 use Rattle.notation.proofs.Laws.Stored.Words.{word-read}
 use Rattle.notation.proofs.Laws.Fill.Padded.{length-padded}
-use Rattle.machine.specs.Limits.{maxDepth, maxOpens}
+use Rattle.theory.specs.Limits.{maxDepth, maxOpens}
 use Rattle.machine.specs.Automaton.{maskSize, byteOf}
 use Rattle.machine.specs.Tables.{startOf}
 use Rattle.machine.specs.Shape.{automatonShaped}
@@ -24,7 +24,7 @@ use Rattle.machine.specs.Run.{matchesAt, rowsAt, nameIn, stateIn, active
 use Rattle.machine.specs.RunCalls.{depthOf, nameLength, stateAt, rowShaped, runShaped, countersShaped, startRefusal, openRefusal, closeRefusal, startRun, noCounters, usedBytes, usedBits, nowActive, nowSeen, nowMatched, openWalk, rowWritten, openRun, openCounters, rowCleared, closeRun, closeCounters}
 use Rattle.machine.specs.Openable.{Ready, Usable}
 use Rattle.machine.specs.declared.counters.Counters.{Counters}
-use Rattle.machine.proofs.Laws.Basics.{cases, both, both-true}
+use Rattle.theory.proofs.Laws.Basics.{cases, both, both-true}
 use Rattle.machine.proofs.Laws.Bytes.AllBelow.{is-all}
 use Rattle.machine.proofs.Laws.Bytes.Tabulate.{tabulate-length}
 use Rattle.machine.proofs.Laws.Bytes.Beside.{byte-before, byte-behind, rest-behind, stored-stands, word-stored, word-same, put-length, put-before, put-within, put-behind}

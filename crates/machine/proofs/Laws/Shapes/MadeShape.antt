@@ -12,13 +12,13 @@ use Rattle.notation.specs.Names.{Name}
 use Rattle.notation.specs.Sets.{FolderSet}
 use Rattle.notation.specs.Accepted.{Accepted}
 use Rattle.notation.specs.Refusals.{Refusal}
-use Rattle.machine.specs.Order.{isNone, numberIn}
-use Rattle.machine.specs.Calls.{asLeft, openCall, closeCall, State, refusal, accepted, run}
+use Rattle.theory.specs.Order.{isNone, numberIn}
+use Rattle.theory.specs.Calls.{asLeft, openCall, closeCall, State, refusal, accepted, run}
 use Rattle.machine.specs.Automaton.{automatonOf}
 use Rattle.machine.specs.Run.{runSize, runOf}
 use Rattle.machine.specs.RunCalls.{runShaped, countersShaped, shaped, openRefusal, closeRefusal}
 use Rattle.machine.specs.Demand3.{Made, callsOf, leftBy}
-use Rattle.machine.proofs.Laws.Machine.Moves.{Few}
+use Rattle.theory.proofs.Laws.Machine.Moves.{Few}
 use Rattle.machine.proofs.Laws.Running.Means.{Means, means}
 use Rattle.machine.proofs.Laws.Shapes.Passing.{countersOf, run-shaped, counters-shaped, all-shaped, open-refused, close-refused}
 use Rattle.machine.proofs.Laws.Running.Following.{number-none, accepted-asked, accepted-closed, left-by, few-run}

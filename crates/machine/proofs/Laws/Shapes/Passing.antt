@@ -15,20 +15,20 @@ use Rattle.notation.specs.Form.{nonEmpty}
 use Rattle.notation.specs.Refusals.{torn, longName, looseEnd, crossed}
 use Rattle.notation.specs.Activity.{sameName}
 use Rattle.notation.specs.Reads.{labelCount}
-use Rattle.machine.specs.Limits.{maxDepth, maxOpens}
-use Rattle.machine.specs.Prefix.{prefixOf}
-use Rattle.machine.specs.Order.{Condition, gives, first, numberIn}
-use Rattle.machine.specs.Calls.{Lent, openCall, closeCall, Level, level, nameOf, State, namesOf, openNames, depth, isInnermost, openOrder, refusal}
+use Rattle.theory.specs.Limits.{maxDepth, maxOpens}
+use Rattle.theory.specs.Prefix.{prefixOf}
+use Rattle.theory.specs.Order.{Condition, gives, first, numberIn}
+use Rattle.theory.specs.Calls.{Lent, openCall, closeCall, Level, level, nameOf, State, namesOf, openNames, depth, isInnermost, openOrder, refusal}
 use Rattle.machine.specs.Automaton.{automatonSize, stateOf, allLabels}
 use Rattle.machine.specs.Run.{runSize, runOf}
 use Rattle.machine.specs.RunCalls.{depthOf, storedName, rowShaped, runShaped, countersShaped, shaped, given, tooShort, rootShut, openRefusal, closeRefusal}
 use Rattle.machine.specs.declared.counters.Counters.{Counters}
-use Rattle.machine.proofs.Laws.Basics.{both-true}
-use Rattle.machine.proofs.Laws.Keywords.Prefix.{current-prefix}
+use Rattle.theory.proofs.Laws.Basics.{both-true}
+use Rattle.theory.proofs.Laws.Keywords.Prefix.{current-prefix}
 use Rattle.machine.proofs.Laws.Bytes.AllBelow.{is-all}
 use Rattle.machine.proofs.Laws.Tables.States.{state-within}
-use Rattle.machine.proofs.Laws.Machine.Sound.{Sound, sound-names}
-use Rattle.machine.proofs.Laws.Machine.Moves.{Few}
+use Rattle.theory.proofs.Laws.Machine.Sound.{Sound, sound-names}
+use Rattle.theory.proofs.Laws.Machine.Moves.{Few}
 use Rattle.machine.proofs.Laws.Running.RunBytes.{Short, short-at, run-length, depth-read, length-at, name-at, state-at}
 use Rattle.machine.proofs.Laws.Running.Means.{Means}
 

@@ -9,10 +9,10 @@ use borrow.Author.Tests.{lt-leb, le-leb, leb-true}
 use lib.Dec.{leb}
 use Rattle.notation.specs.Limits.{maxName}
 use Rattle.notation.specs.Reads.{labelCount}
-use Rattle.machine.specs.Limits.{maxDepth}
+use Rattle.theory.specs.Limits.{maxDepth}
 use Rattle.machine.specs.Shape.{allBelow}
 use Rattle.machine.specs.RunCalls.{depthOf, nameLength, stateAt, rowShaped, runShaped}
-use Rattle.machine.proofs.Laws.Basics.{both}
+use Rattle.theory.proofs.Laws.Basics.{both}
 use Rattle.machine.proofs.Laws.Bytes.AllBelow.{all-fails, all-at}
 
 pub too-deep : (a run : List ℕ) → maxDepth < depthOf run → runShaped a run ≡ false

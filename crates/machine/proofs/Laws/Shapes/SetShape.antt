@@ -29,7 +29,7 @@ use Rattle.notation.proofs.Laws.Stored.Reads.{text-len, folders-read, paths-rea
 use Rattle.notation.proofs.Laws.Stored.ReadFolders.{folder-read}
 use Rattle.notation.proofs.Laws.Stored.ReadPaths.{path-read, label-read}
 use Rattle.machine.specs.Automaton.{allSteps, allLabels}
-use Rattle.machine.proofs.Laws.Basics.{both, both-true}
+use Rattle.theory.proofs.Laws.Basics.{both, both-true}
 use Rattle.machine.proofs.Laws.Shapes.Shaped.{FolderFacts, PathFacts, LabelFacts}
 
 -- a test of all elements, or of some, at each

@@ -16,7 +16,7 @@ use Rattle.machine.specs.Automaton.{hashes}
 use Rattle.machine.specs.Tables.{headAt, nextAt, parentAt, failAt, sizeAt, startOf, sizeOf}
 use Rattle.machine.specs.Shape.{allBelow, countsShaped, folderShaped, pathShaped, stepShaped, labelShaped, headShaped, linkShaped, automatonShaped}
 use Rattle.machine.specs.Walkable.{Walkable}
-use Rattle.machine.proofs.Laws.Basics.{both, both-true, either, or-right}
+use Rattle.theory.proofs.Laws.Basics.{both, both-true, either, or-right}
 use Rattle.machine.proofs.Laws.Bytes.AllBelow.{all-at, is-all}
 
 pub record Counts (a : List ℕ) : Type 0 where

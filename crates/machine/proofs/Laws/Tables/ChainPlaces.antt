@@ -16,8 +16,8 @@ use Rattle.machine.specs.Automaton.{hash, find, allLabels, hasHash}
 use Rattle.machine.specs.Tables.{nextAt}
 use Rattle.machine.specs.Chain.{chainFrom, chainLabels}
 use Rattle.machine.specs.Compiled.{placesOf}
-use Rattle.machine.proofs.Laws.Basics.{cases, clash}
-use Rattle.machine.proofs.Laws.Keywords.Words.{same-name}
+use Rattle.theory.proofs.Laws.Basics.{cases, clash}
+use Rattle.theory.proofs.Laws.Keywords.Words.{same-name}
 use Rattle.machine.proofs.Laws.Bytes.Finding.{find-here, find-later, find-empty}
 use Rattle.machine.proofs.Laws.Tables.Goto.{Chained, hash-small, next-at, past-end}
 

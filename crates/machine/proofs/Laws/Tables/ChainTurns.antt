@@ -10,7 +10,7 @@ use Rattle.notation.specs.Limits.{maxLabels}
 use Rattle.notation.specs.Activity.{sameName}
 use Rattle.notation.specs.Reads.{labelCount, labelName}
 use Rattle.machine.specs.Automaton.{automatonSize}
-use Rattle.machine.specs.Words.{any}
+use Rattle.theory.specs.Words.{any}
 use Rattle.machine.specs.Tables.{nextAt}
 use Rattle.machine.specs.Chain.{ownLabel, chainFrom}
 use Rattle.machine.specs.Shape.{automatonShaped}

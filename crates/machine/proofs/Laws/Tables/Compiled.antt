@@ -17,18 +17,18 @@ use Rattle.notation.proofs.Laws.Refused.Fitting.{Fitting}
 use Rattle.notation.proofs.Laws.Stored.Reads.{paths-read, steps-read, labels-read, there}
 use Rattle.notation.proofs.Laws.Stored.ReadPaths.{label-read}
 use Rattle.notation.proofs.Laws.Refused.AcceptedSet.{accepted-fits}
-use Rattle.machine.specs.Words.{document, name, Word, before, labelWords, begins}
-use Rattle.machine.specs.Prefix.{IsPrefix, failure}
-use Rattle.machine.specs.Walk.{followedBy}
-use Rattle.machine.specs.Calls.{fresh}
+use Rattle.theory.specs.Words.{document, name, Word, before, labelWords, begins}
+use Rattle.theory.specs.Prefix.{IsPrefix, failure}
+use Rattle.theory.specs.Walk.{followedBy}
+use Rattle.theory.specs.Calls.{fresh}
 use Rattle.machine.specs.Automaton.{hashes, maskSize, masksAt, allLabels, allWords, stateOf, heads, headOf, links, roles, roleAt, masks, bitBytes, byteOf, startState, automatonOf}
 use Rattle.machine.specs.Tables.{startOf, sizeAt, sizeOf}
 use Rattle.machine.specs.Bits.{bitOf, bitIn}
 use Rattle.machine.specs.Masks.{maskTest}
 use Rattle.machine.specs.Compiled.{LabelStep, Compiled}
-use Rattle.machine.proofs.Laws.Basics.{cases}
-use Rattle.machine.proofs.Laws.Keywords.Prefix.{longest-end}
-use Rattle.machine.proofs.Laws.Keywords.Labels.{LabelWord}
+use Rattle.theory.proofs.Laws.Basics.{cases}
+use Rattle.theory.proofs.Laws.Keywords.Prefix.{longest-end}
+use Rattle.theory.proofs.Laws.Keywords.Labels.{LabelWord}
 use Rattle.machine.proofs.Laws.Bytes.Tabulate.{tabulate-length}
 use Rattle.machine.proofs.Laws.Bytes.Bits.{bit-small, bits-bit}
 use Rattle.machine.proofs.Laws.Tables.States.{words-count, among-label, at-among, state-empty, state-root, StateKind, ofEmpty, ofRoot, ofLabel, state-kind, state-one, state-none, state-within}

@@ -14,7 +14,7 @@ use Rattle.machine.specs.Automaton.{hash}
 use Rattle.machine.specs.Tables.{headAt, nextAt, sizeOf, failOf, follows, gotoFrom, goto, oneMore, walkFrom, walkOver}
 use Rattle.machine.specs.Walkable.{Searchable, Falling, Walkable}
 use Rattle.machine.specs.declared.walk.Walk.{Walk}
-use Rattle.machine.proofs.Laws.Basics.{cases}
+use Rattle.theory.proofs.Laws.Basics.{cases}
 use Rattle.machine.proofs.Laws.Tables.Goto.{hash-small, goto-end}
 
 module _ (a : List ℕ) (c : Searchable a) (q : ℕ) (e : Name) where

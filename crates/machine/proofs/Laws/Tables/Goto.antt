@@ -16,13 +16,13 @@ use Rattle.notation.specs.Limits.{maxLabels}
 use Rattle.notation.specs.Sets.{FolderSet}
 use Rattle.notation.specs.Activity.{sameName}
 use Rattle.notation.specs.Reads.{labelName}
-use Rattle.machine.specs.Words.{Word}
-use Rattle.machine.specs.Prefix.{IsPrefix}
-use Rattle.machine.specs.Walk.{followedBy}
+use Rattle.theory.specs.Words.{Word}
+use Rattle.theory.specs.Prefix.{IsPrefix}
+use Rattle.theory.specs.Walk.{followedBy}
 use Rattle.machine.specs.Automaton.{hashes, hashFrom, hash, find, allLabels, allWords, sameWord, stateOf, shortened, hasHash, headOf, nexts}
 use Rattle.machine.specs.Tables.{headAt, nextAt, parentAt, follows, gotoFrom, goto}
-use Rattle.machine.proofs.Laws.Basics.{cases, clash, both, both-true}
-use Rattle.machine.proofs.Laws.Keywords.Words.{same-name, name-same}
+use Rattle.theory.proofs.Laws.Basics.{cases, clash, both, both-true}
+use Rattle.theory.proofs.Laws.Keywords.Words.{same-name, name-same}
 use Rattle.machine.proofs.Laws.Bytes.Finding.{find-here, find-later, find-empty}
 use Rattle.machine.proofs.Laws.Tables.States.{same-word, word-same, shortened-followed, followed-last, words-count, word-ends, label-parent, state-followed, state-one}
 

@@ -14,7 +14,7 @@ use Rattle.notation.specs.Sets.{FolderSet}
 use Rattle.notation.specs.Form.{pathsOf, nonEmpty, every}
 use Rattle.notation.specs.Reads.{stepCount, labelCount}
 use Rattle.notation.proofs.Laws.Refused.Fitting.{Fitting}
-use Rattle.machine.specs.Words.{Word}
+use Rattle.theory.specs.Words.{Word}
 use Rattle.machine.specs.Automaton.{hashes, maskSize, allLabels, allWords, heads, nexts, Link, link, assembled}
 use Rattle.machine.specs.Walkable.{Searchable}
 use Rattle.machine.specs.Chains.{chained}

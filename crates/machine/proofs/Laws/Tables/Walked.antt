@@ -10,17 +10,17 @@ use lib.Dec.{eqb}
 use lib.ListN.{length, getD}
 use Rattle.notation.specs.Names.{Name}
 use Rattle.notation.specs.Sets.{FolderSet}
-use Rattle.machine.specs.Words.{Word, begins}
-use Rattle.machine.specs.Prefix.{IsPrefix, longestEnd, failure}
-use Rattle.machine.specs.Walk.{followedBy, Walked, walked, counted, stuck, arrive, walkIn, walk}
+use Rattle.theory.specs.Words.{Word, begins}
+use Rattle.theory.specs.Prefix.{IsPrefix, longestEnd, failure}
+use Rattle.theory.specs.Walk.{followedBy, Walked, walked, counted, stuck, arrive, walkIn, walk}
 use Rattle.machine.specs.Automaton.{allLabels, allWords, stateIn, stateOf}
 use Rattle.machine.specs.Tables.{failAt, sizeOf, failOf, goto, oneMore, walkFrom, walkOver}
 use Rattle.machine.specs.Compiled.{storedWalk}
 use Rattle.machine.specs.declared.walk.Walk.{Walk}
-use Rattle.machine.proofs.Laws.Basics.{cases}
-use Rattle.machine.proofs.Laws.Keywords.Words.{begins-is}
-use Rattle.machine.proofs.Laws.Keywords.Prefix.{failure-is, failure-shorter}
-use Rattle.machine.proofs.Laws.Keywords.Labels.{begins-label}
+use Rattle.theory.proofs.Laws.Basics.{cases}
+use Rattle.theory.proofs.Laws.Keywords.Words.{begins-is}
+use Rattle.theory.proofs.Laws.Keywords.Prefix.{failure-is, failure-shorter}
+use Rattle.theory.proofs.Laws.Keywords.Labels.{begins-label}
 use Rattle.machine.proofs.Laws.Tables.States.{label-state, StateKind, ofEmpty, ofRoot, ofLabel, state-kind, state-empty, state-none}
 use Rattle.machine.proofs.Laws.Tables.Goto.{Linked, goto-is}
 

@@ -3,8 +3,8 @@ use mathlib.Core.Path.{_≡_, sym, _∙_, ap, refl}
 use Prim.Native.Nat.{ℕ, _+_, _-_, _≤_}
 use native.Mathlib.Nat.{add-zero, sub-zero}
 use borrow.Author.Needs.{needs}
-use Rattle.machine.specs.Words.{any}
-use Rattle.machine.specs.Folders.{countFrom}
+use Rattle.theory.specs.Words.{any}
+use Rattle.theory.specs.Folders.{countFrom}
 use Rattle.machine.specs.Asking.{placeMatched}
 use Rattle.machine.proofs.Laws.Running.Answered.{any-none, any-here, any-next}
 use Rattle.machine.proofs.run.asking.any_matched.Statement.{statement}

@@ -1,5 +1,5 @@
 use mathlib.Core.Path.{_≡_, sym, _∙_, ap}
-use Rattle.machine.specs.Words.{any}
+use Rattle.theory.specs.Words.{any}
 use Rattle.machine.specs.Asking.{askFolder}
 use borrow.Author.Needs.{needs}
 use Rattle.machine.proofs.run.asking.folder_matched.Statement.{statement}

@@ -7,7 +7,7 @@ use lib.Dec.{eqb}
 use lib.ListN.{length}
 use Rattle.notation.specs.Limits.{maxLabels}
 use Rattle.notation.specs.Reads.{word16, labelCount, labelEntryAt}
-use Rattle.machine.specs.Words.{any}
+use Rattle.theory.specs.Words.{any}
 use Rattle.machine.specs.Automaton.{hashes, hash, headsAt, linksAt, linkSize, automatonSize}
 use Rattle.machine.specs.Tables.{headAt, nextAt}
 use Rattle.machine.specs.Bits.{bitAt}

@@ -5,7 +5,7 @@ use Prim.Native.Nat.{_+_, _≤_}
 use lib.Dec.{eqb}
 use Rattle.notation.specs.Limits.{maxPaths, maxSteps}
 use Rattle.notation.specs.Reads.{word16, labelEntryAt}
-use Rattle.machine.specs.Words.{any}
+use Rattle.theory.specs.Words.{any}
 use Rattle.machine.specs.Automaton.{maskSize}
 use Rattle.machine.specs.Chain.{chainLabels}
 use Rattle.machine.specs.RunCalls.{usedBytes}

@@ -5,7 +5,7 @@ use Prim.Native.Nat.{ℕ, _+_}
 use lib.Dec.{eqb}
 use borrow.Author.Tests.{eq-eqb, ne-eqb}
 use Rattle.notation.specs.Limits.{maxSteps}
-use Rattle.machine.specs.Limits.{maxOpens}
+use Rattle.theory.specs.Limits.{maxOpens}
 use Rattle.machine.specs.RunCalls.{openRefusal, openCounters}
 use Rattle.machine.specs.declared.answers.Opened.{Opened}
 use Rattle.machine.specs.declared.walk.Walk.{Walk}

@@ -1,6 +1,6 @@
 use native.Mathlib.Omega.{arith}
 use mathlib.Core.Path.{_∙_}
-use Rattle.machine.specs.Limits.{maxDepth}
+use Rattle.theory.specs.Limits.{maxDepth}
 use Rattle.machine.specs.Run.{rowSize, runSize}
 use Rattle.machine.proofs.Laws.Running.Rows.{row-width}
 use Rattle.machine.proofs.Laws.Running.Written.{stored}

@@ -1,6 +1,6 @@
 use mathlib.Core.Path.{sym, _∙_}
 use borrow.Author.Tests.{le-leb, lt-leb}
-use Rattle.machine.specs.Limits.{maxDepth, maxOpens}
+use Rattle.theory.specs.Limits.{maxDepth, maxOpens}
 use Rattle.machine.specs.RunCalls.{given}
 use Rattle.machine.proofs.Laws.Shapes.Given.{open-name, open-named}
 use borrow.Author.Needs.{needs}

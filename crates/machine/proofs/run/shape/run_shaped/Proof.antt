@@ -4,7 +4,7 @@ use mathlib.Core.Bool.{true, false}
 use Prim.Native.Nat.{_+_, _-_, _≤_, _<_}
 use borrow.Author.Tests.{not-true, not-false}
 use borrow.Author.Needs.{needs}
-use Rattle.machine.specs.Limits.{maxDepth}
+use Rattle.theory.specs.Limits.{maxDepth}
 use Rattle.machine.specs.Shape.{allBelow}
 use Rattle.machine.specs.RunCalls.{depthOf, rowShaped}
 use Rattle.machine.proofs.Laws.Bytes.AllBelow.{all-none, all-more}

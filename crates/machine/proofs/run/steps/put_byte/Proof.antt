@@ -3,7 +3,7 @@ use mathlib.Core.List.{List}
 use Prim.Native.Nat.{ℕ, _+_}
 use lib.ListN.{set}
 use native.Mathlib.Omega.{arith}
-use Rattle.machine.specs.Limits.{maxDepth}
+use Rattle.theory.specs.Limits.{maxDepth}
 use Rattle.machine.specs.Automaton.{maskSize}
 use Rattle.machine.specs.Run.{matchesAt, rowSize, runSize}
 use Rattle.machine.proofs.Laws.Running.Rows.{row-width, run-kept}

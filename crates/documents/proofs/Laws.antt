@@ -1,0 +1,3 @@
+pub mod Printed
+pub mod Read
+pub mod Trees

@@ -1,0 +1,125 @@
+-- Attributes are read back as they were printed.
+use Prim.Native.Nat.{ℕ, zero, suc, _≤_}
+use native.Mathlib.Omega.{arith}
+use mathlib.Core.Path.{_≡_, refl}
+use mathlib.Core.Bool.{true, false, _&&_, false≢true}
+use mathlib.Core.List.{List, [], _∷_, _++_, append-assoc}
+use borrow.Author.Tests.{eq-eqb}
+use lib.ListN.{length, length-append}
+use Rattle.notation.specs.Names.{nameForm}
+use Rattle.notation.specs.Form.{every, nonEmpty}
+use Rattle.documents.specs.Tokens.{blank, listed, inText, inValue, Part, Quote, double, single, quoteByte, Attribute, attribute, printParts, printAttribute, printAttributes, formedPart, formedAttribute}
+use Rattle.documents.specs.Reading.{got, readWord, readQuote, readAttributeFrom, readAttribute, nameAhead, attributeAhead, readAttributes}
+use Rattle.documents.proofs.Laws.Read.Bytes.{left, right, text-no-amp, value-text, stops, front-of, back-of}
+use Rattle.documents.proofs.Laws.Printed.PartsBack.{name-back, equals, name-stops-blanks, blanks-stop-name, partsStop, parts-length, parts-back}
+
+pub quote-stops : (q : Quote) (r : List ℕ) → (partsStop (inValue (quoteByte q)) (quoteByte q ∷ r) ≡ true) × (stops blank (quoteByte q ∷ r) ≡ true)
+unfolding inValue inText listed blank
+quote-stops double r = (refl, refl)
+quote-stops single r = (refl, refl)
+
+pub quote-back : (q : Quote) (r : List ℕ) → readQuote (quoteByte q ∷ r) ≡ got q r
+quote-back double r = refl
+quote-back single r = refl
+
+-- an attribute within its rule, taken apart
+pub record Formed (s n before after : List ℕ) (q : Quote) (v : List Part) : Type 0 where
+  pub some : nonEmpty s ≡ true
+  pub blanks : every blank s ≡ true
+  pub name : nameForm n ≡ true
+  pub blanks₂ : every blank before ≡ true
+  pub blanks₃ : every blank after ≡ true
+  pub value : every (formedPart (inValue (quoteByte q))) v ≡ true
+
+pub formed-parts : (s n before after : List ℕ) (q : Quote) (v : List Part) → formedAttribute (attribute s n before after q v) ≡ true
+    → Formed s n before after q v
+unfolding formedAttribute
+formed-parts s n before after q v h =
+    let h₁ = left (nonEmpty s && every blank s) _ h in
+    let h₂ = right (nonEmpty s && every blank s) _ h in
+    let h₃ = right (nameForm n) _ h₂ in
+    let h₄ = right (every blank before) _ h₃ in
+    record {
+      some = left _ _ h₁;
+      blanks = right (nonEmpty s) _ h₁;
+      name = left _ _ h₂;
+      blanks₂ = left _ _ h₃;
+      blanks₃ = left _ _ h₄;
+      value = right (every blank after) _ h₄;
+    }
+
+-- the bytes of an attribute and what follows it, from the name on
+abbrev pub fromName : List ℕ → List ℕ → List ℕ → Quote → List Part → List ℕ → List ℕ
+fromName n before after q v r = n ++ (before ++ (61 ∷ (after ++ (quoteByte q ∷ (printParts v ++ (quoteByte q ∷ r))))))
+
+pub spread : (s n before after : List ℕ) (q : Quote) (v : List Part) (r : List ℕ)
+    → printAttribute (attribute s n before after q v) ++ r ≡ s ++ fromName n before after q v r
+unfolding printAttribute
+spread s n before after q v r = simp append-assoc
+
+pub attribute-back : (a : Attribute) (r : List ℕ) → formedAttribute a ≡ true → readAttribute (printAttribute a ++ r) ≡ got a r
+unfolding readAttributeFrom readWord
+attribute-back (attribute s n before after q v) r h =
+    let f = formed-parts s n before after q v h in
+    let t₅ : List ℕ = quoteByte q ∷ r in
+    let t₄ : List ℕ = printParts v ++ t₅ in
+    let t₃ : List ℕ = quoteByte q ∷ t₄ in
+    let t₁ : List ℕ = 61 ∷ (after ++ t₃) in
+    let t₀ : List ℕ = before ++ t₁ in
+    let stop₁ = name-stops-blanks n t₀ (f .name) in
+    let stop₂ = blanks-stop-name before t₁ (f .blanks₂) (equals .0) in
+    let stop₃ = quote-stops q t₄ .1 in
+    rw (
+      spread s n before after q v r,
+      front-of blank s (n ++ t₀) (f .blanks) stop₁,
+      back-of blank s (n ++ t₀) (f .blanks) stop₁,
+      name-back n t₀ (f .name) stop₂,
+      front-of blank before t₁ (f .blanks₂) (equals .1),
+      back-of blank before t₁ (f .blanks₂) (equals .1),
+      front-of blank after t₃ (f .blanks₃) stop₃,
+      back-of blank after t₃ (f .blanks₃) stop₃,
+      quote-back q t₄,
+      parts-back (inValue (quoteByte q)) (λ b k. text-no-amp b (value-text (quoteByte q) b k)) (length t₄) v t₅ (f .value) (quote-stops q r .0)
+          (omega (arith, parts-length v, length-append (printParts v) t₅)),
+      eq-eqb (quoteByte q) (quoteByte q) refl,
+    )
+
+pub name-ahead : (n r : List ℕ) → nameForm n ≡ true → nameAhead (n ++ r) ≡ true
+unfolding nameForm
+name-ahead [] r h = absurd (false≢true h)
+name-ahead (b ∷ n) r h = left _ _ h
+
+pub ahead-of : (a : Attribute) (r : List ℕ) → formedAttribute a ≡ true → attributeAhead (printAttribute a ++ r) ≡ true
+ahead-of (attribute s n before after q v) r h =
+    let f = formed-parts s n before after q v h in
+    let t₀ : List ℕ = before ++ (61 ∷ (after ++ (quoteByte q ∷ (printParts v ++ (quoteByte q ∷ r))))) in
+    let stop = name-stops-blanks n t₀ (f .name) in
+    rw (spread s n before after q v r, front-of blank s (n ++ t₀) (f .blanks) stop, back-of blank s (n ++ t₀) (f .blanks) stop, f .some)
+    (name-ahead n t₀ (f .name))
+
+pub attribute-length : (a : Attribute) → formedAttribute a ≡ true → 1 ≤ length (printAttribute a)
+unfolding printAttribute
+attribute-length (attribute [] n before after q v) h = absurd (false≢true (formed-parts [] n before after q v h .some))
+attribute-length (attribute (b ∷ s) n before after q v) h = omega arith
+
+pub attributes-length : (l : List Attribute) → every formedAttribute l ≡ true → length l ≤ length (printAttributes l)
+unfolding printAttributes every
+attributes-length [] h = omega arith
+attributes-length (a ∷ l) h =
+    omega (arith, length-append (printAttribute a) (printAttributes l), attribute-length a (left _ _ h), attributes-length l (right (formedAttribute a) _ h))
+
+pub attributes-back : (steps : ℕ) (l : List Attribute) (r : List ℕ) → every formedAttribute l ≡ true → attributeAhead r ≡ false → length l ≤ steps
+    → readAttributes steps (printAttributes l ++ r) ≡ got l r
+unfolding readAttributes printAttributes every
+attributes-back zero [] r h s k = refl
+attributes-back zero (a ∷ l) r h s k = absurd (omega arith)
+attributes-back (suc steps) [] r h s k = rw s
+attributes-back (suc steps) (a ∷ l) r h s k =
+    let now : formedAttribute a ≡ true = left _ _ h in
+    let rest : every formedAttribute l ≡ true = right (formedAttribute a) _ h in
+    rw (
+      append-assoc (printAttribute a) (printAttributes l) r,
+      ahead-of a (printAttributes l ++ r) now,
+      attribute-back a (printAttributes l ++ r) now,
+      attributes-back steps l r rest s (omega arith),
+    )

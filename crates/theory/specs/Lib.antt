@@ -1,0 +1,10 @@
+pub mod Words
+pub mod Prefix
+pub mod Walk
+pub mod Order
+pub mod Calls
+pub mod History
+pub mod Elements
+pub mod Folders
+pub mod Examples
+pub mod Limits
