@@ -92,6 +92,7 @@ fn left() {
     say::left(b"<a><a/></b>");
     say::left(b"<a><a/></a>");
     say::short(b"<a");
+    say::strange(b"<a");
 }
 
 fn main() {

@@ -112,6 +112,17 @@ pub fn left(report: &[u8]) {
     print_listing(&a, &run, done.counters);
 }
 
+// An automaton that fails the shape test: its count of folders is out of range.
+pub fn strange(report: &[u8]) {
+    let mut a = [0u8; 65536];
+    let mut run = [0u8; 65536];
+    line(report);
+    build(b"(folders\n)\n", &mut a);
+    a[3] = 255;
+    let done = file_by(&a, &mut run, none(), report);
+    print_answer(done.refusal);
+}
+
 // A run that is too short: 1 comes before all else.
 pub fn short(report: &[u8]) {
     let mut a = [0u8; 65536];
