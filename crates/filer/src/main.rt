@@ -4,7 +4,7 @@ mod files;
 mod page;
 
 use filing::limits::LISTING_SIZE;
-use filing::report::MAX_REPORT;
+use filing::limits::MAX_REPORT;
 use machine::layout::AUTOMATON_SIZE;
 use machine::run::layout::RUN_SIZE;
 use notation::limits::MAX_SET_BYTES;

@@ -1,4 +1,5 @@
 // Filing a report (paper 01: Reports): its tokens in order, each given to the machine as what it is in the tree.
+use crate::limits::MAX_REPORT;
 use crate::scan::all_listed;
 use crate::tokens::Found;
 use crate::tokens::end_of;
@@ -23,9 +24,6 @@ ghost use Rattle.documents.specs.Reading.{readToken, readReport};
 ghost use Rattle.filing.specs.Seen.{foundOf, tagName};
 ghost use Rattle.filing.specs.FileCall.{Files, thenGo, openOutcome, closeOutcome, textOutcome, endOutcome, runOutcome, reportOutcome};
 ghost use Rattle.filing.specs.Taking.{openNumber, so, Takes, Leaves, foundOutcome, tornAt, runFrom};
-
-// The most bytes that a report may have.
-pub const MAX_REPORT: usize = 65536;
 
 // What calls answer: the refusal, 0 for none, and the counters after them.
 pub struct Taken {
