@@ -4,9 +4,9 @@ use filing::listing::write_listing;
 use filing::listing::write_refused;
 use filing::report::Taken;
 use filing::report::file_by;
-use machine::answers::Written;
 use machine::build::build;
-use machine::counters::Counters;
+use stored::answers::Written;
+use stored::counters::Counters;
 
 fn put(s: &[u8]) {
     let mut i = 0;

@@ -1,8 +1,8 @@
 // What is answered, printed.
 use cases::say::bytes;
 use cases::say::count;
-use machine::answers::Written;
 use notation::reads;
+use stored::answers::Written;
 
 // What writing a set back answered.
 pub fn written(name: &[u8], w: Written) {

@@ -1,10 +1,6 @@
 // The calls, each with what it answers printed.
 use cases::say::bytes;
 use cases::say::count;
-use machine::answers::Asked;
-use machine::answers::Length;
-use machine::answers::Opened;
-use machine::counters::Counters;
 use machine::run::asking;
 use machine::run::close;
 use machine::run::open;
@@ -12,6 +8,10 @@ use machine::run::start;
 use notation::FolderNumber;
 use notation::PathPlace;
 use notation::reads;
+use stored::answers::Asked;
+use stored::answers::Length;
+use stored::answers::Opened;
+use stored::counters::Counters;
 
 pub fn made(opens: usize, closes: usize, moves: usize) -> Counters {
     Counters {

@@ -5,8 +5,8 @@ use cases::expand::expand;
 use cases::say;
 use cases::words;
 use machine::build;
-use machine::counters::Counters;
 use machine::run::open;
+use stored::counters::Counters;
 
 // The counters, and how many bytes of the two buffers are lent.
 pub struct State {

@@ -7,7 +7,7 @@ use Rattle.io.specs.Counts.{Counts}
 use Rattle.notation.specs.Sets.{FolderSet}
 use Rattle.notation.specs.Accepted.{Accepted}
 use Rattle.notation.specs.Scan.{refusalOf}
-use Rattle.machine.specs.declared.answers.Written.{Written}
+use Rattle.stored.specs.declared.answers.Written.{Written}
 use Rattle.filing.specs.Listing.{refusedLine, filerPrints}
 
 abbrev pub sizeOf : Written → ℕ

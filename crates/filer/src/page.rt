@@ -1,11 +1,11 @@
 // What is printed, at the start of a lent page of filing's LISTING_SIZE bytes.
 use filing::printing::print_filing;
-use machine::answers::Written;
+use stored::answers::Written;
 ghost use mathlib.Core.Path.{_≡_};
 ghost use Prim.Native.Nat.{_≤_};
 ghost use lib.ListN.{length};
-ghost use Rattle.machine.specs.Automaton.{automatonSize};
-ghost use Rattle.machine.specs.Run.{runSize};
+ghost use Rattle.stored.specs.Automaton.{automatonSize};
+ghost use Rattle.stored.specs.Run.{runSize};
 ghost use Rattle.filing.specs.Limits.{listingSize};
 ghost use Rattle.filer.specs.Shows.{Shows, sizeOf};
 

@@ -9,9 +9,9 @@ use lib.ListN.{length}
 use Rattle.notation.specs.Names.{Name}
 use Rattle.notation.specs.Form.{every}
 use Rattle.notation.specs.Refusals.{oversize, foreignByte, torn, looseEnd, numberOf}
-use Rattle.machine.specs.RunCalls.{depthOf, startRefusal, openRefusal, openRun, openCounters, closeRefusal, closeRun, closeCounters}
-use Rattle.machine.specs.Demand3.{Left, started}
-use Rattle.machine.specs.declared.counters.Counters.{Counters}
+use Rattle.stored.specs.RunCalls.{depthOf, startRefusal, openRefusal, openRun, openCounters, closeRefusal, closeRun, closeCounters}
+use Rattle.stored.specs.Demand3.{Left, started}
+use Rattle.stored.specs.declared.counters.Counters.{Counters}
 use Rattle.filing.specs.Limits.{maxReportBytes}
 use Rattle.documents.specs.Tokens.{Token, blank, listed}
 use Rattle.documents.specs.Reading.{Read, fail, got, readReport}

@@ -8,10 +8,10 @@ use lib.ListN.{length, drop}
 use Rattle.notation.specs.Sets.{FolderSet}
 use Rattle.notation.specs.Scan.{refusalOf}
 use Rattle.notation.specs.Accepted.{Accepted}
-use Rattle.machine.specs.Automaton.{automatonOf, automatonSize}
-use Rattle.machine.specs.RunCalls.{tooShort, noCounters}
-use Rattle.machine.specs.declared.answers.Written.{Written}
-use Rattle.machine.specs.declared.counters.Counters.{Counters}
+use Rattle.stored.specs.Automaton.{automatonOf, automatonSize}
+use Rattle.stored.specs.RunCalls.{tooShort, noCounters}
+use Rattle.stored.specs.declared.answers.Written.{Written}
+use Rattle.stored.specs.declared.counters.Counters.{Counters}
 use Rattle.filing.specs.Limits.{listingSize}
 use Rattle.filing.specs.FileCall.{fileAnswer, fileLeft}
 use Rattle.filing.specs.Listing.{refusedLine, filerPrints}

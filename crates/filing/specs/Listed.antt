@@ -14,10 +14,10 @@ use Rattle.notation.specs.declared.reads.FolderAt.{FolderAt}
 use Rattle.theory.specs.Words.{any}
 use Rattle.theory.specs.Folders.{countFrom}
 use Rattle.theory.specs.Order.{Condition, gives}
-use Rattle.machine.specs.RunCalls.{shaped, tooShort, given}
-use Rattle.machine.specs.Asking.{placeMatched, pathsOfFolder}
-use Rattle.machine.specs.declared.answers.Written.{Written}
-use Rattle.machine.specs.declared.counters.Counters.{Counters}
+use Rattle.stored.specs.RunCalls.{shaped, tooShort, given}
+use Rattle.stored.specs.Asking.{placeMatched, pathsOfFolder}
+use Rattle.stored.specs.declared.answers.Written.{Written}
+use Rattle.stored.specs.declared.counters.Counters.{Counters}
 use Rattle.filing.specs.Limits.{listingSize}
 use Rattle.filing.specs.Listing.{filedHeader, movesLine, refusedLine}
 

@@ -6,11 +6,11 @@ use mathlib.Core.List.{List}
 use lib.Dec.{eqb, leb}
 use Rattle.notation.specs.Names.{Name}
 use Rattle.notation.specs.Refusals.{torn, numberOf}
-use Rattle.machine.specs.RunCalls.{startRun}
-use Rattle.machine.specs.Demand3.{Left}
-use Rattle.machine.specs.declared.counters.Counters.{Counters}
-use Rattle.machine.specs.declared.answers.Opened.{Opened}
-use Rattle.machine.specs.declared.answers.Opened.the-variants.{Accepted, Refused}
+use Rattle.stored.specs.RunCalls.{startRun}
+use Rattle.stored.specs.Demand3.{Left}
+use Rattle.stored.specs.declared.counters.Counters.{Counters}
+use Rattle.stored.specs.declared.answers.Opened.{Opened}
+use Rattle.stored.specs.declared.answers.Opened.the-variants.{Accepted, Refused}
 use Rattle.filing.specs.declared.tokens.Found.{Found}
 use Rattle.filing.specs.declared.tokens.Found.the-variants.{Nothing, Declaration, Comment, Start, Empty, End, Text}
 use Rattle.documents.specs.Tokens.{Token}

@@ -1,6 +1,1 @@
 pub mod Lent
-pub mod Bytes
-pub mod Tables
-pub mod Building
-pub mod Shapes
-pub mod Running

@@ -4,7 +4,7 @@ ghost use mathlib.Core.Path.{_≡_};
 ghost use mathlib.Core.Bool.{_&&_, _||_};
 ghost use Prim.Native.Nat.{ℕ, _<_, _≤_};
 ghost use lib.Dec.{eqb};
-ghost use Rattle.machine.specs.Bits.{bitOf, bitIn, bitBefore};
+ghost use Rattle.stored.specs.Bits.{bitOf, bitIn, bitBefore};
 
 // Bit k of a byte.
 pub fn bit_of(b: usize, k: usize) -> bool

@@ -12,9 +12,9 @@ ghost use mathlib.Core.Path.{_≡_};
 ghost use mathlib.Core.List.{_++_};
 ghost use Prim.Native.Nat.{_-_, _≤_};
 ghost use lib.ListN.{length, take, drop, replicate};
-ghost use Rattle.machine.specs.Automaton.{automatonSize};
-ghost use Rattle.machine.specs.Build.{Built};
-ghost use Rattle.machine.specs.Passes.{ReadIn, cleared, made};
+ghost use Rattle.stored.specs.Automaton.{automatonSize};
+ghost use Rattle.stored.specs.Build.{Built};
+ghost use Rattle.stored.specs.Passes.{ReadIn, cleared, made};
 
 // Zeros from byte `from` up to byte `to`.
 fn clear_between(part: &mut [u8], from: usize, to: usize)

@@ -1,7 +1,7 @@
 // The hash of a name: every byte of it, 31 h + b modulo 256.
 ghost use mathlib.Core.Path.{_≡_};
 ghost use Prim.Native.Nat.{_<_};
-ghost use Rattle.machine.specs.Automaton.{hash};
+ghost use Rattle.stored.specs.Automaton.{hash};
 
 fn wide(b: u8) -> usize
     ensures { λ r. ⌜ (r ≡ b) × (r < 256) ⌝ }

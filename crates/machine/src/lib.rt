@@ -1,8 +1,6 @@
 // The shared machine of a folder set: its automaton, its run and the calls on them.
-pub mod answers;
 mod bits;
 pub mod build;
-pub mod counters;
 mod hash;
 pub mod layout;
 pub mod run;

@@ -2,21 +2,16 @@
 ghost use mathlib.Core.Path.{_≡_};
 ghost use Prim.Native.Nat.{suc, _≤_, _<_};
 ghost use Rattle.notation.specs.Reads.{labelCount};
-ghost use Rattle.machine.specs.Automaton.{hash};
-ghost use Rattle.machine.specs.Tables.{sizeOf, failOf, follows, goto, walkOver};
-ghost use Rattle.machine.specs.Walkable.{Searchable, Walkable};
+ghost use Rattle.stored.specs.Automaton.{hash};
+ghost use Rattle.stored.specs.Tables.{sizeOf, failOf, follows, goto, walkOver};
+ghost use Rattle.stored.specs.Walkable.{Searchable, Walkable};
 use crate::layout::HEADS_AT;
 use crate::layout::LINK_SIZE;
 use crate::layout::LINKS_AT;
 use notation::names::same_name;
 use notation::reads::label_name;
 use notation::reads::word_at;
-
-// Where a walk arrived, and by how many failure moves.
-pub struct Walk {
-    pub moves: usize,
-    pub state: usize,
-}
+use stored::walk::Walk;
 
 // The length of the word of state `q`.
 pub fn size_of(a: &[u8], q: usize) -> usize

@@ -1,11 +1,11 @@
 // Writing an automaton's set back.
-use crate::answers::Written;
 use crate::layout::AUTOMATON_SIZE;
 use crate::shape::automaton_shaped;
 use notation::limits::MAX_SET_BYTES;
 use notation::reads;
 use notation::store::copy;
-ghost use Rattle.machine.specs.Build.{SetWritten};
+use stored::answers::Written;
+ghost use Rattle.stored.specs.Build.{SetWritten};
 
 // Writes the text of an automaton's set and answers its length, or the number of the refusal: 1 for a short automaton or buffer, 14 for
 // bytes that are no automaton. Bytes past the text stay.

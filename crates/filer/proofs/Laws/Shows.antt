@@ -8,9 +8,9 @@ use lib.ListN.{length, take, drop, length-append}
 use lib.Seq.{length-take-le, take-append-seam}
 use borrow.Author.Tests.{le-ltb}
 use Rattle.io.specs.Counts.{Counts}
-use Rattle.machine.specs.Automaton.{automatonSize}
-use Rattle.machine.specs.Run.{runSize}
-use Rattle.machine.specs.declared.answers.Written.{Written}
+use Rattle.stored.specs.Automaton.{automatonSize}
+use Rattle.stored.specs.Run.{runSize}
+use Rattle.stored.specs.declared.answers.Written.{Written}
 use Rattle.filing.specs.Limits.{listingSize}
 use Rattle.filing.specs.Listing.{refusedLine}
 use Rattle.filing.specs.Filer.{tooSmall, PrintsText, Prints}

@@ -3,8 +3,8 @@ use Prim.Native.Nat.{ℕ}
 use native.Mathlib.Omega.{arith}
 use lib.ListN.{length-replicate}
 use Rattle.notation.specs.Limits.{maxSetBytes}
-use Rattle.machine.specs.Automaton.{automatonSize}
-use Rattle.machine.specs.Run.{runSize}
+use Rattle.stored.specs.Automaton.{automatonSize}
+use Rattle.stored.specs.Run.{runSize}
 use Rattle.filing.specs.Limits.{maxMovesLine, listingSize}
 use borrow.Author.Needs.{needs}
 use Rattle.filer.proofs.print_filed.Statement.{statement}

@@ -37,9 +37,9 @@ use denote.Triple.Clauses.{ensured, lasts, Ended, Clauses, closing}
 use denote.Triple.Walked.{says, Stays, stay-none-slice, gave-slice, stay-ref, walkOf, AllGo, goes-none-slice, goes-gave-slice, goes-ref, Walks, ends-at, walked, walk-meets}
 use denote.Exit.{yes}
 use denote.Signature.{plain, Signature}
-use Rattle.machine.specs.declared.counters.Counters.{Counters}
-use Rattle.machine.proofs.counters.Counters as T
-use Rattle.machine.proofs.counters.Counters.Laws as T′
+use Rattle.stored.specs.declared.counters.Counters.{Counters}
+use Rattle.stored.proofs.counters.Counters as T
+use Rattle.stored.proofs.counters.Counters.Laws as T′
 use lib.Dec.{T as Holds}
 
 -- the MIR of a call on lent counters: the answer's type, the callee's struct of the answer and the counters, and the callee's key

@@ -11,8 +11,8 @@ ghost use mathlib.Core.Path.{_≡_};
 ghost use mathlib.Core.Bool.{true, not};
 ghost use Prim.Native.Nat.{_+_, _*_, _^_, _≤_, _<_};
 ghost use lib.ListN.{length};
-ghost use Rattle.machine.specs.Automaton.{automatonSize, maskSize, bit};
-ghost use Rattle.machine.specs.Masks.{withBit, marked, axisMask, markRole, markStep, markSteps, markPath, withMasks, childAt, rooted, anyRooted, withStart};
+ghost use Rattle.stored.specs.Automaton.{automatonSize, maskSize, bit};
+ghost use Rattle.stored.specs.Masks.{withBit, marked, axisMask, markRole, markStep, markSteps, markPath, withMasks, childAt, rooted, anyRooted, withStart};
 ghost use Rattle.notation.specs.Reads.{stepAt, pathCount};
 
 const POWERS: [usize; 8] = [1, 2, 4, 8, 16, 32, 64, 128];

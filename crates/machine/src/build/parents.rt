@@ -10,22 +10,16 @@ use notation::reads;
 use notation::reads::PathAt;
 use notation::reads::StepAt;
 use notation::store::put16;
+use stored::place::Place;
 ghost use mathlib.Core.Path.{_≡_};
 ghost use Prim.Native.Nat.{suc, _+_, _≤_, _<_};
 ghost use lib.ListN.{length};
 ghost use Rattle.notation.specs.Limits.{maxLabels};
 ghost use Rattle.notation.specs.Reads.{pathAt, stepCount, labelCount, labelName};
-ghost use Rattle.machine.specs.Automaton.{automatonSize};
-ghost use Rattle.machine.specs.Tables.{goto};
-ghost use Rattle.machine.specs.Walkable.{Searchable};
-ghost use Rattle.machine.specs.Parents.{startsAt, entered, wordStored, labelled, passed, parented, outset, Sound};
-
-// How far the pass is: the labels and the paths met, and the state of the word before the next step.
-pub struct Place {
-    pub labels: usize,
-    pub paths: usize,
-    pub state: usize,
-}
+ghost use Rattle.stored.specs.Automaton.{automatonSize};
+ghost use Rattle.stored.specs.Tables.{goto};
+ghost use Rattle.stored.specs.Walkable.{Searchable};
+ghost use Rattle.stored.specs.Parents.{startsAt, entered, wordStored, labelled, passed, parented, outset, Sound};
 
 // Whether path `p` begins with step `i`.
 fn starts_path(part: &[u8], p: usize, i: usize) -> bool

@@ -1,6 +1,4 @@
 // The calls that ask a run, and change nothing.
-use crate::answers::Asked;
-use crate::answers::Length;
 use crate::bits::bit_in;
 use crate::run::layout::ACTIVE_IN;
 use crate::run::layout::MATCHES_AT;
@@ -15,15 +13,17 @@ use notation::reads;
 use notation::reads::FolderAt;
 use notation::reads::FolderIndex;
 use notation::reads::PathAt;
+use stored::answers::Asked;
+use stored::answers::Length;
 ghost use mathlib.Core.Path.{_≡_};
 ghost use Prim.Native.Nat.{_+_, _-_, _≤_};
 ghost use Rattle.notation.specs.Names.{within};
 ghost use Rattle.theory.specs.Words.{any};
 ghost use Rattle.theory.specs.Folders.{countFrom};
 ghost use Rattle.notation.specs.Reads.{pathAt, folderAt};
-ghost use Rattle.machine.specs.Openable.{Ready};
-ghost use Rattle.machine.specs.RunCalls.{depthOf, activeAt};
-ghost use Rattle.machine.specs.Asking.{answered, hasPath, placeMatched, pathsOfFolder, askRefusal, askPath, askFolder, askStep, askPrefix, askName, nameRefusal};
+ghost use Rattle.stored.specs.Openable.{Ready};
+ghost use Rattle.stored.specs.RunCalls.{depthOf, activeAt};
+ghost use Rattle.stored.specs.Asking.{answered, hasPath, placeMatched, pathsOfFolder, askRefusal, askPath, askFolder, askStep, askPrefix, askName, nameRefusal};
 
 fn answer(refused: u8, yes: bool) -> Asked
     ensures { λ r. ⌜ r ≡ answered refused yes ⌝ }

@@ -18,10 +18,10 @@ ghost use Rattle.notation.specs.Activity.{sameName};
 ghost use Rattle.notation.specs.Layout.{setSize};
 ghost use Rattle.notation.specs.Reads.{word16, labelCount, labelEntryAt, labelName, textSlice};
 ghost use Rattle.theory.specs.Words.{any};
-ghost use Rattle.machine.specs.Automaton.{maskSize, hash};
-ghost use Rattle.machine.specs.Bits.{bitAt};
-ghost use Rattle.machine.specs.Chain.{chainLabels, ownLabel};
-ghost use Rattle.machine.specs.Openable.{Openable};
+ghost use Rattle.stored.specs.Automaton.{maskSize, hash};
+ghost use Rattle.stored.specs.Bits.{bitAt};
+ghost use Rattle.stored.specs.Chain.{chainLabels, ownLabel};
+ghost use Rattle.stored.specs.Openable.{Openable};
 
 fn set_bit(out: &mut [u8], i: usize)
     requires { ⌜ i / 8 < length (now out) ⌝ }

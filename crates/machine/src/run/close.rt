@@ -1,17 +1,17 @@
 // A close: the innermost element's row becomes zero.
-use crate::answers::ClosedBy;
-use crate::counters::Counters;
 use crate::run::layout::ROW_SIZE;
 use crate::run::refusals;
 use crate::run::row;
 use crate::run::rows;
 use crate::run::shape;
 use notation::store::put16;
+use stored::answers::ClosedBy;
+use stored::counters::Counters;
 ghost use mathlib.Core.Path.{_≡_};
 ghost use Prim.Native.Nat.{_<_};
-ghost use Rattle.machine.specs.RunContracts.{Closes, ClosesBy};
-ghost use Rattle.machine.specs.Openable.{Ready, Usable};
-ghost use Rattle.machine.specs.RunCalls.{depthOf, closeRun};
+ghost use Rattle.stored.specs.RunContracts.{Closes, ClosesBy};
+ghost use Rattle.stored.specs.Openable.{Ready, Usable};
+ghost use Rattle.stored.specs.RunCalls.{depthOf, closeRun};
 
 // A close that is accepted: for callers that know the shape of automaton and run, and that an element is open. The row of the innermost
 // element is lent to the function that clears it.

@@ -1,7 +1,4 @@
 // An open: the walk, and the new element's row.
-use crate::answers::Opened;
-use crate::answers::OpenedBy;
-use crate::counters::Counters;
 use crate::hash::hash_of;
 use crate::layout::MASK_SIZE;
 use crate::run::candidates;
@@ -12,18 +9,21 @@ use crate::run::rows;
 use crate::run::shape;
 use crate::run::steps;
 use crate::walk;
-use crate::walk::Walk;
 use notation::store::put16;
+use stored::answers::Opened;
+use stored::answers::OpenedBy;
+use stored::counters::Counters;
+use stored::walk::Walk;
 ghost use mathlib.Core.Path.{_≡_};
 ghost use Prim.Native.Nat.{suc, _≤_, _<_};
 ghost use lib.ListN.{length};
 ghost use Rattle.notation.specs.Limits.{maxName, maxSteps};
 ghost use Rattle.theory.specs.Limits.{maxDepth};
-ghost use Rattle.machine.specs.Automaton.{hash};
-ghost use Rattle.machine.specs.RunContracts.{Opens, OpensBy};
-ghost use Rattle.machine.specs.Openable.{Openable, Ready, Usable};
-ghost use Rattle.machine.specs.Run.{runSize};
-ghost use Rattle.machine.specs.RunCalls.{depthOf, usedBits, nowActive, nowSeen, nowMatched, openRun, openWalk, storedBits, nameStored};
+ghost use Rattle.stored.specs.Automaton.{hash};
+ghost use Rattle.stored.specs.RunContracts.{Opens, OpensBy};
+ghost use Rattle.stored.specs.Openable.{Openable, Ready, Usable};
+ghost use Rattle.stored.specs.Run.{runSize};
+ghost use Rattle.stored.specs.RunCalls.{depthOf, usedBits, nowActive, nowSeen, nowMatched, openRun, openWalk, storedBits, nameStored};
 
 // The bits of the new element, in its row and in the matches. `h` is the hash of its name, and d the depth before.
 fn mark(a: &[u8], run: &mut [u8], e: &[u8], h: usize, d: usize)

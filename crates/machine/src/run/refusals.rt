@@ -1,5 +1,4 @@
 // The refusals of the calls on a run, each in its order.
-use crate::counters::Counters;
 use crate::layout::AUTOMATON_SIZE;
 use crate::run::layout::MAX_DEPTH;
 use crate::run::layout::MAX_OPENS;
@@ -9,13 +8,14 @@ use crate::run::rows;
 use crate::run::shape;
 use crate::shape::automaton_shaped;
 use notation::names;
+use stored::counters::Counters;
 ghost use mathlib.Core.Path.{_≡_};
 ghost use mathlib.Core.Bool.{_&&_};
 ghost use Prim.Native.Nat.{_≤_};
-ghost use Rattle.machine.specs.Shape.{automatonShaped};
-ghost use Rattle.machine.specs.RunCalls.{depthOf, storedName, runShaped, shaped, rootShut, given, lentConditions, nameConditions, openOthers, closeOthers};
-ghost use Rattle.machine.specs.Asking.{askRefusal};
-ghost use Rattle.machine.specs.Openable.{Ready};
+ghost use Rattle.stored.specs.Shape.{automatonShaped};
+ghost use Rattle.stored.specs.RunCalls.{depthOf, storedName, runShaped, shaped, rootShut, given, lentConditions, nameConditions, openOthers, closeOthers};
+ghost use Rattle.stored.specs.Asking.{askRefusal};
+ghost use Rattle.stored.specs.Openable.{Ready};
 
 // Automaton and run pass the shape test.
 fn both_shaped(a: &[u8], run: &[u8]) -> bool

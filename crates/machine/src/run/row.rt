@@ -15,9 +15,9 @@ ghost use lib.Seq.{sets};
 ghost use Rattle.notation.specs.Limits.{maxName, maxPaths, maxSteps};
 ghost use Rattle.notation.specs.Layout.{padded};
 ghost use Rattle.notation.specs.Reads.{stepCount};
-ghost use Rattle.machine.specs.Automaton.{maskSize};
-ghost use Rattle.machine.specs.Run.{activeIn, seenIn, rowSize};
-ghost use Rattle.machine.specs.RunCalls.{usedBytes, rowCleared, rowNamed};
+ghost use Rattle.stored.specs.Automaton.{maskSize};
+ghost use Rattle.stored.specs.Run.{activeIn, seenIn, rowSize};
+ghost use Rattle.stored.specs.RunCalls.{usedBytes, rowCleared, rowNamed};
 
 // Bytes of a row of bits that the automaton's steps use.
 pub fn used_bytes(a: &[u8]) -> usize

@@ -6,8 +6,8 @@ use notation::reads;
 ghost use mathlib.Core.Path.{_≡_};
 ghost use Prim.Native.Nat.{_+_, _≤_, _<_};
 ghost use Rattle.theory.specs.Limits.{maxDepth};
-ghost use Rattle.machine.specs.Run.{rowAt, rowSize, runSize};
-ghost use Rattle.machine.specs.RunCalls.{nameLength, stateAt};
+ghost use Rattle.stored.specs.Run.{rowAt, rowSize, runSize};
+ghost use Rattle.stored.specs.RunCalls.{nameLength, stateAt};
 
 // Where the row of a depth stands.
 pub fn row_at(d: usize) -> usize

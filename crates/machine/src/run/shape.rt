@@ -1,15 +1,15 @@
 // The shape test of a run and of its counters.
-use crate::counters::Counters;
 use crate::run::layout::MAX_DEPTH;
 use crate::run::layout::MAX_OPENS;
 use crate::run::rows::name_length;
 use crate::run::rows::state_at;
 use notation::limits::MAX_NAME;
 use notation::reads;
+use stored::counters::Counters;
 ghost use mathlib.Core.Path.{_≡_};
 ghost use Prim.Native.Nat.{_<_, _≤_};
 ghost use Rattle.theory.specs.Limits.{maxDepth};
-ghost use Rattle.machine.specs.RunCalls.{depthOf, rowShaped, runShaped, countersShaped};
+ghost use Rattle.stored.specs.RunCalls.{depthOf, rowShaped, runShaped, countersShaped};
 
 // The count of open elements.
 pub fn depth(run: &[u8]) -> usize

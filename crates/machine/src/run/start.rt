@@ -1,6 +1,4 @@
 // A start: a fresh run, whatever the run held.
-use crate::answers::Started;
-use crate::counters::Counters;
 use crate::layout::AUTOMATON_SIZE;
 use crate::layout::START_AT;
 use crate::run::layout::ROWS_AT;
@@ -10,13 +8,15 @@ use crate::shape;
 use notation::reads;
 use notation::store::clear;
 use notation::store::put16;
+use stored::answers::Started;
+use stored::counters::Counters;
 ghost use mathlib.Core.Path.{_≡_};
 ghost use mathlib.Core.List.{_++_};
 ghost use Prim.Native.Nat.{_≤_};
 ghost use lib.ListN.{length, drop, replicate};
-ghost use Rattle.machine.specs.Run.{runSize};
-ghost use Rattle.machine.specs.RunCalls.{startRun, startRefusal};
-ghost use Rattle.machine.specs.RunContracts.{Starts, StartsBy};
+ghost use Rattle.stored.specs.Run.{runSize};
+ghost use Rattle.stored.specs.RunCalls.{startRun, startRefusal};
+ghost use Rattle.stored.specs.RunContracts.{Starts, StartsBy};
 
 fn clear_run(run: &mut [u8])
     requires { ⌜ runSize ≤ length (now run) ⌝ }

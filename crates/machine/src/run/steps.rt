@@ -14,10 +14,10 @@ ghost use Prim.Native.Nat.{ℕ, suc, _+_, _*_, _≤_, _<_};
 ghost use lib.Dec.{eqb};
 ghost use lib.ListN.{length, getD, set};
 ghost use Rattle.theory.specs.Limits.{maxDepth};
-ghost use Rattle.machine.specs.Automaton.{maskSize, automatonSize};
-ghost use Rattle.machine.specs.Bits.{bitOf, bitIn, bitAt};
-ghost use Rattle.machine.specs.Run.{runSize, rowAt, activeIn, seenIn, matchesAt};
-ghost use Rattle.machine.specs.RunCalls.{maskBit, shifted, permitted, seenAt, matchedAt, byteMarked, bitsMarked};
+ghost use Rattle.stored.specs.Automaton.{maskSize, automatonSize};
+ghost use Rattle.stored.specs.Bits.{bitOf, bitIn, bitAt};
+ghost use Rattle.stored.specs.Run.{runSize, rowAt, activeIn, seenIn, matchesAt};
+ghost use Rattle.stored.specs.RunCalls.{maskBit, shifted, permitted, seenAt, matchedAt, byteMarked, bitsMarked};
 
 fn narrow(b: usize) -> u8
     requires { ⌜ b < 256 ⌝ }

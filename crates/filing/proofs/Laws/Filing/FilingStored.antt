@@ -14,14 +14,14 @@ use Rattle.notation.specs.Sets.{FolderSet}
 use Rattle.notation.specs.Refusals.{Refusal, looseEnd, numberOf}
 use Rattle.theory.specs.Order.{numberIn}
 use Rattle.theory.specs.Calls.{asLeft, openCall, closeCall, Level, State, fresh, refusal, step, after}
-use Rattle.machine.specs.Run.{runSize}
-use Rattle.machine.specs.RunCalls.{openRefusal, openRun, openCounters, closeRefusal, closeRun, closeCounters}
-use Rattle.machine.specs.Demand3.{openAsLeft, closeAsLeft, Left, started, leftAfter}
+use Rattle.stored.specs.Run.{runSize}
+use Rattle.stored.specs.RunCalls.{openRefusal, openRun, openCounters, closeRefusal, closeRun, closeCounters}
+use Rattle.stored.specs.Demand3.{openAsLeft, closeAsLeft, Left, started, leftAfter}
 use Rattle.theory.proofs.Laws.Basics.{cases}
 use Rattle.theory.proofs.Laws.Machine.Moves.{Few, fresh-few}
-use Rattle.machine.proofs.Laws.Running.Means.{Means}
-use Rattle.machine.proofs.Laws.Running.Following.{leftOf, few-after, number-none, one-leaves, left-by}
-use Rattle.machine.proofs.Laws.Shapes.Passing.{stored-depth, open-refused, close-refused}
+use Rattle.stored.proofs.Laws.Running.Means.{Means}
+use Rattle.stored.proofs.Laws.Running.Following.{leftOf, few-after, number-none, one-leaves, left-by}
+use Rattle.stored.proofs.Laws.Shapes.Passing.{stored-depth, open-refused, close-refused}
 use Rattle.filing.specs.Limits.{maxReportBytes}
 use Rattle.documents.specs.Tokens.{Token, listed}
 use Rattle.documents.specs.Reading.{Read, fail, got, readReport}

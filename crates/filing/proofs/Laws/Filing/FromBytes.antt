@@ -18,21 +18,21 @@ use Rattle.theory.specs.Words.{any}
 use Rattle.theory.specs.Calls.{Call, State, pathAt, fresh, run}
 use Rattle.theory.specs.History.{FittedAfterOpen}
 use Rattle.theory.specs.Folders.{placesOf, folderMatched, HasFolders}
-use Rattle.machine.specs.Automaton.{automatonOf}
-use Rattle.machine.specs.Run.{runSize, runOf}
-use Rattle.machine.specs.RunCalls.{startRefusal, startRun, noCounters}
-use Rattle.machine.specs.Asking.{yesNo, askPath, askFolder}
-use Rattle.machine.specs.Demand3.{Left, started, Answers, HasFolder, HasMatchedPath}
-use Rattle.machine.specs.declared.counters.Counters.{Counters}
-use Rattle.machine.specs.declared.answers.Asked.{Asked}
+use Rattle.stored.specs.Automaton.{automatonOf}
+use Rattle.stored.specs.Run.{runSize, runOf}
+use Rattle.stored.specs.RunCalls.{startRefusal, startRun, noCounters}
+use Rattle.stored.specs.Asking.{yesNo, askPath, askFolder}
+use Rattle.stored.specs.Demand3.{Left, started, Answers, HasFolder, HasMatchedPath}
+use Rattle.stored.specs.declared.counters.Counters.{Counters}
+use Rattle.stored.specs.declared.answers.Asked.{Asked}
 use Rattle.theory.proofs.Laws.Basics.{is-any}
 use Rattle.theory.proofs.Laws.Machine.Matches.{run-matched}
 use Rattle.theory.proofs.Laws.Machine.Moves.{Few, fresh-few}
-use Rattle.machine.proofs.Laws.Running.Means.{Means, means}
-use Rattle.machine.proofs.Laws.Running.FolderPlaces.{hasNumber}
-use Rattle.machine.proofs.Laws.Running.Asking.{asked, ask-folder}
-use Rattle.machine.proofs.Laws.Running.Following.{leftOf, number-none, few-run}
-use Rattle.machine.proofs.Laws.Running.Demand3.{path-answers, folder-answers, demand3-means}
+use Rattle.stored.proofs.Laws.Running.Means.{Means, means}
+use Rattle.stored.proofs.Laws.Running.FolderPlaces.{hasNumber}
+use Rattle.stored.proofs.Laws.Running.Asking.{asked, ask-folder}
+use Rattle.stored.proofs.Laws.Running.Following.{leftOf, number-none, few-run}
+use Rattle.stored.proofs.Laws.Running.Demand3.{path-answers, folder-answers, demand3-means}
 use Rattle.documents.specs.Document.{eventsOf, documentIn}
 use Rattle.filing.specs.Filing.{Filed, refused, filed, numberGiven, callsIn, fileReport}
 use Rattle.filing.specs.Demand2.{childlessIn, SelectsElement, FolderSelects, OfDocument}

@@ -10,14 +10,14 @@ use borrow.Author.Tests.{eq-eqb, ne-eqb, leb-false, lt-leb, lt-ltb, le-ltb}
 use Rattle.notation.specs.Names.{Name}
 use Rattle.notation.specs.Refusals.{torn, numberOf}
 use Rattle.notation.specs.Form.{every}
-use Rattle.machine.specs.RunCalls.{depthOf, startRefusal, startRun, openRefusal, openRun, openCounters, closeRefusal, closeRun, closeCounters, noCounters}
-use Rattle.machine.specs.RunContracts.{openAnswer, Starts, Opens, Closes}
-use Rattle.machine.specs.Openable.{Usable}
-use Rattle.machine.specs.Demand3.{Left, started}
-use Rattle.machine.specs.declared.counters.Counters.{Counters}
-use Rattle.machine.specs.declared.answers.Opened.{Opened}
-use Rattle.machine.proofs.Laws.Shapes.Kept.{start-usable, open-usable, close-usable}
-use Rattle.machine.proofs.Laws.Running.Restart.{start-restart, open-restart, close-restart}
+use Rattle.stored.specs.RunCalls.{depthOf, startRefusal, startRun, openRefusal, openRun, openCounters, closeRefusal, closeRun, closeCounters, noCounters}
+use Rattle.stored.specs.RunContracts.{openAnswer, Starts, Opens, Closes}
+use Rattle.stored.specs.Openable.{Usable}
+use Rattle.stored.specs.Demand3.{Left, started}
+use Rattle.stored.specs.declared.counters.Counters.{Counters}
+use Rattle.stored.specs.declared.answers.Opened.{Opened}
+use Rattle.stored.proofs.Laws.Shapes.Kept.{start-usable, open-usable, close-usable}
+use Rattle.stored.proofs.Laws.Running.Restart.{start-restart, open-restart, close-restart}
 use Rattle.filing.specs.Limits.{maxReportBytes}
 use Rattle.filing.specs.declared.tokens.Found.{Found}
 use Rattle.filing.specs.declared.tokens.Found.the-variants.{Nothing, Declaration, Comment, Start, Empty, End, Text}

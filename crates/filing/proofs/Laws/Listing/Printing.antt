@@ -15,15 +15,15 @@ use Rattle.notation.specs.Refusals.{Refusal, shortBuffer, oversize, bentForm, o
 use Rattle.notation.specs.Accepted.{Accepted}
 use Rattle.notation.proofs.Laws.Refused.AcceptedSet.{accepted-set, accepted-is}
 use Rattle.notation.proofs.Laws.Refused.Refusals.{refusal-low}
-use Rattle.machine.specs.Automaton.{automatonOf, automatonSize}
-use Rattle.machine.specs.Run.{runSize}
-use Rattle.machine.specs.RunCalls.{given, noCounters}
-use Rattle.machine.specs.Build.{buildAnswer, Built}
-use Rattle.machine.specs.Demand3.{Left}
-use Rattle.machine.specs.declared.answers.Written.{Written}
-use Rattle.machine.specs.declared.counters.Counters.{Counters}
+use Rattle.stored.specs.Automaton.{automatonOf, automatonSize}
+use Rattle.stored.specs.Run.{runSize}
+use Rattle.stored.specs.RunCalls.{given, noCounters}
+use Rattle.stored.specs.Build.{buildAnswer, Built}
+use Rattle.stored.specs.Demand3.{Left}
+use Rattle.stored.specs.declared.answers.Written.{Written}
+use Rattle.stored.specs.declared.counters.Counters.{Counters}
 use Rattle.theory.proofs.Laws.Basics.{cases}
-use Rattle.machine.proofs.Laws.Running.Means.{Means, means}
+use Rattle.stored.proofs.Laws.Running.Means.{Means, means}
 use Rattle.filing.specs.Limits.{listingSize}
 use Rattle.filing.specs.Filing.{Filed, refused, filed, numberGiven, fileReport}
 use Rattle.filing.specs.FileCall.{fileAnswer, fileLeft, Files}

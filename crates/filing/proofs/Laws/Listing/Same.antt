@@ -19,13 +19,13 @@ use Rattle.notation.proofs.Laws.Stored.Reads.{folders-read}
 use Rattle.theory.specs.Words.{any}
 use Rattle.theory.specs.Folders.{countFrom}
 use Rattle.theory.specs.Calls.{State}
-use Rattle.machine.specs.Run.{runOf}
-use Rattle.machine.specs.Asking.{placeMatched}
-use Rattle.machine.specs.declared.counters.Counters.{Counters}
+use Rattle.stored.specs.Run.{runOf}
+use Rattle.stored.specs.Asking.{placeMatched}
+use Rattle.stored.specs.declared.counters.Counters.{Counters}
 use Rattle.theory.proofs.Laws.Basics.{cases}
 use Rattle.theory.proofs.Laws.Machine.Moves.{Few}
-use Rattle.machine.proofs.Laws.Running.Means.{Means}
-use Rattle.machine.proofs.Laws.Running.Asking.{place-matched}
+use Rattle.stored.proofs.Laws.Running.Means.{Means}
+use Rattle.stored.proofs.Laws.Running.Asking.{place-matched}
 use Rattle.filing.specs.Listing.{matchedPaths, lineOf, linesFrom, listing}
 use Rattle.filing.specs.Listed.{pathListed, pathsListed, lineListed, folderListed, foldersListed, listingIn}
 

@@ -6,7 +6,7 @@ use mathlib.Core.Bool.{Bool, true, false, cond}
 use mathlib.Core.List.{List, [], _∷_, _++_, append-assoc, append-nil}
 use Rattle.theory.specs.Folders.{countFrom}
 use Rattle.theory.specs.Words.{any}
-use Rattle.machine.specs.Asking.{placeMatched, pathsOfFolder}
+use Rattle.stored.specs.Asking.{placeMatched, pathsOfFolder}
 use Rattle.notation.specs.Print.{decimal, folderWord, footer}
 use Rattle.notation.specs.Reads.{folderAt}
 use Rattle.filing.specs.Listing.{movesWord, movesLine}

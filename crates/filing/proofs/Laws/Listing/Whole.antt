@@ -9,12 +9,12 @@ use lib.ListN.{length}
 use borrow.Author.Tests.{le-ltb}
 use Rattle.notation.specs.Sets.{FolderSet}
 use Rattle.theory.specs.Calls.{State}
-use Rattle.machine.specs.Run.{runOf}
-use Rattle.machine.specs.RunCalls.{given}
-use Rattle.machine.specs.declared.answers.Written.{Written}
+use Rattle.stored.specs.Run.{runOf}
+use Rattle.stored.specs.RunCalls.{given}
+use Rattle.stored.specs.declared.answers.Written.{Written}
 use Rattle.theory.proofs.Laws.Machine.Moves.{Few}
-use Rattle.machine.proofs.Laws.Running.Means.{Means}
-use Rattle.machine.proofs.Laws.Shapes.Passing.{countersOf, all-shaped, long-enough}
+use Rattle.stored.proofs.Laws.Running.Means.{Means}
+use Rattle.stored.proofs.Laws.Shapes.Passing.{countersOf, all-shaped, long-enough}
 use Rattle.filing.specs.Limits.{listingSize}
 use Rattle.filing.specs.Listing.{listing}
 use Rattle.filing.specs.Listed.{lentConditions, heldRefusal, listingRefusal, listingIn, Writes, ListingWritten}

@@ -11,9 +11,9 @@ use lib.Seq.{sets, length-take-le}
 use borrow.Author.Tests.{leb-true, leb-false, lt-ltb, le-ltb, ltb-false}
 use Rattle.notation.specs.Limits.{maxSetBytes}
 use Rattle.notation.specs.Print.{decimal, footer}
-use Rattle.machine.specs.RunCalls.{shaped, tooShort, given}
-use Rattle.machine.specs.declared.answers.Written.{Written}
-use Rattle.machine.specs.declared.counters.Counters.{Counters}
+use Rattle.stored.specs.RunCalls.{shaped, tooShort, given}
+use Rattle.stored.specs.declared.answers.Written.{Written}
+use Rattle.stored.specs.declared.counters.Counters.{Counters}
 use Rattle.theory.proofs.Laws.Basics.{cases}
 use Rattle.filing.specs.declared.page.Pen.{Pen}
 use Rattle.filing.specs.Limits.{maxMovesLine, listingSize}

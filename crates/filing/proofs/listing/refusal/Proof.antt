@@ -2,9 +2,9 @@
 use mathlib.Core.Path.{sym, _∙_}
 use borrow.Author.Tests.{lt-ltb, le-ltb}
 use Rattle.notation.specs.Limits.{maxSetBytes}
-use Rattle.machine.specs.Automaton.{automatonSize}
-use Rattle.machine.specs.Run.{runSize}
-use Rattle.machine.specs.RunCalls.{given, shaped}
+use Rattle.stored.specs.Automaton.{automatonSize}
+use Rattle.stored.specs.Run.{runSize}
+use Rattle.stored.specs.RunCalls.{given, shaped}
 use Rattle.filing.specs.Limits.{maxMovesLine, listingSize}
 use borrow.Author.Needs.{needs}
 use Rattle.filing.proofs.listing.refusal.Statement.{statement}

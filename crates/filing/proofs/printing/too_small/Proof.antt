@@ -1,8 +1,8 @@
 -- `printing::too_small`: each test in its order.
 use borrow.Author.Tests.{lt-ltb, le-ltb}
 use Rattle.notation.specs.Limits.{maxSetBytes}
-use Rattle.machine.specs.Automaton.{automatonSize}
-use Rattle.machine.specs.Run.{runSize}
+use Rattle.stored.specs.Automaton.{automatonSize}
+use Rattle.stored.specs.Run.{runSize}
 use Rattle.filing.specs.Limits.{maxMovesLine, listingSize}
 use Rattle.filing.specs.Filer.{tooSmall}
 use Rattle.filing.proofs.printing.too_small.Statement.{statement}

@@ -1,6 +1,6 @@
 use mathlib.Core.Path.{refl, sym, _∙_}
 use borrow.Author.Tests.{not-true, not-false}
-use Rattle.machine.specs.RunCalls.{noCounters}
+use Rattle.stored.specs.RunCalls.{noCounters}
 use Rattle.filing.specs.Limits.{maxReportBytes}
 use Rattle.filing.proofs.Laws.Filing.Taking.{left-refused, report-long, report-foreign, report-run}
 use borrow.Author.Needs.{needs}

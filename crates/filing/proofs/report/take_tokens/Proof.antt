@@ -4,7 +4,7 @@ use native.Mathlib.Omega.{arith}
 use mathlib.Core.Path.{_≡_, refl, sym, _∙_}
 use lib.ListN.{length}
 use borrow.Author.Needs.{needs}
-use Rattle.machine.specs.RunCalls.{startRun, noCounters}
+use Rattle.stored.specs.RunCalls.{startRun, noCounters}
 use Rattle.documents.specs.Reading.{readReport}
 use Rattle.filing.specs.Taking.{so, runFrom}
 use Rattle.filing.proofs.Laws.Filing.Taking.{RunAt, so-is, taken-torn, taken-end, Fit, fit-so, turn-past, turn-taken}

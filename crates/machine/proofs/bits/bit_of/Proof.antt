@@ -1,4 +1,4 @@
-use Rattle.machine.specs.Bits.{bitOf}
+use Rattle.stored.specs.Bits.{bitOf}
 use borrow.Author.Needs.{needs}
 use Rattle.machine.proofs.bits.bit_of.Statement.{statement}
 use Rattle.machine.proofs.bits.bit_of.Tie as tie

@@ -1,4 +1,4 @@
-use Rattle.machine.proofs.Laws.Bytes.ByteBits.{and-bit, or-bit, one-on, power-bit}
+use Rattle.stored.proofs.Laws.Bytes.ByteBits.{and-bit, or-bit, one-on, power-bit}
 use lib.Bits.{and-lt, or-lt}
 use native.Mathlib.Omega.{arith}
 use Rattle.machine.proofs.bits.either.Statement.{statement}

@@ -1,8 +1,8 @@
 use Prim.Native.Nat.{_*_, _^_, _%_, _<_}
 use mathlib.Core.Path.{_≡_, _∙_, ap}
 use mathlib.Core.Bool.{Bool, _||_}
-use Rattle.machine.specs.Bits.{bitOf}
-use Rattle.machine.proofs.Laws.Bytes.ByteBits.{and-bit, or-bit, one-on, power-bit, power-small}
+use Rattle.stored.specs.Bits.{bitOf}
+use Rattle.stored.proofs.Laws.Bytes.ByteBits.{and-bit, or-bit, one-on, power-bit, power-small}
 use lib.Bits.{and-lt, or-lt}
 use native.Mathlib.Omega.{arith}
 use borrow.Author.Needs.{needs}

@@ -1,6 +1,6 @@
 use Prim.Native.Nat.{ℕ, _≤_, _<_}
-use Rattle.machine.specs.Automaton.{automatonSize}
-use Rattle.machine.proofs.Laws.Building.Built.{built-short, built-refused, built-read, built-made}
+use Rattle.stored.specs.Automaton.{automatonSize}
+use Rattle.stored.proofs.Laws.Building.Built.{built-short, built-refused, built-read, built-made}
 use borrow.Author.Needs.{needs}
 use Rattle.machine.proofs.build.build.Statement.{statement}
 use Rattle.machine.proofs.build.build.Tie as tie

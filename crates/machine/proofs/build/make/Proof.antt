@@ -1,5 +1,5 @@
-use Rattle.machine.specs.Passes.{made}
-use Rattle.machine.proofs.Laws.Building.Build.{chains-read-in, parents-read-in}
+use Rattle.stored.specs.Passes.{made}
+use Rattle.stored.proofs.Laws.Building.Build.{chains-read-in, parents-read-in}
 use mathlib.Core.Path.{_∙_}
 use native.Mathlib.Omega.{arith}
 use borrow.Author.Needs.{needs}

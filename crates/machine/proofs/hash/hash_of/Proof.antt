@@ -7,7 +7,7 @@ use native.Mathlib.Omega.{arith}
 use borrow.Author.Needs.{needs}
 use lib.ListN.{length, getD, drop, drop-of-length-le}
 use lib.Seq.{drop-cons}
-use Rattle.machine.specs.Automaton.{hash, hashFrom}
+use Rattle.stored.specs.Automaton.{hash, hashFrom}
 use Rattle.machine.proofs.hash.hash_of.Statement.{statement}
 use Rattle.machine.proofs.hash.hash_of.Tie as tie
 

@@ -1,7 +1,7 @@
 -- `shape::automaton_shaped`: the tests of the tables, one after the other.
-use Rattle.machine.specs.Shape.{automatonShaped}
+use Rattle.stored.specs.Shape.{automatonShaped}
 use borrow.Author.Needs.{needs}
-use Rattle.machine.proofs.Laws.Shapes.Tested.{and-by}
+use Rattle.stored.proofs.Laws.Shapes.Tested.{and-by}
 use Rattle.machine.proofs.shape.automaton_shaped.Statement.{statement}
 use Rattle.machine.proofs.shape.automaton_shaped.Tie as tie
 

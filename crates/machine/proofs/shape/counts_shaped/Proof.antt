@@ -1,9 +1,9 @@
 -- `shape::counts_shaped`: the counts and the initial state.
 use mathlib.Core.Path.{refl}
 use Rattle.notation.specs.Limits.{maxSetBytes, maxPaths, maxSteps, maxLabels}
-use Rattle.machine.specs.Automaton.{startAt}
+use Rattle.stored.specs.Automaton.{startAt}
 use borrow.Author.Needs.{needs}
-use Rattle.machine.proofs.Laws.Shapes.Tested.{and-by, leb-by}
+use Rattle.stored.proofs.Laws.Shapes.Tested.{and-by, leb-by}
 use Rattle.machine.proofs.shape.counts_shaped.Statement.{statement}
 use Rattle.machine.proofs.shape.counts_shaped.Tie as tie
 

@@ -2,7 +2,7 @@
 use Rattle.notation.specs.Limits.{maxNumber}
 use Rattle.notation.specs.Layout.{folderSize, foldersAt}
 use borrow.Author.Needs.{needs}
-use Rattle.machine.proofs.Laws.Shapes.Tested.{and-by, leb-by, within-by}
+use Rattle.stored.proofs.Laws.Shapes.Tested.{and-by, leb-by, within-by}
 use Rattle.machine.proofs.shape.folder_shaped.Statement.{statement}
 use Rattle.machine.proofs.shape.folder_shaped.Tie as tie
 

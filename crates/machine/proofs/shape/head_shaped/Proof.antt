@@ -1,8 +1,8 @@
 -- `shape::head_shaped`: the head of a chain.
 use native.Mathlib.Omega.{arith}
-use Rattle.machine.specs.Automaton.{hashes, headsAt}
+use Rattle.stored.specs.Automaton.{hashes, headsAt}
 use borrow.Author.Needs.{needs}
-use Rattle.machine.proofs.Laws.Shapes.Tested.{leb-by}
+use Rattle.stored.proofs.Laws.Shapes.Tested.{leb-by}
 use Rattle.machine.proofs.shape.head_shaped.Statement.{statement}
 use Rattle.machine.proofs.shape.head_shaped.Tie as tie
 

@@ -1,9 +1,9 @@
 -- `shape::heads_shaped`: what was tested so far passed.
 -- `shape::heads_shaped`: what was tested so far passed.
 use borrow.Author.Tests.{not-true, not-false}
-use Rattle.machine.specs.Automaton.{hashes}
-use Rattle.machine.proofs.Laws.Bytes.AllBelow.{all-none, all-more, all-fails}
-use Rattle.machine.specs.Shape.{allBelow, headShaped}
+use Rattle.stored.specs.Automaton.{hashes}
+use Rattle.stored.proofs.Laws.Bytes.AllBelow.{all-none, all-more, all-fails}
+use Rattle.stored.specs.Shape.{allBelow, headShaped}
 use native.Mathlib.Omega.{arith}
 use mathlib.Core.Bool.{true}
 use mathlib.Core.Path.{_≡_, sym, _∙_}

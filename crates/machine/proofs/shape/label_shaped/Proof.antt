@@ -3,7 +3,7 @@ use mathlib.Core.Path.{refl}
 use Rattle.notation.specs.Limits.{maxName}
 use Rattle.notation.specs.Layout.{labelSize, labelsAt}
 use borrow.Author.Needs.{needs}
-use Rattle.machine.proofs.Laws.Shapes.Tested.{and-by, leb-by, ltb-by, sum-by}
+use Rattle.stored.proofs.Laws.Shapes.Tested.{and-by, leb-by, ltb-by, sum-by}
 use Rattle.machine.proofs.shape.label_shaped.Statement.{statement}
 use Rattle.machine.proofs.shape.label_shaped.Tie as tie
 

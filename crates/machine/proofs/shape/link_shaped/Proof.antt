@@ -1,9 +1,9 @@
 -- `shape::link_shaped`: the links of a label.
 use mathlib.Core.Path.{refl}
 use Rattle.notation.specs.Limits.{maxSteps}
-use Rattle.machine.specs.Automaton.{linkSize, linksAt}
+use Rattle.stored.specs.Automaton.{linkSize, linksAt}
 use borrow.Author.Needs.{needs}
-use Rattle.machine.proofs.Laws.Shapes.Tested.{and-by, or-by, leb-by, ltb-by, eqb-by, succ-by, size-by}
+use Rattle.stored.proofs.Laws.Shapes.Tested.{and-by, or-by, leb-by, ltb-by, eqb-by, succ-by, size-by}
 use Rattle.machine.proofs.shape.link_shaped.Statement.{statement}
 use Rattle.machine.proofs.shape.link_shaped.Tie as tie
 

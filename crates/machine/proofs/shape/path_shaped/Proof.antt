@@ -2,7 +2,7 @@
 use Rattle.notation.specs.Limits.{maxSteps}
 use Rattle.notation.specs.Layout.{pathSize, pathsAt}
 use borrow.Author.Needs.{needs}
-use Rattle.machine.proofs.Laws.Shapes.Tested.{and-by, leb-by, sum-by, within-by}
+use Rattle.stored.proofs.Laws.Shapes.Tested.{and-by, leb-by, sum-by, within-by}
 use Rattle.machine.proofs.shape.path_shaped.Statement.{statement}
 use Rattle.machine.proofs.shape.path_shaped.Tie as tie
 

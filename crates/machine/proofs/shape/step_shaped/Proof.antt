@@ -2,7 +2,7 @@
 use mathlib.Core.Path.{refl}
 use Rattle.notation.specs.Layout.{stepsAt}
 use borrow.Author.Needs.{needs}
-use Rattle.machine.proofs.Laws.Shapes.Tested.{ltb-by}
+use Rattle.stored.proofs.Laws.Shapes.Tested.{ltb-by}
 use Rattle.machine.proofs.shape.step_shaped.Statement.{statement}
 use Rattle.machine.proofs.shape.step_shaped.Tie as tie
 

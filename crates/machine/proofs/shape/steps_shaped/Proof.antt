@@ -2,8 +2,8 @@
 -- `shape::steps_shaped`: what was tested so far passed.
 use borrow.Author.Tests.{not-true, not-false}
 use Rattle.notation.specs.Reads.{stepCount}
-use Rattle.machine.proofs.Laws.Bytes.AllBelow.{all-none, all-more, all-fails}
-use Rattle.machine.specs.Shape.{allBelow, stepShaped}
+use Rattle.stored.proofs.Laws.Bytes.AllBelow.{all-none, all-more, all-fails}
+use Rattle.stored.specs.Shape.{allBelow, stepShaped}
 use native.Mathlib.Omega.{arith}
 use mathlib.Core.Bool.{true}
 use mathlib.Core.Path.{_≡_, sym, _∙_}

@@ -1,7 +1,7 @@
 -- `walk::walk_from`: the walk over the tables, whose current prefix is shorter at each failure move.
-use Rattle.machine.proofs.Laws.Tables.Fuel.{fail-state, fail-shorter, size-within, stays, over-follows, over-empty, over-falls}
-use Rattle.machine.specs.Walkable.{Walkable}
-use Rattle.machine.specs.Tables.{sizeOf, failOf, goto, oneMore, walkOver}
+use Rattle.stored.proofs.Laws.Tables.Fuel.{fail-state, fail-shorter, size-within, stays, over-follows, over-empty, over-falls}
+use Rattle.stored.specs.Walkable.{Walkable}
+use Rattle.stored.specs.Tables.{sizeOf, failOf, goto, oneMore, walkOver}
 use Rattle.notation.specs.Reads.{labelCount}
 use Rattle.notation.specs.Limits.{maxSteps, maxLabels}
 use native.Mathlib.Omega.{arith}

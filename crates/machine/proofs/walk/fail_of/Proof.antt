@@ -1,6 +1,6 @@
 -- `walk::fail_of`: a label's failure link; the empty word and `#` have none.
-use Rattle.machine.specs.Tables.{failAt, failOf}
-use Rattle.machine.specs.Automaton.{linksAt, linkSize}
+use Rattle.stored.specs.Tables.{failAt, failOf}
+use Rattle.stored.specs.Automaton.{linksAt, linkSize}
 use native.Mathlib.Omega.{arith}
 use mathlib.Core.List.{List}
 use mathlib.Core.Path.{_≡_, refl, sym, _∙_}

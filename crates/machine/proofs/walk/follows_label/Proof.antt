@@ -1,5 +1,5 @@
 -- `walk::follows_label`: the label's parent, then its name.
-use Rattle.machine.specs.Automaton.{linksAt, linkSize}
+use Rattle.stored.specs.Automaton.{linksAt, linkSize}
 use borrow.Author.Tests.{eq-eqb, ne-eqb}
 use borrow.Author.Needs.{needs}
 use Rattle.machine.proofs.walk.follows_label.Statement.{statement}

@@ -1,9 +1,9 @@
 -- `walk::goto_state`: the search from the head is the search from the place that the loop has come to.
-use Rattle.machine.proofs.Laws.Tables.Goto.{hash-small, goto-end}
-use Rattle.machine.proofs.Laws.Tables.Fuel.{goto-turn}
-use Rattle.machine.specs.Walkable.{Searchable}
-use Rattle.machine.specs.Tables.{headAt, nextAt, follows, gotoFrom, goto}
-use Rattle.machine.specs.Automaton.{hashes, hash, headsAt, linksAt, linkSize}
+use Rattle.stored.proofs.Laws.Tables.Goto.{hash-small, goto-end}
+use Rattle.stored.proofs.Laws.Tables.Fuel.{goto-turn}
+use Rattle.stored.specs.Walkable.{Searchable}
+use Rattle.stored.specs.Tables.{headAt, nextAt, follows, gotoFrom, goto}
+use Rattle.stored.specs.Automaton.{hashes, hash, headsAt, linksAt, linkSize}
 use Rattle.notation.specs.Reads.{labelCount}
 use Rattle.notation.specs.Limits.{maxLabels}
 use Rattle.notation.specs.Names.{Name}

@@ -1,6 +1,6 @@
 -- `shape::size_of`: the length of a label's word; the empty word has 0, `#` 1.
-use Rattle.machine.specs.Tables.{sizeAt, sizeOf}
-use Rattle.machine.specs.Automaton.{linkSize, linksAt}
+use Rattle.stored.specs.Tables.{sizeAt, sizeOf}
+use Rattle.stored.specs.Automaton.{linkSize, linksAt}
 use native.Mathlib.Omega.{arith}
 use mathlib.Core.List.{List}
 use mathlib.Core.Path.{_≡_, refl, sym, _∙_}

@@ -8,11 +8,11 @@ use lib.Seq.{sets}
 use borrow.Author.Tests.{lt-ltb, le-ltb}
 use Rattle.notation.specs.Limits.{maxSetBytes}
 use Rattle.notation.specs.Reads.{textLen, textOf}
-use Rattle.machine.specs.Automaton.{automatonSize}
-use Rattle.machine.specs.RunCalls.{given}
-use Rattle.machine.specs.Shape.{automatonShaped}
-use Rattle.machine.specs.Build.{SetWritten, writeRefusal}
-use Rattle.machine.specs.declared.answers.Written.{Written}
+use Rattle.stored.specs.Automaton.{automatonSize}
+use Rattle.stored.specs.RunCalls.{given}
+use Rattle.stored.specs.Shape.{automatonShaped}
+use Rattle.stored.specs.Build.{SetWritten, writeRefusal}
+use Rattle.stored.specs.declared.answers.Written.{Written}
 use borrow.Author.Needs.{needs}
 use Rattle.machine.proofs.write.write_set.Statement.{statement}
 use Rattle.machine.proofs.write.write_set.Tie as tie

@@ -5,11 +5,11 @@ use mathlib.Core.List.{List}
 use native.Mathlib.Omega.{arith}
 use Rattle.notation.specs.Layout.{le16}
 use Rattle.notation.specs.Reads.{labelName}
-use Rattle.machine.specs.Tables.{headAt}
-use Rattle.machine.specs.Chains.{linked}
+use Rattle.stored.specs.Tables.{headAt}
+use Rattle.stored.specs.Chains.{linked}
 use lib.Seq.{sets}
 use Rattle.notation.specs.Limits.{maxLabels}
-use Rattle.machine.specs.Automaton.{headsAt, linksAt, linkSize, hash}
+use Rattle.stored.specs.Automaton.{headsAt, linksAt, linkSize, hash}
 use borrow.Author.Needs.{needs}
 use Rattle.machine.proofs.build.chains.link_label.Statement.{statement}
 use Rattle.machine.proofs.build.chains.link_label.Tie as tie

@@ -2,9 +2,9 @@
 use Rattle.notation.specs.Layout.{le16}
 use lib.Seq.{sets}
 use borrow.Author.Tests.{eq-eqb, ne-eqb}
-use Rattle.machine.specs.Fails.{failTo, failedIf}
-use Rattle.machine.specs.Tables.{sizeAt}
-use Rattle.machine.specs.Automaton.{linksAt, linkSize}
+use Rattle.stored.specs.Fails.{failTo, failedIf}
+use Rattle.stored.specs.Tables.{sizeAt}
+use Rattle.stored.specs.Automaton.{linksAt, linkSize}
 use Rattle.notation.specs.Limits.{maxLabels}
 use native.Mathlib.Omega.{arith}
 use mathlib.Core.List.{List}

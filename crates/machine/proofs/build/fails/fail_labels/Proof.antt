@@ -1,8 +1,8 @@
 -- `build::fails::fail_labels`: the labels so far have been gone through.
 -- `build::fails::fail_labels`: the labels so far have been gone through.
 use native.Mathlib.Numerals.{add-one}
-use Rattle.machine.proofs.Laws.Building.Growing.{grows-below}
-use Rattle.machine.specs.Fails.{failedIf, failedBelow}
+use Rattle.stored.proofs.Laws.Building.Growing.{grows-below}
+use Rattle.stored.specs.Fails.{failedIf, failedBelow}
 use Rattle.notation.specs.Reads.{labelCount}
 use lib.ListN.{length}
 use native.Mathlib.Omega.{arith}

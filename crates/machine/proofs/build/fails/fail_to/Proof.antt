@@ -1,9 +1,9 @@
 -- `build::fails::fail_to`: no parent, or the walk from the parent's failure state.
-use Rattle.machine.proofs.Laws.Tables.Fuel.{fail-state}
+use Rattle.stored.proofs.Laws.Tables.Fuel.{fail-state}
 use borrow.Author.Tests.{eq-eqb, ne-eqb}
-use Rattle.machine.specs.Fails.{failTo, Growing}
-use Rattle.machine.specs.Tables.{parentAt, failOf}
-use Rattle.machine.specs.Automaton.{linksAt, linkSize}
+use Rattle.stored.specs.Fails.{failTo, Growing}
+use Rattle.stored.specs.Tables.{parentAt, failOf}
+use Rattle.stored.specs.Automaton.{linksAt, linkSize}
 use Rattle.notation.specs.Reads.{labelCount, labelName}
 use Rattle.notation.specs.Limits.{maxLabels}
 use native.Mathlib.Omega.{arith}

@@ -1,5 +1,5 @@
-use Rattle.machine.specs.Masks.{marked}
-use Rattle.machine.specs.Automaton.{maskSize, masksAt, automatonSize}
+use Rattle.stored.specs.Masks.{marked}
+use Rattle.stored.specs.Automaton.{maskSize, masksAt, automatonSize}
 use native.Mathlib.Omega.{arith}
 use borrow.Author.Needs.{needs}
 use Rattle.machine.proofs.build.masks.mark.Statement.{statement}

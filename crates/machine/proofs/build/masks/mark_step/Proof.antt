@@ -1,5 +1,5 @@
-use Rattle.machine.specs.Masks.{markStep}
-use Rattle.machine.specs.Automaton.{maskSize}
+use Rattle.stored.specs.Masks.{markStep}
+use Rattle.stored.specs.Automaton.{maskSize}
 use borrow.Author.Tests.{le-ltb, lt-ltb}
 use native.Mathlib.Omega.{arith}
 use mathlib.Core.Path.{sym, _∙_}

@@ -1,4 +1,4 @@
-use Rattle.machine.proofs.Laws.Building.Marking.{power-at}
+use Rattle.stored.proofs.Laws.Building.Marking.{power-at}
 use borrow.Author.Needs.{needs}
 use Rattle.machine.proofs.build.masks.power.Statement.{statement}
 use Rattle.machine.proofs.build.masks.power.Tie as tie

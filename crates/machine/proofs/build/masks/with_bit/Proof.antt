@@ -1,6 +1,6 @@
 use lib.Pow.{pow-pos}
 use native.Mathlib.Omega.{arith}
-use Rattle.machine.proofs.Laws.Bytes.WithBit.{with-yes, with-no, with-room}
+use Rattle.stored.proofs.Laws.Bytes.WithBit.{with-yes, with-no, with-room}
 use borrow.Author.Needs.{needs}
 use Rattle.machine.proofs.build.masks.with_bit.Statement.{statement}
 use Rattle.machine.proofs.build.masks.with_bit.Tie as tie

@@ -1,5 +1,5 @@
-use Rattle.machine.specs.Masks.{withStart}
-use Rattle.machine.specs.Automaton.{startAt}
+use Rattle.stored.specs.Masks.{withStart}
+use Rattle.stored.specs.Automaton.{startAt}
 use mathlib.Core.Path.{_∙_}
 use borrow.Author.Needs.{needs}
 use Rattle.machine.proofs.build.masks.write_start.Statement.{statement}

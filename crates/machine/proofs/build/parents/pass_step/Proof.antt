@@ -6,8 +6,8 @@ use mathlib.Core.List.{List}
 use native.Mathlib.Omega.{arith}
 use Rattle.notation.specs.Reads.{pathAt, stepAt}
 use Rattle.notation.specs.declared.reads.StepAt.{StepAt}
-use Rattle.machine.specs.Parents.{Passed, startsAt, entered, emptied, labelled, passedBy, passed}
-use Rattle.machine.specs.declared.build.parents.Place.{Place}
+use Rattle.stored.specs.Parents.{Passed, startsAt, entered, emptied, labelled, passedBy, passed}
+use Rattle.stored.specs.declared.place.Place.{Place}
 use borrow.Author.Needs.{needs}
 use Rattle.machine.proofs.build.parents.pass_step.Statement.{statement}
 use Rattle.machine.proofs.build.parents.pass_step.Tie as tie

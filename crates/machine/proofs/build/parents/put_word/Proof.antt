@@ -6,11 +6,11 @@ use native.Mathlib.Omega.{arith}
 use borrow.Author.Tests.{lt-ltb, le-ltb}
 use Rattle.notation.specs.Limits.{maxLabels}
 use Rattle.notation.specs.Reads.{labelName, labelCount}
-use Rattle.machine.specs.Tables.{goto}
-use Rattle.machine.specs.Walkable.{Searchable}
-use Rattle.machine.specs.Parents.{Passed, wordStored, labelled}
-use Rattle.machine.specs.declared.build.parents.Place.{Place}
-use Rattle.machine.proofs.Laws.Building.Elsewhere.{searchable-stored}
+use Rattle.stored.specs.Tables.{goto}
+use Rattle.stored.specs.Walkable.{Searchable}
+use Rattle.stored.specs.Parents.{Passed, wordStored, labelled}
+use Rattle.stored.specs.declared.place.Place.{Place}
+use Rattle.stored.proofs.Laws.Building.Elsewhere.{searchable-stored}
 use borrow.Author.Needs.{needs}
 use Rattle.machine.proofs.build.parents.put_word.Statement.{statement}
 use Rattle.machine.proofs.build.parents.put_word.Tie as tie

@@ -6,9 +6,9 @@ use native.Mathlib.Omega.{arith}
 use lib.Seq.{sets}
 use Rattle.notation.specs.Limits.{maxLabels}
 use Rattle.notation.specs.Layout.{le16}
-use Rattle.machine.specs.Automaton.{linksAt, linkSize}
-use Rattle.machine.specs.Tables.{sizeOf}
-use Rattle.machine.specs.Parents.{wordStored}
+use Rattle.stored.specs.Automaton.{linksAt, linkSize}
+use Rattle.stored.specs.Tables.{sizeOf}
+use Rattle.stored.specs.Parents.{wordStored}
 use borrow.Author.Needs.{needs}
 use Rattle.machine.proofs.build.parents.store_word.Statement.{statement}
 use Rattle.machine.proofs.build.parents.store_word.Tie as tie

@@ -1,5 +1,5 @@
 use mathlib.Core.Path.{_≡_, sym}
-use Rattle.machine.proofs.Laws.Running.Answered.{refused-asked}
+use Rattle.stored.proofs.Laws.Running.Answered.{refused-asked}
 use borrow.Author.Needs.{needs}
 use Rattle.machine.proofs.run.asking.answer.Statement.{statement}
 use Rattle.machine.proofs.run.asking.answer.Tie as tie

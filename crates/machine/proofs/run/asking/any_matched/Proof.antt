@@ -5,8 +5,8 @@ use native.Mathlib.Nat.{add-zero, sub-zero}
 use borrow.Author.Needs.{needs}
 use Rattle.theory.specs.Words.{any}
 use Rattle.theory.specs.Folders.{countFrom}
-use Rattle.machine.specs.Asking.{placeMatched}
-use Rattle.machine.proofs.Laws.Running.Answered.{any-none, any-here, any-next}
+use Rattle.stored.specs.Asking.{placeMatched}
+use Rattle.stored.proofs.Laws.Running.Answered.{any-none, any-here, any-next}
 use Rattle.machine.proofs.run.asking.any_matched.Statement.{statement}
 use Rattle.machine.proofs.run.asking.any_matched.Tie as tie
 

@@ -3,11 +3,11 @@ use mathlib.Core.Path.{_≡_, sym, _∙_, ap}
 use mathlib.Core.Bool.{Bool}
 use Prim.Native.Nat.{ℕ, _+_, _-_, _≤_}
 use Rattle.notation.specs.Names.{within}
-use Rattle.machine.specs.Asking.{askRefusal, answered}
-use Rattle.machine.specs.RunCalls.{depthOf, activeAt}
-use Rattle.machine.specs.declared.answers.Asked.{Asked}
-use Rattle.machine.proofs.Laws.Running.Answered.{refused-asked, step-low}
-use Rattle.machine.proofs.Laws.Shapes.Given.{may-ask}
+use Rattle.stored.specs.Asking.{askRefusal, answered}
+use Rattle.stored.specs.RunCalls.{depthOf, activeAt}
+use Rattle.stored.specs.declared.answers.Asked.{Asked}
+use Rattle.stored.proofs.Laws.Running.Answered.{refused-asked, step-low}
+use Rattle.stored.proofs.Laws.Shapes.Given.{may-ask}
 use borrow.Author.Needs.{needs}
 use Rattle.machine.proofs.run.asking.ask_step.Statement.{statement}
 use Rattle.machine.proofs.run.asking.ask_step.Tie as tie

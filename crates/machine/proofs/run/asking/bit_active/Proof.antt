@@ -1,10 +1,10 @@
 use native.Mathlib.Omega.{arith}
 use mathlib.Core.Path.{_≡_, sym, _∙_, ap}
 use Prim.Native.Nat.{ℕ, _+_, _-_}
-use Rattle.machine.specs.Bits.{bitIn}
-use Rattle.machine.specs.Run.{rowAt, rowSize, runSize, activeIn}
-use Rattle.machine.specs.RunCalls.{depthOf}
-use Rattle.machine.proofs.Laws.Shapes.RunShape.{run-shape}
+use Rattle.stored.specs.Bits.{bitIn}
+use Rattle.stored.specs.Run.{rowAt, rowSize, runSize, activeIn}
+use Rattle.stored.specs.RunCalls.{depthOf}
+use Rattle.stored.proofs.Laws.Shapes.RunShape.{run-shape}
 use borrow.Author.Needs.{needs}
 use Rattle.machine.proofs.run.asking.bit_active.Statement.{statement}
 use Rattle.machine.proofs.run.asking.bit_active.Tie as tie

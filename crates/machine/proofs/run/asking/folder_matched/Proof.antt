@@ -1,6 +1,6 @@
 use mathlib.Core.Path.{_≡_, sym, _∙_, ap}
 use Rattle.theory.specs.Words.{any}
-use Rattle.machine.specs.Asking.{askFolder}
+use Rattle.stored.specs.Asking.{askFolder}
 use borrow.Author.Needs.{needs}
 use Rattle.machine.proofs.run.asking.folder_matched.Statement.{statement}
 use Rattle.machine.proofs.run.asking.folder_matched.Tie as tie

@@ -1,7 +1,7 @@
 use mathlib.Core.Path.{_≡_, sym, _∙_, ap}
 use Prim.Native.Nat.{ℕ}
 use Rattle.notation.specs.Names.{within}
-use Rattle.machine.specs.Asking.{askRefusal, nameRefusal}
+use Rattle.stored.specs.Asking.{askRefusal, nameRefusal}
 use borrow.Author.Needs.{needs}
 use Rattle.machine.proofs.run.asking.name_refusal.Statement.{statement}
 use Rattle.machine.proofs.run.asking.name_refusal.Tie as tie

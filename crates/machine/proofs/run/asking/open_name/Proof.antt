@@ -1,10 +1,10 @@
 use native.Mathlib.Omega.{arith}
 use mathlib.Core.Path.{_≡_, sym, _∙_, ap}
 use borrow.Author.Tests.{eq-eqb, ne-eqb}
-use Rattle.machine.specs.Asking.{askRefusal, nameRefusal, askName, hasDepth}
-use Rattle.machine.specs.RunCalls.{depthOf}
-use Rattle.machine.proofs.Laws.Shapes.Given.{may-ask}
-use Rattle.machine.proofs.Laws.Running.Answered.{depth-low}
+use Rattle.stored.specs.Asking.{askRefusal, nameRefusal, askName, hasDepth}
+use Rattle.stored.specs.RunCalls.{depthOf}
+use Rattle.stored.proofs.Laws.Shapes.Given.{may-ask}
+use Rattle.stored.proofs.Laws.Running.Answered.{depth-low}
 use borrow.Author.Needs.{needs}
 use Rattle.machine.proofs.run.asking.open_name.Statement.{statement}
 use Rattle.machine.proofs.run.asking.open_name.Tie as tie

@@ -1,6 +1,6 @@
 use native.Mathlib.Omega.{arith}
 use mathlib.Core.Path.{_≡_, sym, _∙_, ap}
-use Rattle.machine.specs.Run.{matchesAt}
+use Rattle.stored.specs.Run.{matchesAt}
 use Rattle.notation.specs.Reads.{pathTop}
 use borrow.Author.Needs.{needs}
 use Rattle.machine.proofs.run.asking.place_matched.Statement.{statement}

@@ -2,13 +2,13 @@ use native.Mathlib.Omega.{arith}
 use mathlib.Core.Path.{_≡_, sym, _∙_, ap}
 use mathlib.Core.Bool.{true}
 use Prim.Native.Nat.{ℕ}
-use Rattle.machine.specs.Tables.{sizeOf}
-use Rattle.machine.specs.RunCalls.{depthOf, stateAt}
-use Rattle.machine.specs.Asking.{askRefusal, askPrefix, measured}
-use Rattle.machine.specs.declared.answers.Length.{Length}
-use Rattle.machine.proofs.Laws.Running.Answered.{refused-length}
-use Rattle.machine.proofs.Laws.Shapes.Given.{may-ask}
-use Rattle.machine.proofs.Laws.Shapes.RunShape.{run-shape}
+use Rattle.stored.specs.Tables.{sizeOf}
+use Rattle.stored.specs.RunCalls.{depthOf, stateAt}
+use Rattle.stored.specs.Asking.{askRefusal, askPrefix, measured}
+use Rattle.stored.specs.declared.answers.Length.{Length}
+use Rattle.stored.proofs.Laws.Running.Answered.{refused-length}
+use Rattle.stored.proofs.Laws.Shapes.Given.{may-ask}
+use Rattle.stored.proofs.Laws.Shapes.RunShape.{run-shape}
 use borrow.Author.Needs.{needs}
 use Rattle.machine.proofs.run.asking.prefix_length.Statement.{statement}
 use Rattle.machine.proofs.run.asking.prefix_length.Tie as tie

@@ -3,7 +3,7 @@ use native.Mathlib.Omega.{arith}
 use mathlib.Core.Path.{_≡_, sym, _∙_, ap}
 use mathlib.Core.Bool.{false}
 use Prim.Native.Nat.{ℕ}
-use Rattle.machine.specs.Asking.{askRefusal, askStep, answered}
+use Rattle.stored.specs.Asking.{askRefusal, askStep, answered}
 use borrow.Author.Needs.{needs}
 use Rattle.machine.proofs.run.asking.step_active.Statement.{statement}
 use Rattle.machine.proofs.run.asking.step_active.Tie as tie

@@ -9,8 +9,8 @@ use borrow.Author.Tests.{le-leb, lt-ltb}
 use Rattle.notation.specs.Limits.{maxLabels}
 use Rattle.notation.specs.Layout.{setSize, labelsAt, labelSize}
 use Rattle.notation.specs.Reads.{labelCount, present, labelAt}
-use Rattle.machine.specs.Automaton.{automatonSize}
-use Rattle.machine.specs.Openable.{Openable}
+use Rattle.stored.specs.Automaton.{automatonSize}
+use Rattle.stored.specs.Openable.{Openable}
 use Rattle.machine.proofs.run.candidates.label_is.Statement.{statement}
 use Rattle.machine.proofs.run.candidates.label_is.Tie as tie
 

@@ -7,9 +7,9 @@ use Rattle.notation.specs.Activity.{sameName}
 use Rattle.notation.specs.Layout.{labelsAt, labelSize}
 use Rattle.notation.specs.Limits.{maxLabels, maxPaths, maxSteps}
 use Rattle.notation.specs.Reads.{labelName}
-use Rattle.machine.specs.Bits.{bitAt}
-use Rattle.machine.specs.Automaton.{maskSize, automatonSize}
-use Rattle.machine.proofs.Laws.Bytes.BitRows.{any-one, or-none}
+use Rattle.stored.specs.Bits.{bitAt}
+use Rattle.stored.specs.Automaton.{maskSize, automatonSize}
+use Rattle.stored.proofs.Laws.Bytes.BitRows.{any-one, or-none}
 use borrow.Author.Needs.{needs}
 use Rattle.machine.proofs.run.candidates.mark_label.Statement.{statement}
 use Rattle.machine.proofs.run.candidates.mark_label.Tie as tie

@@ -8,13 +8,13 @@ use lib.ListN.{length}
 use Rattle.notation.specs.Limits.{maxLabels}
 use Rattle.notation.specs.Reads.{word16, labelCount, labelEntryAt}
 use Rattle.theory.specs.Words.{any}
-use Rattle.machine.specs.Automaton.{hashes, hash, headsAt, linksAt, linkSize, automatonSize}
-use Rattle.machine.specs.Tables.{headAt, nextAt}
-use Rattle.machine.specs.Bits.{bitAt}
-use Rattle.machine.specs.Chain.{chainFrom, chainLabels}
-use Rattle.machine.proofs.Laws.Tables.Goto.{hash-small}
-use Rattle.machine.proofs.Laws.Bytes.BitRows.{or-none}
-use Rattle.machine.proofs.Laws.Tables.ChainTurns.{chain-none, left, low, rises, marked}
+use Rattle.stored.specs.Automaton.{hashes, hash, headsAt, linksAt, linkSize, automatonSize}
+use Rattle.stored.specs.Tables.{headAt, nextAt}
+use Rattle.stored.specs.Bits.{bitAt}
+use Rattle.stored.specs.Chain.{chainFrom, chainLabels}
+use Rattle.stored.proofs.Laws.Tables.Goto.{hash-small}
+use Rattle.stored.proofs.Laws.Bytes.BitRows.{or-none}
+use Rattle.stored.proofs.Laws.Tables.ChainTurns.{chain-none, left, low, rises, marked}
 use Rattle.machine.proofs.run.candidates.mark_labels.Statement.{statement}
 use Rattle.machine.proofs.run.candidates.mark_labels.Tie as tie
 

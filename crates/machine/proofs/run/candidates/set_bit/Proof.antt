@@ -3,8 +3,8 @@ use mathlib.Core.Path.{_∙_, ap}
 use mathlib.Core.Bool.{_||_}
 use Prim.Native.Nat.{ℕ, _%_}
 use lib.Dec.{eqb}
-use Rattle.machine.specs.Bits.{bitOf}
-use Rattle.machine.proofs.Laws.Bytes.BitRows.{bit-set}
+use Rattle.stored.specs.Bits.{bitOf}
+use Rattle.stored.proofs.Laws.Bytes.BitRows.{bit-set}
 use borrow.Author.Needs.{needs}
 use Rattle.machine.proofs.run.candidates.set_bit.Statement.{statement}
 use Rattle.machine.proofs.run.candidates.set_bit.Tie as tie

@@ -11,10 +11,10 @@ use mir.Syntax.{tyInt, w8}
 use mir.Val.{vint}
 use denote.Plain.{uint-makes, uint-lawful}
 use denote.Builtin.{u8}
-use Rattle.machine.specs.RunContracts.{Closes}
+use Rattle.stored.specs.RunContracts.{Closes}
 use Rattle.machine.proofs.Laws.Lent.{lent-meets}
-use Rattle.machine.proofs.answers.ClosedBy as S
-use Rattle.machine.proofs.answers.ClosedBy.Laws as S′
+use Rattle.stored.proofs.answers.ClosedBy as S
+use Rattle.stored.proofs.answers.ClosedBy.Laws as S′
 use Rattle.machine.proofs.run.close.close_by as callee
 use Rattle.machine.proofs.run.close.close_by.Symbol as callee-def
 use Rattle.machine.proofs.run.close.close_by.Symbol.{name as #callee}

@@ -2,8 +2,8 @@ use mathlib.Core.Path.{_≡_, sym, _∙_}
 use mathlib.Core.Bool.{false}
 use lib.Dec.{eqb}
 use borrow.Author.Tests.{ne-eqb}
-use Rattle.machine.specs.RunCalls.{closeRefusal}
-use Rattle.machine.proofs.Laws.Shapes.Given.{lent-usable, close-lent}
+use Rattle.stored.specs.RunCalls.{closeRefusal}
+use Rattle.stored.proofs.Laws.Shapes.Given.{lent-usable, close-lent}
 use borrow.Author.Needs.{needs}
 use Rattle.machine.proofs.run.close.close_by.Statement.{statement}
 use Rattle.machine.proofs.run.close.close_by.Tie as tie

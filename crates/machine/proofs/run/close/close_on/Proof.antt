@@ -1,9 +1,9 @@
-use Rattle.machine.proofs.Laws.Shapes.RunShape.{run-shape}
-use Rattle.machine.proofs.Laws.Shapes.Shaped.{shaped-is}
-use Rattle.machine.proofs.Laws.Running.Rows.{row-width, closed}
+use Rattle.stored.proofs.Laws.Shapes.RunShape.{run-shape}
+use Rattle.stored.proofs.Laws.Shapes.Shaped.{shaped-is}
+use Rattle.stored.proofs.Laws.Running.Rows.{row-width, closed}
 use native.Mathlib.Omega.{arith}
 use mathlib.Core.Path.{_∙_}
-use Rattle.machine.specs.Run.{rowSize, runSize}
+use Rattle.stored.specs.Run.{rowSize, runSize}
 use borrow.Author.Needs.{needs}
 use Rattle.machine.proofs.run.close.close_on.Statement.{statement}
 use Rattle.machine.proofs.run.close.close_on.Tie as tie

@@ -3,9 +3,9 @@ use mathlib.Core.Path.{_≡_, sym, _∙_}
 use mathlib.Core.Bool.{true, false}
 use lib.Dec.{eqb}
 use borrow.Author.Tests.{eq-eqb, ne-eqb, eqb-false}
-use Rattle.machine.specs.RunCalls.{closeRefusal, closeCounters, depthOf}
-use Rattle.machine.proofs.Laws.Shapes.Given.{may-close, close-others}
-use Rattle.machine.proofs.Laws.Shapes.CounterShape.{closes-fit}
+use Rattle.stored.specs.RunCalls.{closeRefusal, closeCounters, depthOf}
+use Rattle.stored.proofs.Laws.Shapes.Given.{may-close, close-others}
+use Rattle.stored.proofs.Laws.Shapes.CounterShape.{closes-fit}
 use borrow.Author.Needs.{needs}
 use Rattle.machine.proofs.run.close.close_usable.Statement.{statement}
 use Rattle.machine.proofs.run.close.close_usable.Tie as tie

@@ -6,10 +6,10 @@ use lib.Dec.{eqb}
 use Rattle.notation.specs.Limits.{maxPaths, maxSteps}
 use Rattle.notation.specs.Reads.{word16, labelEntryAt}
 use Rattle.theory.specs.Words.{any}
-use Rattle.machine.specs.Automaton.{maskSize}
-use Rattle.machine.specs.Chain.{chainLabels}
-use Rattle.machine.specs.RunCalls.{usedBytes}
-use Rattle.machine.proofs.Laws.Running.Marked.{zero-bits, all-marked}
+use Rattle.stored.specs.Automaton.{maskSize}
+use Rattle.stored.specs.Chain.{chainLabels}
+use Rattle.stored.specs.RunCalls.{usedBytes}
+use Rattle.stored.proofs.Laws.Running.Marked.{zero-bits, all-marked}
 use borrow.Author.Needs.{needs}
 use Rattle.machine.proofs.run.open.mark.Statement.{statement}
 use Rattle.machine.proofs.run.open.mark.Tie as tie

@@ -8,12 +8,12 @@ use denote.Struct.Laws as LL
 use denote.Triple.Spec.{tripleOf}
 use denote.Triple.Table.{entered, cited}
 use denote.Enum.Laws as EL
-use Rattle.machine.proofs.answers.Opened as O
-use Rattle.machine.proofs.answers.Opened.Laws as O′
-use Rattle.machine.specs.RunContracts.{Opens}
+use Rattle.stored.proofs.answers.Opened as O
+use Rattle.stored.proofs.answers.Opened.Laws as O′
+use Rattle.stored.specs.RunContracts.{Opens}
 use Rattle.machine.proofs.Laws.Lent.{lent-meets}
-use Rattle.machine.proofs.answers.OpenedBy as S
-use Rattle.machine.proofs.answers.OpenedBy.Laws as S′
+use Rattle.stored.proofs.answers.OpenedBy as S
+use Rattle.stored.proofs.answers.OpenedBy.Laws as S′
 use Rattle.machine.proofs.run.open.open_by as callee
 use Rattle.machine.proofs.run.open.open_by.Symbol as callee-def
 use Rattle.machine.proofs.run.open.open_by.Symbol.{name as #callee}

@@ -3,10 +3,10 @@ use mathlib.Core.Bool.{false}
 use Prim.Native.Nat.{ℕ}
 use lib.Dec.{eqb}
 use borrow.Author.Tests.{ne-eqb}
-use Rattle.machine.specs.RunCalls.{openRefusal}
-use Rattle.machine.specs.declared.answers.Opened.{Opened}
-use Rattle.machine.proofs.Laws.Shapes.Given.{lent-usable, open-lent}
-use Rattle.machine.proofs.Laws.Shapes.CounterShape.{refused-answer}
+use Rattle.stored.specs.RunCalls.{openRefusal}
+use Rattle.stored.specs.declared.answers.Opened.{Opened}
+use Rattle.stored.proofs.Laws.Shapes.Given.{lent-usable, open-lent}
+use Rattle.stored.proofs.Laws.Shapes.CounterShape.{refused-answer}
 use borrow.Author.Needs.{needs}
 use Rattle.machine.proofs.run.open.open_by.Statement.{statement}
 use Rattle.machine.proofs.run.open.open_by.Tie as tie

@@ -1,18 +1,18 @@
-use Rattle.machine.proofs.Laws.Tables.ChainTurns.{openable}
-use Rattle.machine.specs.declared.walk.Walk.{Walk}
+use Rattle.stored.proofs.Laws.Tables.ChainTurns.{openable}
+use Rattle.stored.specs.declared.walk.Walk.{Walk}
 use native.Mathlib.Omega.{arith}
 use mathlib.Core.List.{List}
 use mathlib.Core.Path.{_≡_, _∙_, ap}
 use Prim.Native.Nat.{ℕ, suc, _≤_}
 use Rattle.notation.specs.Limits.{maxPaths, maxSteps}
 use Rattle.notation.specs.Reads.{labelCount}
-use Rattle.machine.specs.Automaton.{maskSize}
-use Rattle.machine.specs.RunCalls.{depthOf, stateAt, usedBytes, usedBits, nowActive, nowSeen, nowMatched, storedBits, nameStored}
-use Rattle.machine.specs.Openable.{Openable}
-use Rattle.machine.specs.Tables.{walkOver}
-use Rattle.machine.proofs.Laws.Shapes.RunShape.{run-shape}
-use Rattle.machine.proofs.Laws.Tables.Fuel.{size-within}
-use Rattle.machine.proofs.Laws.Running.Marked.{opened}
+use Rattle.stored.specs.Automaton.{maskSize}
+use Rattle.stored.specs.RunCalls.{depthOf, stateAt, usedBytes, usedBits, nowActive, nowSeen, nowMatched, storedBits, nameStored}
+use Rattle.stored.specs.Openable.{Openable}
+use Rattle.stored.specs.Tables.{walkOver}
+use Rattle.stored.proofs.Laws.Shapes.RunShape.{run-shape}
+use Rattle.stored.proofs.Laws.Tables.Fuel.{size-within}
+use Rattle.stored.proofs.Laws.Running.Marked.{opened}
 use borrow.Author.Needs.{needs}
 use Rattle.machine.proofs.run.open.open_on.Statement.{statement}
 use Rattle.machine.proofs.run.open.open_on.Tie as tie

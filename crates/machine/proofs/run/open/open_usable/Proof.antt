@@ -6,11 +6,11 @@ use lib.Dec.{eqb}
 use borrow.Author.Tests.{eq-eqb, ne-eqb}
 use Rattle.notation.specs.Limits.{maxSteps}
 use Rattle.theory.specs.Limits.{maxOpens}
-use Rattle.machine.specs.RunCalls.{openRefusal, openCounters}
-use Rattle.machine.specs.declared.answers.Opened.{Opened}
-use Rattle.machine.specs.declared.walk.Walk.{Walk}
-use Rattle.machine.proofs.Laws.Shapes.Given.{may-open, open-others}
-use Rattle.machine.proofs.Laws.Shapes.CounterShape.{moves-fit, refused-answer, accepted-answer}
+use Rattle.stored.specs.RunCalls.{openRefusal, openCounters}
+use Rattle.stored.specs.declared.answers.Opened.{Opened}
+use Rattle.stored.specs.declared.walk.Walk.{Walk}
+use Rattle.stored.proofs.Laws.Shapes.Given.{may-open, open-others}
+use Rattle.stored.proofs.Laws.Shapes.CounterShape.{moves-fit, refused-answer, accepted-answer}
 use borrow.Author.Needs.{needs}
 use Rattle.machine.proofs.run.open.open_usable.Statement.{statement}
 use Rattle.machine.proofs.run.open.open_usable.Tie as tie

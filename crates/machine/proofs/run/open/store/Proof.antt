@@ -1,9 +1,9 @@
 use native.Mathlib.Omega.{arith}
 use mathlib.Core.Path.{_∙_}
 use Rattle.theory.specs.Limits.{maxDepth}
-use Rattle.machine.specs.Run.{rowSize, runSize}
-use Rattle.machine.proofs.Laws.Running.Rows.{row-width}
-use Rattle.machine.proofs.Laws.Running.Written.{stored}
+use Rattle.stored.specs.Run.{rowSize, runSize}
+use Rattle.stored.proofs.Laws.Running.Rows.{row-width}
+use Rattle.stored.proofs.Laws.Running.Written.{stored}
 use borrow.Author.Needs.{needs}
 use Rattle.machine.proofs.run.open.store.Statement.{statement}
 use Rattle.machine.proofs.run.open.store.Tie as tie

@@ -1,5 +1,5 @@
 use mathlib.Core.Path.{_≡_, sym, _∙_}
-use Rattle.machine.proofs.Laws.Shapes.Given.{shaped-parts}
+use Rattle.stored.proofs.Laws.Shapes.Given.{shaped-parts}
 use borrow.Author.Needs.{needs}
 use Rattle.machine.proofs.run.refusals.all_shaped.Statement.{statement}
 use Rattle.machine.proofs.run.refusals.all_shaped.Tie as tie

@@ -1,9 +1,9 @@
 use mathlib.Core.Path.{_≡_, sym, _∙_}
 use borrow.Author.Tests.{lt-ltb, le-ltb, not-true, not-false}
-use Rattle.machine.specs.Automaton.{automatonSize}
-use Rattle.machine.specs.Run.{runSize}
-use Rattle.machine.specs.RunCalls.{given}
-use Rattle.machine.specs.Asking.{askRefusal}
+use Rattle.stored.specs.Automaton.{automatonSize}
+use Rattle.stored.specs.Run.{runSize}
+use Rattle.stored.specs.RunCalls.{given}
+use Rattle.stored.specs.Asking.{askRefusal}
 use borrow.Author.Needs.{needs}
 use Rattle.machine.proofs.run.refusals.ask_refusal.Statement.{statement}
 use Rattle.machine.proofs.run.refusals.ask_refusal.Tie as tie

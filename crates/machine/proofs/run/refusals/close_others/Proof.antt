@@ -5,8 +5,8 @@ use native.Mathlib.Omega.{arith}
 use Prim.Native.Nat.{ℕ}
 use borrow.Author.Tests.{eq-eqb, ne-eqb, not-true, not-false}
 use Rattle.notation.specs.Activity.{sameName}
-use Rattle.machine.specs.RunCalls.{given, storedName, depthOf}
-use Rattle.machine.proofs.Laws.Shapes.Given.{close-name, close-named}
+use Rattle.stored.specs.RunCalls.{given, storedName, depthOf}
+use Rattle.stored.proofs.Laws.Shapes.Given.{close-name, close-named}
 use borrow.Author.Needs.{needs}
 use Rattle.machine.proofs.run.refusals.close_others.Statement.{statement}
 use Rattle.machine.proofs.run.refusals.close_others.Tie as tie

@@ -1,6 +1,6 @@
 use mathlib.Core.Path.{sym, _∙_}
 use borrow.Author.Tests.{not-true, not-false}
-use Rattle.machine.specs.RunCalls.{given}
+use Rattle.stored.specs.RunCalls.{given}
 use borrow.Author.Needs.{needs}
 use Rattle.machine.proofs.run.refusals.name_refusal.Statement.{statement}
 use Rattle.machine.proofs.run.refusals.name_refusal.Tie as tie

@@ -1,8 +1,8 @@
 use mathlib.Core.Path.{sym, _∙_}
 use borrow.Author.Tests.{le-leb, lt-leb}
 use Rattle.theory.specs.Limits.{maxDepth, maxOpens}
-use Rattle.machine.specs.RunCalls.{given}
-use Rattle.machine.proofs.Laws.Shapes.Given.{open-name, open-named}
+use Rattle.stored.specs.RunCalls.{given}
+use Rattle.stored.proofs.Laws.Shapes.Given.{open-name, open-named}
 use borrow.Author.Needs.{needs}
 use Rattle.machine.proofs.run.refusals.open_others.Statement.{statement}
 use Rattle.machine.proofs.run.refusals.open_others.Tie as tie

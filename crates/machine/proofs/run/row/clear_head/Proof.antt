@@ -1,5 +1,5 @@
 use native.Mathlib.Omega.{arith}
-use Rattle.machine.specs.Run.{rowSize, activeIn}
+use Rattle.stored.specs.Run.{rowSize, activeIn}
 use borrow.Author.Needs.{needs}
 use Rattle.machine.proofs.run.row.clear_head.Statement.{statement}
 use Rattle.machine.proofs.run.row.clear_head.Tie as tie

@@ -1,8 +1,8 @@
 use native.Mathlib.Omega.{arith}
 use mathlib.Core.Path.{_∙_}
 use Rattle.notation.specs.Limits.{maxPaths, maxSteps}
-use Rattle.machine.specs.Run.{rowSize, activeIn, seenIn}
-use Rattle.machine.specs.RunCalls.{rowCleared}
+use Rattle.stored.specs.Run.{rowSize, activeIn, seenIn}
+use Rattle.stored.specs.RunCalls.{rowCleared}
 use borrow.Author.Needs.{needs}
 use Rattle.machine.proofs.run.row.clear_row.Statement.{statement}
 use Rattle.machine.proofs.run.row.clear_row.Tie as tie

@@ -1,7 +1,7 @@
 use lib.ListN.{length-set}
 use native.Mathlib.Omega.{arith}
-use Rattle.machine.specs.Automaton.{maskSize}
-use Rattle.machine.specs.Run.{activeIn, seenIn, rowSize}
+use Rattle.stored.specs.Automaton.{maskSize}
+use Rattle.stored.specs.Run.{activeIn, seenIn, rowSize}
 use borrow.Author.Needs.{needs}
 use Rattle.machine.proofs.run.row.write_bits.Statement.{statement}
 use Rattle.machine.proofs.run.row.write_bits.Tie as tie

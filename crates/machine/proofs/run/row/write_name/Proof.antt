@@ -5,8 +5,8 @@ use Prim.Native.Nat.{ℕ, _+_, _-_}
 use lib.ListN.{length, replicate, length-set}
 use lib.Seq.{sets}
 use Rattle.notation.specs.Limits.{maxName}
-use Rattle.machine.specs.Run.{rowSize}
-use Rattle.machine.proofs.Laws.Running.Written.{name-written}
+use Rattle.stored.specs.Run.{rowSize}
+use Rattle.stored.proofs.Laws.Running.Written.{name-written}
 use borrow.Author.Needs.{needs}
 use Rattle.machine.proofs.run.row.write_name.Statement.{statement}
 use Rattle.machine.proofs.run.row.write_name.Tie as tie

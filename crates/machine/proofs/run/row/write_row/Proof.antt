@@ -1,7 +1,7 @@
 use mathlib.Core.Path.{_∙_}
-use Rattle.machine.specs.Run.{stateIn}
-use Rattle.machine.specs.RunCalls.{rowNamed}
-use Rattle.machine.proofs.Laws.Running.Written.{head-written}
+use Rattle.stored.specs.Run.{stateIn}
+use Rattle.stored.specs.RunCalls.{rowNamed}
+use Rattle.stored.proofs.Laws.Running.Written.{head-written}
 use borrow.Author.Needs.{needs}
 use Rattle.machine.proofs.run.row.write_row.Statement.{statement}
 use Rattle.machine.proofs.run.row.write_row.Tie as tie

@@ -1,6 +1,6 @@
 use native.Mathlib.Omega.{arith}
 use Rattle.theory.specs.Limits.{maxDepth}
-use Rattle.machine.specs.Run.{rowsAt, rowSize, runSize}
+use Rattle.stored.specs.Run.{rowsAt, rowSize, runSize}
 use Rattle.machine.proofs.run.rows.row_at.Statement.{statement}
 use Rattle.machine.proofs.run.rows.row_at.Tie as tie
 

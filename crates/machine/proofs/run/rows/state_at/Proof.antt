@@ -1,5 +1,5 @@
 use native.Mathlib.Omega.{arith}
-use Rattle.machine.specs.Run.{rowSize, runSize, stateIn}
+use Rattle.stored.specs.Run.{rowSize, runSize, stateIn}
 use borrow.Author.Needs.{needs}
 use Rattle.machine.proofs.run.rows.state_at.Statement.{statement}
 use Rattle.machine.proofs.run.rows.state_at.Tie as tie

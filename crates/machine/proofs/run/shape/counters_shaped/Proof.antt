@@ -3,7 +3,7 @@ use borrow.Author.Tests.{lt-leb, le-leb, eq-eqb, ne-eqb}
 use Prim.Native.Nat.{_+_, _≤_, _<_}
 use mathlib.Core.Path.{_≡_}
 use Rattle.theory.specs.Limits.{maxDepth, maxOpens}
-use Rattle.machine.specs.RunCalls.{countersShaped, depthOf}
+use Rattle.stored.specs.RunCalls.{countersShaped, depthOf}
 use borrow.Author.Needs.{needs}
 use Rattle.machine.proofs.run.shape.counters_shaped.Statement.{statement}
 use Rattle.machine.proofs.run.shape.counters_shaped.Tie as tie

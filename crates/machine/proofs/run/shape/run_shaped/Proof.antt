@@ -5,10 +5,10 @@ use Prim.Native.Nat.{_+_, _-_, _≤_, _<_}
 use borrow.Author.Tests.{not-true, not-false}
 use borrow.Author.Needs.{needs}
 use Rattle.theory.specs.Limits.{maxDepth}
-use Rattle.machine.specs.Shape.{allBelow}
-use Rattle.machine.specs.RunCalls.{depthOf, rowShaped}
-use Rattle.machine.proofs.Laws.Bytes.AllBelow.{all-none, all-more}
-use Rattle.machine.proofs.Laws.Shapes.RunShape.{too-deep, bad-row, all-rows}
+use Rattle.stored.specs.Shape.{allBelow}
+use Rattle.stored.specs.RunCalls.{depthOf, rowShaped}
+use Rattle.stored.proofs.Laws.Bytes.AllBelow.{all-none, all-more}
+use Rattle.stored.proofs.Laws.Shapes.RunShape.{too-deep, bad-row, all-rows}
 use Rattle.machine.proofs.run.shape.run_shaped.Statement.{statement}
 use Rattle.machine.proofs.run.shape.run_shaped.Tie as tie
 

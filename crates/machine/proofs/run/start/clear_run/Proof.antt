@@ -1,4 +1,4 @@
-use Rattle.machine.specs.Run.{runSize}
+use Rattle.stored.specs.Run.{runSize}
 use native.Mathlib.Nat.{min-eq-left}
 use borrow.Author.Needs.{needs}
 use Rattle.machine.proofs.run.start.clear_run.Statement.{statement}

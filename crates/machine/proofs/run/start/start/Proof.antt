@@ -41,13 +41,13 @@ use denote.Triple.Table.{entered, cited}
 use denote.Triple.Walked.{says, Stays, stay-none-slice, gave-slice, stay-ref, walkOf, AllGo, goes-none-slice, goes-gave-slice, goes-ref, Walks, ends-at, walked, walk-meets}
 use denote.Exit.{yes}
 use denote.Signature.{plain}
-use Rattle.machine.specs.RunContracts.{Starts}
-use Rattle.machine.specs.declared.counters.Counters.{Counters}
-use Rattle.machine.specs.declared.answers.Started.{Started}
-use Rattle.machine.proofs.counters.Counters as T
-use Rattle.machine.proofs.counters.Counters.Laws as T′
-use Rattle.machine.proofs.answers.Started as S
-use Rattle.machine.proofs.answers.Started.Laws as S′
+use Rattle.stored.specs.RunContracts.{Starts}
+use Rattle.stored.specs.declared.counters.Counters.{Counters}
+use Rattle.stored.specs.declared.answers.Started.{Started}
+use Rattle.stored.proofs.counters.Counters as T
+use Rattle.stored.proofs.counters.Counters.Laws as T′
+use Rattle.stored.proofs.answers.Started as S
+use Rattle.stored.proofs.answers.Started.Laws as S′
 use Rattle.machine.proofs.run.start.start_by as callee
 use Rattle.machine.proofs.run.start.start_by.Symbol as callee-def
 use Rattle.machine.proofs.run.start.start_by.Symbol.{name as #callee}

@@ -3,8 +3,8 @@ use mathlib.Core.Path.{_≡_, refl, sym, _∙_}
 use mathlib.Core.Bool.{true, false}
 use lib.Dec.{eqb}
 use borrow.Author.Tests.{eq-eqb, ne-eqb}
-use Rattle.machine.specs.RunCalls.{startRefusal}
-use Rattle.machine.proofs.Laws.Shapes.Given.{may-start}
+use Rattle.stored.specs.RunCalls.{startRefusal}
+use Rattle.stored.proofs.Laws.Shapes.Given.{may-start}
 use borrow.Author.Needs.{needs}
 use Rattle.machine.proofs.run.start.start_by.Statement.{statement}
 use Rattle.machine.proofs.run.start.start_by.Tie as tie

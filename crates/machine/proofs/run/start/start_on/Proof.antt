@@ -4,9 +4,9 @@ use Prim.Native.Nat.{ℕ, _+_}
 use lib.ListN.{drop, replicate}
 use lib.Seq.{sets}
 use Rattle.notation.specs.Layout.{le16}
-use Rattle.machine.specs.Automaton.{startAt}
-use Rattle.machine.specs.Run.{rowsAt, rowSize, stateIn, runSize}
-use Rattle.machine.proofs.Laws.Shapes.Given.{started}
+use Rattle.stored.specs.Automaton.{startAt}
+use Rattle.stored.specs.Run.{rowsAt, rowSize, stateIn, runSize}
+use Rattle.stored.proofs.Laws.Shapes.Given.{started}
 use borrow.Author.Needs.{needs}
 use Rattle.machine.proofs.run.start.start_on.Statement.{statement}
 use Rattle.machine.proofs.run.start.start_on.Tie as tie

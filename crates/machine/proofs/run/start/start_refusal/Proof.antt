@@ -1,9 +1,9 @@
 use native.Mathlib.Omega.{arith}
 use mathlib.Core.Path.{_≡_, sym, _∙_}
 use borrow.Author.Tests.{lt-ltb, le-ltb}
-use Rattle.machine.specs.Automaton.{automatonSize}
-use Rattle.machine.specs.Run.{runSize}
-use Rattle.machine.specs.RunCalls.{startRefusal, given}
+use Rattle.stored.specs.Automaton.{automatonSize}
+use Rattle.stored.specs.Run.{runSize}
+use Rattle.stored.specs.RunCalls.{startRefusal, given}
 use borrow.Author.Needs.{needs}
 use Rattle.machine.proofs.run.start.start_refusal.Statement.{statement}
 use Rattle.machine.proofs.run.start.start_refusal.Tie as tie

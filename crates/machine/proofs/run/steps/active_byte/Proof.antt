@@ -1,9 +1,9 @@
 use mathlib.Core.Path.{_∙_, ap}
 use mathlib.Core.Bool.{_||_}
 use Prim.Native.Nat.{ℕ, _+_, _*_}
-use Rattle.machine.specs.Bits.{bitOf, bitAt}
-use Rattle.machine.specs.RunCalls.{maskBit, permitted}
-use Rattle.machine.proofs.Laws.Bytes.ByteSteps.{byte-at-bit, join-and, join-or}
+use Rattle.stored.specs.Bits.{bitOf, bitAt}
+use Rattle.stored.specs.RunCalls.{maskBit, permitted}
+use Rattle.stored.proofs.Laws.Bytes.ByteSteps.{byte-at-bit, join-and, join-or}
 use borrow.Author.Needs.{needs}
 use Rattle.machine.proofs.run.steps.active_byte.Statement.{statement}
 use Rattle.machine.proofs.run.steps.active_byte.Tie as tie

@@ -1,10 +1,10 @@
 use native.Mathlib.Omega.{arith}
 use mathlib.Core.Path.{_∙_, ap}
 use Prim.Native.Nat.{ℕ}
-use Rattle.machine.specs.Automaton.{maskSize}
-use Rattle.machine.specs.Run.{runSize}
-use Rattle.machine.specs.Bits.{bitOf}
-use Rattle.machine.proofs.Laws.Bytes.ByteSteps.{byte-bit}
+use Rattle.stored.specs.Automaton.{maskSize}
+use Rattle.stored.specs.Run.{runSize}
+use Rattle.stored.specs.Bits.{bitOf}
+use Rattle.stored.proofs.Laws.Bytes.ByteSteps.{byte-bit}
 use borrow.Author.Needs.{needs}
 use Rattle.machine.proofs.run.steps.bits_byte.Statement.{statement}
 use Rattle.machine.proofs.run.steps.bits_byte.Tie as tie

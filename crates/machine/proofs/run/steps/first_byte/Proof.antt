@@ -2,8 +2,8 @@ use native.Mathlib.Omega.{arith}
 use mathlib.Core.Path.{_≡_, _∙_, sym, refl}
 use mathlib.Core.Bool.{Bool, true, false, _||_}
 use borrow.Author.Tests.{eq-eqb, ne-eqb}
-use Rattle.machine.specs.Bits.{bitOf}
-use Rattle.machine.proofs.Laws.Bytes.ByteSteps.{join-or}
+use Rattle.stored.specs.Bits.{bitOf}
+use Rattle.stored.proofs.Laws.Bytes.ByteSteps.{join-or}
 use borrow.Author.Needs.{needs}
 use Rattle.machine.proofs.run.steps.first_byte.Statement.{statement}
 use Rattle.machine.proofs.run.steps.first_byte.Tie as tie

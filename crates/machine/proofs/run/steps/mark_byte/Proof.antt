@@ -1,5 +1,5 @@
 use mathlib.Core.Path.{_∙_}
-use Rattle.machine.proofs.Laws.Running.Marked.{marked}
+use Rattle.stored.proofs.Laws.Running.Marked.{marked}
 use borrow.Author.Needs.{needs}
 use Rattle.machine.proofs.run.steps.mark_byte.Statement.{statement}
 use Rattle.machine.proofs.run.steps.mark_byte.Tie as tie

@@ -1,11 +1,11 @@
 use native.Mathlib.Omega.{arith}
 use mathlib.Core.Bool.{_&&_}
 use Prim.Native.Nat.{_+_, _*_}
-use Rattle.machine.specs.Automaton.{maskSize}
-use Rattle.machine.specs.Bits.{bitOf}
-use Rattle.machine.specs.Run.{runSize, matchesAt}
-use Rattle.machine.specs.RunCalls.{maskBit, matchedAt}
-use Rattle.machine.proofs.Laws.Bytes.ByteSteps.{join-and, join-or}
+use Rattle.stored.specs.Automaton.{maskSize}
+use Rattle.stored.specs.Bits.{bitOf}
+use Rattle.stored.specs.Run.{runSize, matchesAt}
+use Rattle.stored.specs.RunCalls.{maskBit, matchedAt}
+use Rattle.stored.proofs.Laws.Bytes.ByteSteps.{join-and, join-or}
 use mathlib.Core.Path.{refl}
 use borrow.Author.Needs.{needs}
 use Rattle.machine.proofs.run.steps.match_byte.Statement.{statement}

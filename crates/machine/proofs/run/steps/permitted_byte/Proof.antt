@@ -1,13 +1,13 @@
 use lib.Dec.{eqb}
-use Rattle.machine.specs.RunCalls.{maskBit, activeAt, seenAt, permitted, shifted}
+use Rattle.stored.specs.RunCalls.{maskBit, activeAt, seenAt, permitted, shifted}
 use native.Mathlib.Omega.{arith}
 use mathlib.Core.Path.{_≡_, _∙_, ap}
 use mathlib.Core.Bool.{_||_, _&&_}
 use Prim.Native.Nat.{ℕ, _+_, _*_}
-use Rattle.machine.specs.Run.{activeIn, seenIn, rowSize, runSize}
-use Rattle.machine.specs.Automaton.{maskSize}
-use Rattle.machine.specs.Bits.{bitOf, bitIn}
-use Rattle.machine.proofs.Laws.Bytes.ByteSteps.{join-and, join-or}
+use Rattle.stored.specs.Run.{activeIn, seenIn, rowSize, runSize}
+use Rattle.stored.specs.Automaton.{maskSize}
+use Rattle.stored.specs.Bits.{bitOf, bitIn}
+use Rattle.stored.proofs.Laws.Bytes.ByteSteps.{join-and, join-or}
 use borrow.Author.Needs.{needs}
 use Rattle.machine.proofs.run.steps.permitted_byte.Statement.{statement}
 use Rattle.machine.proofs.run.steps.permitted_byte.Tie as tie

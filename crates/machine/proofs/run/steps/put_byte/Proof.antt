@@ -4,10 +4,10 @@ use Prim.Native.Nat.{ℕ, _+_}
 use lib.ListN.{set}
 use native.Mathlib.Omega.{arith}
 use Rattle.theory.specs.Limits.{maxDepth}
-use Rattle.machine.specs.Automaton.{maskSize}
-use Rattle.machine.specs.Run.{matchesAt, rowSize, runSize}
-use Rattle.machine.proofs.Laws.Running.Rows.{row-width, run-kept}
-use Rattle.machine.proofs.Laws.Running.Written.{bits-stored}
+use Rattle.stored.specs.Automaton.{maskSize}
+use Rattle.stored.specs.Run.{matchesAt, rowSize, runSize}
+use Rattle.stored.proofs.Laws.Running.Rows.{row-width, run-kept}
+use Rattle.stored.proofs.Laws.Running.Written.{bits-stored}
 use borrow.Author.Needs.{needs}
 use Rattle.machine.proofs.run.steps.put_byte.Statement.{statement}
 use Rattle.machine.proofs.run.steps.put_byte.Tie as tie

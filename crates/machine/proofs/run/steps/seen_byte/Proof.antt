@@ -1,11 +1,11 @@
 use native.Mathlib.Omega.{arith}
 use mathlib.Core.Path.{refl, _∙_, ap}
 use Prim.Native.Nat.{ℕ, _+_, _*_}
-use Rattle.machine.specs.Automaton.{maskSize}
-use Rattle.machine.specs.Bits.{bitOf, bitIn}
-use Rattle.machine.specs.Run.{seenIn, rowSize}
-use Rattle.machine.specs.RunCalls.{seenAt}
-use Rattle.machine.proofs.Laws.Bytes.ByteSteps.{join-or}
+use Rattle.stored.specs.Automaton.{maskSize}
+use Rattle.stored.specs.Bits.{bitOf, bitIn}
+use Rattle.stored.specs.Run.{seenIn, rowSize}
+use Rattle.stored.specs.RunCalls.{seenAt}
+use Rattle.stored.proofs.Laws.Bytes.ByteSteps.{join-or}
 use borrow.Author.Needs.{needs}
 use Rattle.machine.proofs.run.steps.seen_byte.Statement.{statement}
 use Rattle.machine.proofs.run.steps.seen_byte.Tie as tie

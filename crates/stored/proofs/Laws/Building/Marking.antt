@@ -1,0 +1,81 @@
+-- The loops of the pass that writes the masks and the initial state: what one turn does, and where they begin and end.
+use Prim.Native.Nat.{ℕ, zero, suc, _+_, _-_, _^_, _≤_, _<_}
+use mathlib.Core.Path.{_≡_, refl, _∙_}
+use mathlib.Core.Bool.{Bool, true, false, _||_}
+use mathlib.Core.List.{List, [], _∷_}
+use native.Mathlib.Nat.{add-zero, sub-zero}
+use native.Mathlib.Omega.{arith}
+use borrow.Author.Tests.{eq-eqb, ne-eqb, eqb-true}
+use lib.Dec.{eqb}
+use lib.ListN.{getD}
+use Rattle.stored.specs.Masks.{markStep, markSteps, markPath, markPaths, rooted, anyRooted}
+use Rattle.stored.proofs.Laws.Tables.Goto.{same-test}
+
+abbrev pub powers : List ℕ
+powers = 1 ∷ 2 ∷ 4 ∷ 8 ∷ 16 ∷ 32 ∷ 64 ∷ 128 ∷ []
+
+pub power-at : (k : ℕ) → k < 8 → getD powers k 0 ≡ 2 ^ k
+power-at zero h = refl
+power-at (suc zero) h = refl
+power-at (suc (suc zero)) h = refl
+power-at (suc (suc (suc zero))) h = refl
+power-at (suc (suc (suc (suc zero)))) h = refl
+power-at (suc (suc (suc (suc (suc zero))))) h = refl
+power-at (suc (suc (suc (suc (suc (suc zero)))))) h = refl
+power-at (suc (suc (suc (suc (suc (suc (suc zero))))))) h = refl
+power-at (suc (suc (suc (suc (suc (suc (suc (suc k)))))))) h = absurd (omega arith)
+
+-- the steps of a path
+module _ (steps from : ℕ) where
+  pub steps-start : (part : List ℕ) → markSteps (steps - 0) (from + 0) (eqb 0 0) part ≡ markSteps steps from true part
+  steps-start part = rw (sub-zero, add-zero)
+
+  pub steps-turn : (k : ℕ) (part : List ℕ) → k < steps
+      → markSteps (steps - k) (from + k) (eqb k 0) part ≡ markSteps (steps - (k + 1)) (from + (k + 1)) (eqb (k + 1) 0) (markStep (from + k) (eqb k 0) (eqb (k + 1) steps) part)
+  unfolding markSteps
+  steps-turn k part h =
+      let one : steps - k ≡ suc (steps - (k + 1)) = omega arith in
+      let next : from + (k + 1) ≡ suc (from + k) = omega arith in
+      let later : eqb (k + 1) 0 ≡ false = ne-eqb (k + 1) 0 (omega arith) in
+      let last : eqb (k + 1) steps ≡ eqb (steps - (k + 1)) 0 = same-test (eqb (k + 1) steps) (eqb (steps - (k + 1)) 0) (λ t. eq-eqb (steps - (k + 1)) 0 (omega (arith, eqb-true (k + 1) steps t))) (λ t. eq-eqb (k + 1) steps (omega (arith, eqb-true (steps - (k + 1)) 0 t))) in
+      rw (one, next, later, last)
+
+  pub steps-end : (k : ℕ) (part : List ℕ) (first : Bool) → steps ≤ k → markSteps (steps - k) (from + k) first part ≡ part
+  unfolding markSteps
+  steps-end k part first h = let none : steps - k ≡ 0 = omega arith in rw none
+
+-- the paths
+module _ (n : ℕ) where
+  pub paths-start : (part : List ℕ) → markPaths (n - 0) 0 part ≡ markPaths n 0 part
+  paths-start part = rw sub-zero
+
+  pub paths-turn : (place : ℕ) (part : List ℕ) → place < n → markPaths (n - place) place part ≡ markPaths (n - (place + 1)) (place + 1) (markPath place part)
+  unfolding markPaths
+  paths-turn place part h =
+      let one : n - place ≡ suc (n - (place + 1)) = omega arith in
+      let next : place + 1 ≡ suc place = omega arith in
+      rw (one, next)
+
+  pub paths-end : (place : ℕ) (part : List ℕ) → n ≤ place → markPaths (n - place) place part ≡ part
+  unfolding markPaths
+  paths-end place part h = let none : n - place ≡ 0 = omega arith in rw none
+
+  pub rooted-start : (part : List ℕ) → anyRooted (n - 0) 0 part ≡ anyRooted n 0 part
+  rooted-start part = rw sub-zero
+
+  rooted-turn : (place : ℕ) (part : List ℕ) → place < n → anyRooted (n - place) place part ≡ (rooted part place || anyRooted (n - (place + 1)) (place + 1) part)
+  unfolding anyRooted
+  rooted-turn place part h =
+      let one : n - place ≡ suc (n - (place + 1)) = omega arith in
+      let next : place + 1 ≡ suc place = omega arith in
+      rw (one, next)
+
+  pub rooted-here : (place : ℕ) (part : List ℕ) → place < n → rooted part place ≡ true → anyRooted (n - place) place part ≡ true
+  rooted-here place part h t = rooted-turn place part h ∙ rw t
+
+  pub rooted-later : (place : ℕ) (part : List ℕ) → place < n → rooted part place ≡ false → anyRooted (n - place) place part ≡ anyRooted (n - (place + 1)) (place + 1) part
+  rooted-later place part h t = rooted-turn place part h ∙ rw t
+
+  pub rooted-end : (place : ℕ) (part : List ℕ) → n ≤ place → anyRooted (n - place) place part ≡ false
+  unfolding anyRooted
+  rooted-end place part h = let none : n - place ≡ 0 = omega arith in rw none

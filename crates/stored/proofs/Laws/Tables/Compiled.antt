@@ -1,0 +1,198 @@
+-- The automaton of a set that fits its limits has the laws of `Compiled`, whatever stands behind it; so for every accepted set.
+use Prim.Native.Nat.{ℕ, suc, _+_, _*_, _/_, _%_, _≤_, _<_}
+use mathlib.Core.Path.{_≡_, refl, sym, _∙_, ap}
+use mathlib.Core.Bool.{false}
+use mathlib.Core.Logic.{inl, inr}
+use mathlib.Core.List.{List, [], _∷_, _++_, List·Memᴰ, List·Memᴰ·not-nil, List·Memᴰ·cases-cons}
+use native.Mathlib.Omega.{arith}
+use lib.ListN.{length, getD, length-append}
+use Rattle.notation.specs.Limits.{maxPaths, maxSteps, maxLabels}
+use Rattle.notation.specs.Sets.{child, descendant, label, star, step, Path, FolderSet}
+use Rattle.notation.specs.Form.{pathsOf, stepsOf}
+use Rattle.notation.specs.Layout.{setPart}
+use Rattle.notation.specs.Reads.{word16, labelEntryAt, labelAt}
+use Rattle.notation.specs.Accepted.{Accepted}
+use Rattle.notation.specs.declared.reads.LabelAt.{LabelAt}
+use Rattle.notation.proofs.Laws.Refused.Fitting.{Fitting}
+use Rattle.notation.proofs.Laws.Stored.Reads.{paths-read, steps-read, labels-read, there}
+use Rattle.notation.proofs.Laws.Stored.ReadPaths.{label-read}
+use Rattle.notation.proofs.Laws.Refused.AcceptedSet.{accepted-fits}
+use Rattle.theory.specs.Words.{document, name, Word, before, labelWords, begins}
+use Rattle.theory.specs.Prefix.{IsPrefix, failure}
+use Rattle.theory.specs.Walk.{followedBy}
+use Rattle.theory.specs.Calls.{fresh}
+use Rattle.stored.specs.Automaton.{hashes, maskSize, masksAt, allLabels, allWords, stateOf, heads, headOf, links, roles, roleAt, masks, bitBytes, byteOf, startState, automatonOf}
+use Rattle.stored.specs.Tables.{startOf, sizeAt, sizeOf}
+use Rattle.stored.specs.Bits.{bitOf, bitIn}
+use Rattle.stored.specs.Masks.{maskTest}
+use Rattle.stored.specs.Compiled.{LabelStep, Compiled}
+use Rattle.theory.proofs.Laws.Basics.{cases}
+use Rattle.theory.proofs.Laws.Keywords.Prefix.{longest-end}
+use Rattle.theory.proofs.Laws.Keywords.Labels.{LabelWord}
+use Rattle.stored.proofs.Laws.Bytes.Tabulate.{tabulate-length}
+use Rattle.stored.proofs.Laws.Bytes.Bits.{bit-small, bits-bit}
+use Rattle.stored.proofs.Laws.Tables.States.{words-count, among-label, at-among, state-empty, state-root, StateKind, ofEmpty, ofRoot, ofLabel, state-kind, state-one, state-none, state-within}
+use Rattle.stored.proofs.Laws.Tables.Assembled.{Sized, noLink, nextOf, parentOf, failureOf, lengthOf, after-set, fail-read, size-read, mask-read, start-read}
+use Rattle.stored.proofs.Laws.Tables.Goto.{Linked, goto-is}
+use Rattle.stored.proofs.Laws.Tables.Linked.{small, linked-here}
+use Rattle.stored.proofs.Laws.Tables.Walked.{FailAt, fail-word, walk-over}
+use Rattle.stored.proofs.Laws.Bytes.MaskRows.{place, roleBits, all-bits, masks-are}
+use Rattle.stored.proofs.Laws.Building.Masked.{bit-in, byte-in, all-roles-length, all-small}
+use Rattle.stored.proofs.Laws.Tables.ChainPlaces.{chain-places}
+use Rattle.stored.proofs.Laws.Building.Fails.{links-length, links-at}
+
+-- a label's word has at most its path's steps and `#`
+word-short : (p : Path) (w u : Word) → List·Memᴰ u (labelWords w p) → length u ≤ length w + length p
+unfolding labelWords
+word-short [] w u m = absurd (List·Memᴰ·not-nil m)
+word-short (step child (label n) ∷ p) w u m =
+    elim (List·Memᴰ·cases-cons m) [
+      | inl e ↦ omega (arith, ap length e, length-append w (name n ∷ []))
+      | inr t ↦ omega (arith, word-short p (followedBy w n) u t, length-append w (name n ∷ []))
+    ]
+word-short (step child star ∷ p) w u m = omega (arith, word-short p [] u m)
+word-short (step descendant (label n) ∷ p) w u m =
+    elim (List·Memᴰ·cases-cons m) [ inl e ↦ omega (arith, ap length e) | inr t ↦ omega (arith, word-short p (name n ∷ []) u t) ]
+word-short (step descendant star ∷ p) w u m = omega (arith, word-short p [] u m)
+
+before-short : (p : Path) → length (before p) ≤ 1
+before-short [] = omega arith
+before-short (step child t ∷ p) = omega arith
+before-short (step descendant t ∷ p) = omega arith
+
+pub label-short : (s : FolderSet) (u : Word) (l : LabelWord s u) → length u ≤ suc (length (l .path))
+label-short s u l = omega (arith, word-short (l .path) (before (l .path)) u (l .atLabel), before-short (l .path))
+
+path-short : (ps : List Path) {p : Path} → List·Memᴰ p ps → length p ≤ length (stepsOf ps)
+unfolding stepsOf
+path-short [] m = absurd (List·Memᴰ·not-nil m)
+path-short (q ∷ ps) {p} m =
+    elim (List·Memᴰ·cases-cons m) [
+      | inl e ↦ omega (arith, ap length e, length-append q (stepsOf ps))
+      | inr t ↦ omega (arith, path-short ps t, length-append q (stepsOf ps))
+    ]
+
+pub failure-prefix : (s : FolderSet) (w : Word) → IsPrefix s (failure s w)
+unfolding failure
+failure-prefix s w = longest-end s _ .starts
+
+-- a fresh run's state
+begin-state : (s : FolderSet) → startState s ≡ stateOf s (fresh s .current)
+unfolding fresh
+begin-state s = cases (begins s (document ∷ [])) (λ h. rw h (sym (state-root s (document ∷ []) refl))) (λ h. rw h (sym (state-empty s [] refl)))
+
+label-step : LabelAt → ℕ
+label-step (LabelAt.Label at size owner) = owner
+label-step LabelAt.Missing = 0
+
+byte-place : (m i : ℕ) → masksAt + maskSize * m + i / 8 ≡ masksAt + place m i / 8
+unfolding maskSize
+byte-place m i = omega arith
+
+bit-place : (m i : ℕ) → i % 8 ≡ place m i % 8
+unfolding maskSize
+bit-place m i = omega arith
+
+module _ (s : FolderSet) (fit : Fitting s) (rest : List ℕ) where
+  few-roles : length (roles s) ≤ 8 * maskSize
+  few-roles = omega (arith, all-roles-length (pathsOf s), fit .steps, all-small)
+
+  pub automaton-sized : Sized (heads (allLabels s)) (links s) (masks s)
+  automaton-sized = record {
+    heads = tabulate-length (headOf (allLabels s)) hashes;
+    links = omega (arith, links-length s, fit .labels);
+    masks = ap length (sym (masks-are s few-roles)) ∙ tabulate-length (byteOf (roleBits 0 (roles s) (λ k. false))) (6 * maskSize);
+  }
+
+  pub automaton-linked : Linked s (automatonOf s ++ rest)
+  unfolding automatonOf
+  automaton-linked = linked-here s fit (links s) (masks s) (startState s) automaton-sized rest (links-length s) (λ l h. ap nextOf (links-at s l h)) (λ l h. ap parentOf (links-at s l h))
+
+  fails : (l : ℕ) → l < length (allLabels s) → FailAt s (automatonOf s ++ rest) l
+  unfolding automatonOf
+  fails l h =
+      let e : failureOf (getD (links s) l noLink) ≡ stateOf s (failure s (getD (allWords s) l [])) = ap failureOf (links-at s l h) in
+      fail-read s fit (heads (allLabels s)) (links s) (masks s) (startState s) automaton-sized rest l (omega (arith, links-length s))
+      (rw e (small (length (allLabels s)) _ (fit .labels) (state-within s _ (failure-prefix s (getD (allWords s) l [])))))
+      ∙ e
+
+  short : (l : ℕ) → l < length (allLabels s) → length (getD (allWords s) l []) < 65536
+  unfolding maxPaths maxSteps
+  short l h =
+      let w = among-label s (at-among (allWords s) [] l (omega (arith, words-count s))) in
+      omega (arith, label-short s (getD (allWords s) l []) w, path-short (pathsOf s) (w .ofSet), fit .steps)
+
+  sizes : (l : ℕ) → l < length (allLabels s) → sizeAt (automatonOf s ++ rest) l ≡ length (getD (allWords s) l [])
+  unfolding automatonOf
+  sizes l h =
+      let e : lengthOf (getD (links s) l noLink) ≡ length (getD (allWords s) l []) = ap lengthOf (links-at s l h) in
+      size-read s fit (heads (allLabels s)) (links s) (masks s) (startState s) automaton-sized rest l (omega (arith, links-length s)) (rw e (short l h)) ∙ e
+
+  size-word : (w : Word) → IsPrefix s w → sizeOf (automatonOf s ++ rest) (stateOf s w) ≡ length w
+  unfolding sizeOf
+  size-word w p = go (state-kind s w p)
+    where
+      go : StateKind s w → sizeOf (automatonOf s ++ rest) (stateOf s w) ≡ length w
+      go (ofEmpty e i) = rw i (sym (ap length e))
+      go (ofRoot e i) = rw i (sym (ap length e))
+      go (ofLabel x) = rw (x .is) (sizes (x .index) (x .below) ∙ ap length (x .word))
+
+  -- the set's own bytes
+  set-first : (more : List ℕ) × (automatonOf s ++ rest ≡ setPart s ++ more)
+  unfolding automatonOf
+  set-first = after-set s fit (heads (allLabels s)) (links s) (masks s) (startState s) rest
+
+  stored : (more : List ℕ) (l at size owner : ℕ) → l < length (allLabels s) → labelAt (setPart s ++ more) l ≡ LabelAt.Label at size owner → word16 (setPart s ++ more) (labelEntryAt l + 4) ≡ owner
+  unfolding labelAt label-step
+  stored more l at size owner h a =
+      let k : l < maxLabels = omega (arith, fit .labels) in
+      ap label-step (rw (labels-read s fit more, there s fit more (length (allLabels s)) maxLabels l h k) at a)
+
+  owner-here : (l : ℕ) → l < length (allLabels s) → LabelStep s l (word16 (automatonOf s ++ rest) (labelEntryAt l + 4))
+  owner-here l h =
+      let x = set-first in
+      let r = label-read s fit (x .0) l h in
+      let e : word16 (setPart s ++ x .0) (labelEntryAt l + 4) ≡ r .index = stored (x .0) l (r .at) (length (getD (allLabels s) l [])) (r .index) h (r .answer) in
+      rw (x .1, e) (record { below = r .below; test = r .test; nth = r .nth })
+
+  mask-bit : (m : ℕ) → m < 6 → (i : ℕ) → i < 8 * maskSize → bitIn (automatonOf s ++ rest) (masksAt + maskSize * m) i ≡ roleAt (maskTest m) (roles s) i
+  unfolding automatonOf
+  mask-bit m k i h =
+      let j : place m i / 8 < 6 * maskSize = byte-in m i k h in
+      rw (byte-place m i)
+      (ap (λ (x : ℕ). bitOf x (i % 8))
+      (mask-read s fit (heads (allLabels s)) (links s) (masks s) (startState s) automaton-sized rest (place m i / 8) j
+      ∙ ap (λ (l : List ℕ). getD l (place m i / 8) 0) (sym (masks-are s few-roles)))
+      ∙ ap (λ (x : ℕ). bitOf (getD (bitBytes (roleBits 0 (roles s) (λ q. false)) (6 * maskSize)) (place m i / 8) 0) x) (bit-place m i)
+      ∙ bits-bit (roleBits 0 (roles s) (λ q. false)) (6 * maskSize) (place m i) (bit-in m i k h)
+      ∙ all-bits m k i h (roles s) few-roles)
+
+  start-here : startOf (automatonOf s ++ rest) ≡ startState s
+  unfolding automatonOf
+  start-here = start-read s fit (heads (allLabels s)) (links s) (masks s) (startState s) automaton-sized rest (omega (arith, bit-small (begins s (document ∷ []))))
+
+  pub compiled-fitting : Compiled s (automatonOf s ++ rest)
+  compiled-fitting =
+      let x = set-first in
+      record {
+        paths = rw (x .1) (paths-read s fit (x .0));
+        steps = rw (x .1) (steps-read s fit (x .0));
+        labels = rw (x .1) (labels-read s fit (x .0));
+        owner = owner-here;
+        goes = λ w p e h. goto-is s (automatonOf s ++ rest) automaton-linked w p e;
+        stops = λ w p e h. goto-is s (automatonOf s ++ rest) automaton-linked w p e ∙ state-none s w e h;
+        one = state-one s;
+        none = state-empty s [] refl;
+        within = λ w p. rw (x .1, labels-read s fit (x .0)) (state-within s w p);
+        fail = λ w p. fail-word s (automatonOf s ++ rest) w p (λ l h b. fails l h);
+        size = size-word;
+        walks = λ w p e. walk-over s (automatonOf s ++ rest) automaton-linked e w p (λ l h b. fails l h) (size-word w p);
+        chain = chain-places s (automatonOf s ++ rest) (automaton-linked .chained);
+        masks = mask-bit;
+        start = start-here;
+        begin = begin-state s;
+      }
+
+-- every accepted set's automaton
+pub compiled : (text : List ℕ) (s : FolderSet) → Accepted text s → (rest : List ℕ) → Compiled s (automatonOf s ++ rest)
+compiled text s a rest = compiled-fitting s (accepted-fits text s a) rest

@@ -1,0 +1,62 @@
+-- What an automaton's tables mean: the laws of the bytes that were built from a set. The calls on a run use these and nothing else of the
+-- build.
+use Prim.Native.Nat.{ℕ, suc, _+_, _*_, _≤_, _<_}
+use mathlib.Core.Path.{_≡_}
+use mathlib.Core.Bool.{true, false, cond}
+use mathlib.Core.List.{List, [], _∷_, _++_}
+use lib.ListN.{length, getD, take}
+use Rattle.notation.specs.Names.{Name}
+use Rattle.notation.specs.Sets.{child, label, star, step, FolderSet, testOf}
+use Rattle.notation.specs.Form.{pathsOf, labelsOf}
+use Rattle.notation.specs.Activity.{sameName}
+use Rattle.notation.specs.Reads.{word16, pathCount, stepCount, labelCount, labelEntryAt}
+use Rattle.theory.specs.Words.{Word, begins}
+use Rattle.theory.specs.Prefix.{IsPrefix, failure}
+use Rattle.theory.specs.Walk.{followedBy, Walked, movesOf, arrivedAt, walk}
+use Rattle.theory.specs.Calls.{fresh}
+use Rattle.stored.specs.Automaton.{maskSize, masksAt, allSteps, allLabels, stateOf, roles, roleAt, startState}
+use Rattle.stored.specs.Tables.{startOf, sizeOf, failOf, goto, walkOver}
+use Rattle.stored.specs.Bits.{bitIn}
+use Rattle.stored.specs.Chain.{chainLabels}
+use Rattle.stored.specs.Masks.{maskTest}
+use Rattle.stored.specs.declared.walk.Walk.{Walk}
+
+-- the places of the labels with name e, ascending; k stand before these
+unfoldable pub placesOf : Name → ℕ → List Name → List ℕ
+placesOf e k [] = []
+placesOf e k (n ∷ names) = cond (sameName n e) (k ∷ []) [] ++ placesOf e (suc k) names
+
+-- label l is the test of this step, with l labels before it
+pub record LabelStep (s : FolderSet) (l owner : ℕ) : Type 0 where
+  pub below : owner < length (allSteps s)
+  pub test : testOf (getD (allSteps s) owner (step child star)) ≡ label (getD (allLabels s) l [])
+  pub nth : length (labelsOf (take owner (allSteps s))) ≡ l
+
+-- a walk as the tables give it
+abbrev pub storedWalk : FolderSet → Walked → Walk
+storedWalk s x = record { moves = movesOf x; state = stateOf s (arrivedAt x) }
+
+pub record Compiled (s : FolderSet) (a : List ℕ) : Type 0 where
+  pub paths : pathCount a ≡ length (pathsOf s)
+  pub steps : stepCount a ≡ length (allSteps s)
+  pub labels : labelCount a ≡ length (allLabels s)
+  pub owner : (l : ℕ) → l < length (allLabels s) → LabelStep s l (word16 a (labelEntryAt l + 4))
+  -- goto finds the word with one symbol more exactly when it begins a keyword
+  pub goes : (w : Word) → IsPrefix s w → (e : Name) → begins s (followedBy w e) ≡ true → goto a (stateOf s w) e ≡ stateOf s (followedBy w e)
+  pub stops : (w : Word) → IsPrefix s w → (e : Name) → begins s (followedBy w e) ≡ false → goto a (stateOf s w) e ≡ 0
+  -- no two words that can be a current prefix have one state; the empty word has 0
+  pub one : (v w : Word) → IsPrefix s v → IsPrefix s w → stateOf s v ≡ stateOf s w → v ≡ w
+  pub none : stateOf s [] ≡ 0
+  pub within : (w : Word) → IsPrefix s w → stateOf s w ≤ suc (labelCount a)
+  -- the longest proper end, and the length
+  pub fail : (w : Word) → IsPrefix s w → failOf a (stateOf s w) ≡ stateOf s (failure s w)
+  pub size : (w : Word) → IsPrefix s w → sizeOf a (stateOf s w) ≡ length w
+  -- so the walk is the machine's
+  pub walks : (w : Word) → IsPrefix s w → (e : Name) → walkOver a (stateOf s w) e ≡ storedWalk s (walk s w e)
+  -- a name's chain has exactly the labels with that name
+  pub chain : (e : Name) → chainLabels a e ≡ placesOf e 0 (allLabels s)
+  -- bit i of mask m is the mask's test of step i
+  pub masks : (m : ℕ) → m < 6 → (i : ℕ) → i < 8 * maskSize → bitIn a (masksAt + maskSize * m) i ≡ roleAt (maskTest m) (roles s) i
+  -- a fresh run's state
+  pub start : startOf a ≡ startState s
+  pub begin : startState s ≡ stateOf s (fresh s .current)

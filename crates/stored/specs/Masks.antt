@@ -1,0 +1,92 @@
+-- The pass that writes the masks and the initial state behind a read set. It follows the code; laws say that on a set's bytes it gives
+-- the set's masks.
+use Prim.Native.Nat.{ℕ, zero, suc, _+_, _*_, _/_, _%_, _^_}
+use mathlib.Core.Bool.{Bool, true, false, not, _||_, cond}
+use mathlib.Core.List.{List}
+use lib.Dec.{ltb, eqb}
+use lib.ListN.{getD, set}
+use lib.Seq.{sets}
+use Rattle.notation.specs.Layout.{le16}
+use Rattle.notation.specs.Reads.{pathAt, stepAt, pathCount}
+use Rattle.notation.specs.declared.reads.PathAt.{PathAt}
+use Rattle.notation.specs.declared.reads.StepAt.{StepAt}
+use Rattle.stored.specs.Bits.{bitOf}
+use Rattle.stored.specs.Automaton.{maskSize, masksAt, startAt, bit, Role, isStarRole, isChildRole, isDescendantRole, isAnywhereRole, isRootRole, isLastRole}
+
+-- a byte with bit k set
+unfoldable pub withBit : ℕ → ℕ → ℕ
+withBit x k = cond (bitOf x k) x (x + 2 ^ k)
+
+-- bit i of mask m is set if `on`
+unfoldable pub marked : Bool → ℕ → ℕ → List ℕ → List ℕ
+marked on m i part =
+    let at = masksAt + (8 * maskSize * m + i) / 8 in
+    cond on (set part at (withBit (getD part at 0) ((8 * maskSize * m + i) % 8))) part
+
+-- the mask of a step's axis: `/` or `//`, of a first step or another
+abbrev pub axisMask : Bool → Bool → ℕ
+axisMask true true = 3
+axisMask true false = 4
+axisMask false true = 2
+axisMask false false = 1
+
+-- the test that mask m holds of each step
+abbrev pub maskTest : ℕ → Role → Bool
+maskTest zero r = isStarRole r
+maskTest (suc zero) r = isChildRole r
+maskTest (suc (suc zero)) r = isDescendantRole r
+maskTest (suc (suc (suc zero))) r = isAnywhereRole r
+maskTest (suc (suc (suc (suc zero)))) r = isRootRole r
+maskTest (suc (suc (suc (suc (suc zero))))) r = isLastRole r
+maskTest (suc (suc (suc (suc (suc (suc m)))))) r = false
+
+-- a step in the masks
+unfoldable pub markRole : ℕ → Bool → Bool → Bool → Bool → List ℕ → List ℕ
+markRole i deep star first last part = marked last 5 i (marked true (axisMask first deep) i (marked star 0 i part))
+
+abbrev pub markStepAt : StepAt → ℕ → Bool → Bool → List ℕ → List ℕ
+markStepAt (StepAt.Step deep star) i first last part = markRole i deep star first last part
+markStepAt StepAt.Missing i first last part = part
+
+unfoldable pub markStep : ℕ → Bool → Bool → List ℕ → List ℕ
+markStep i first last part = cond (ltb i (8 * maskSize)) (markStepAt (stepAt part i) i first last part) part
+
+-- the steps of a path that are left, from step i on
+unfoldable pub markSteps : ℕ → ℕ → Bool → List ℕ → List ℕ
+markSteps zero i first part = part
+markSteps (suc left) i first part = markSteps left (suc i) false (markStep i first (eqb left 0) part)
+
+abbrev pub markPathAt : PathAt → List ℕ → List ℕ
+markPathAt (PathAt.Path first steps at size) part = markSteps steps first true part
+markPathAt PathAt.Missing part = part
+
+unfoldable pub markPath : ℕ → List ℕ → List ℕ
+markPath place part = markPathAt (pathAt part (record { 0 = place })) part
+
+-- the paths that are left, from a place on
+unfoldable pub markPaths : ℕ → ℕ → List ℕ → List ℕ
+markPaths zero place part = part
+markPaths (suc left) place part = markPaths left (suc place) (markPath place part)
+
+-- a path's first step is `/`
+abbrev pub childAt : StepAt → Bool
+childAt (StepAt.Step deep star) = not deep
+childAt StepAt.Missing = false
+
+abbrev pub rootedAt : List ℕ → PathAt → Bool
+rootedAt part (PathAt.Path first steps at size) = childAt (stepAt part first)
+rootedAt part PathAt.Missing = false
+
+unfoldable pub rooted : List ℕ → ℕ → Bool
+rooted part place = rootedAt part (pathAt part (record { 0 = place }))
+
+-- some path that is left begins so
+unfoldable pub anyRooted : ℕ → ℕ → List ℕ → Bool
+anyRooted zero place part = false
+anyRooted (suc left) place part = rooted part place || anyRooted left (suc place) part
+
+unfoldable pub withStart : List ℕ → List ℕ
+withStart part = sets part startAt (le16 (bit (anyRooted (pathCount part) 0 part)))
+
+unfoldable pub withMasks : List ℕ → List ℕ
+withMasks part = markPaths (pathCount part) 0 part

@@ -1,0 +1,230 @@
+-- What the calls on a run answer and leave, of any automaton, run and counters, by what is stored: the equations of their contracts.
+use Prim.Native.Nat.{ℕ, zero, suc, _+_, _*_, _/_, pred}
+use mathlib.Core.Bool.{Bool, true, false, not, _&&_, _||_, cond}
+use mathlib.Core.List.{List, [], _∷_, _++_}
+use lib.Dec.{leb, ltb, eqb}
+use lib.ListN.{length, getD, set, take, drop, replicate}
+use lib.Seq.{sets}
+use Rattle.notation.specs.Names.{Name, nameForm, tooLong}
+use Rattle.notation.specs.Limits.{maxName}
+use Rattle.notation.specs.Layout.{le16, padded}
+use Rattle.notation.specs.Activity.{sameName}
+use Rattle.notation.specs.Reads.{word16, stepCount, labelCount, labelEntryAt}
+use Rattle.theory.specs.Limits.{maxDepth, maxOpens}
+use Rattle.stored.specs.Automaton.{maskSize, masksAt, automatonSize, byteOf, tabulate}
+use Rattle.stored.specs.Tables.{startOf, walkOver}
+use Rattle.stored.specs.Chain.{chainLabels}
+use Rattle.stored.specs.Bits.{bitIn, bitAt}
+use Rattle.stored.specs.Shape.{automatonShaped, allBelow}
+use Rattle.stored.specs.Run.{matchesAt, nameIn, stateIn, activeIn, seenIn, rowAt, rowSize, runSize}
+use Rattle.stored.specs.declared.counters.Counters.{Counters}
+use Rattle.stored.specs.declared.walk.Walk.{Walk}
+use Rattle.notation.specs.Refusals.{Refusal, numberOf, shortBuffer, strangeShape, torn, longName, looseEnd, tooDeep, full, crossed, noSuchPlace}
+use Rattle.theory.specs.Words.{any}
+use Rattle.theory.specs.Order.{Condition, gives}
+
+-- what is stored of a run
+
+abbrev pub depthOf : List ℕ → ℕ
+depthOf run = word16 run 0
+
+abbrev pub nameLength : List ℕ → ℕ → ℕ
+nameLength run d = getD run (rowAt d) 0
+
+abbrev pub storedName : List ℕ → ℕ → Name
+storedName run d = take (nameLength run d) (drop (rowAt d + nameIn) run)
+
+abbrev pub stateAt : List ℕ → ℕ → ℕ
+stateAt run d = word16 run (rowAt d + stateIn)
+
+abbrev pub activeAt : List ℕ → ℕ → ℕ → Bool
+activeAt run d i = bitIn run (rowAt d + activeIn) i
+
+abbrev pub seenAt : List ℕ → ℕ → ℕ → Bool
+seenAt run d i = bitIn run (rowAt d + seenIn) i
+
+abbrev pub matchedAt : List ℕ → ℕ → Bool
+matchedAt run i = bitIn run matchesAt i
+
+-- the masks of an automaton: 0 `*`, 1 child, 2 descendant, 3 first by `//`, 4 first by `/`, 5 last
+abbrev pub maskBit : List ℕ → ℕ → ℕ → Bool
+maskBit a m i = bitIn a (masksAt + maskSize * m) i
+
+-- the shape test of a run on an automaton, and of the counters
+
+abbrev pub rowShaped : List ℕ → List ℕ → ℕ → Bool
+rowShaped a run d = leb (nameLength run d) maxName && leb (stateAt run d) (suc (labelCount a))
+
+unfoldable pub runShaped : List ℕ → List ℕ → Bool
+runShaped a run = leb (depthOf run) maxDepth && allBelow (suc (depthOf run)) (rowShaped a run)
+
+unfoldable pub countersShaped : List ℕ → Counters → Bool
+countersShaped run c =
+    leb (c .opens) maxOpens && (eqb (c .opens) (c .closes + depthOf run) && leb (c .moves) (maxDepth * c .opens))
+
+unfoldable pub shaped : List ℕ → List ℕ → Counters → Bool
+shaped a run c = automatonShaped a && (runShaped a run && countersShaped run c)
+
+-- refusals: the number of the first condition that holds, 0 for none
+
+unfoldable pub given : List Condition → ℕ
+given [] = 0
+given (gives b r ∷ later) = cond b (numberOf r) (given later)
+
+abbrev pub tooShort : List ℕ → List ℕ → Bool
+tooShort a run = ltb (length a) automatonSize || ltb (length run) runSize
+
+abbrev pub startConditions : List ℕ → List ℕ → List Condition
+startConditions a run = gives (tooShort a run) shortBuffer ∷ gives (not (automatonShaped a)) strangeShape ∷ []
+
+abbrev pub rootShut : List ℕ → Counters → Bool
+rootShut run c = not (eqb (c .opens) 0) && eqb (depthOf run) 0
+
+-- those of what is lent, with which open and close begin
+abbrev pub lentConditions : List ℕ → List ℕ → Counters → List Condition
+lentConditions a run c = gives (tooShort a run) shortBuffer ∷ gives (not (shaped a run c)) strangeShape ∷ []
+
+-- those of the name, which are next
+abbrev pub nameConditions : Name → List Condition
+nameConditions e = gives (not (nameForm e)) torn ∷ gives (tooLong e) longName ∷ []
+
+-- all others of an open, and of a close
+abbrev pub openOthers : List ℕ → Counters → Name → List Condition
+openOthers run c e =
+    gives (not (nameForm e)) torn
+    ∷ gives (tooLong e) longName
+    ∷ gives (rootShut run c) looseEnd
+    ∷ gives (leb maxDepth (depthOf run)) tooDeep
+    ∷ gives (leb maxOpens (c .opens)) full
+    ∷ []
+
+abbrev pub closeOthers : List ℕ → Name → List Condition
+closeOthers run e =
+    gives (not (nameForm e)) torn
+    ∷ gives (tooLong e) longName
+    ∷ gives (eqb (depthOf run) 0) looseEnd
+    ∷ gives (not (sameName (storedName run (depthOf run)) e)) crossed
+    ∷ []
+
+abbrev pub openConditions : List ℕ → List ℕ → Counters → Name → List Condition
+openConditions a run c e = gives (tooShort a run) shortBuffer ∷ gives (not (shaped a run c)) strangeShape ∷ openOthers run c e
+
+abbrev pub closeConditions : List ℕ → List ℕ → Counters → Name → List Condition
+closeConditions a run c e = gives (tooShort a run) shortBuffer ∷ gives (not (shaped a run c)) strangeShape ∷ closeOthers run e
+
+unfoldable pub startRefusal : List ℕ → List ℕ → ℕ
+startRefusal a run = given (startConditions a run)
+
+unfoldable pub openRefusal : List ℕ → List ℕ → Counters → Name → ℕ
+openRefusal a run c e = given (openConditions a run c e)
+
+unfoldable pub closeRefusal : List ℕ → List ℕ → Counters → Name → ℕ
+closeRefusal a run c e = given (closeConditions a run c e)
+
+-- what a start leaves
+unfoldable pub startRun : List ℕ → List ℕ → List ℕ
+startRun a run = sets (replicate runSize 0) (rowAt 0 + stateIn) (le16 (startOf a)) ++ drop runSize run
+
+abbrev pub noCounters : Counters
+noCounters = record { opens = 0; closes = 0; moves = 0 }
+
+-- what an accepted open leaves
+
+-- bytes of a row of bits that the automaton's steps use
+abbrev pub usedBytes : List ℕ → ℕ
+usedBytes a = (stepCount a + 7) / 8
+
+-- step i takes e: it is `*`, or one of the labels of that name
+unfoldable pub candidate : List ℕ → Name → ℕ → Bool
+candidate a e i = maskBit a 0 i || any (λ l. eqb (word16 a (labelEntryAt l + 4)) i) (chainLabels a e)
+
+-- the step before
+abbrev pub shifted : (ℕ → Bool) → ℕ → Bool
+shifted f zero = false
+shifted f (suc i) = f i
+
+unfoldable pub permitted : List ℕ → List ℕ → ℕ → ℕ → Bool
+permitted a run d i =
+    (maskBit a 1 i && shifted (activeAt run d) i) || ((maskBit a 2 i && shifted (seenAt run d) i)
+    || (maskBit a 3 i || (eqb d 0 && maskBit a 4 i)))
+
+unfoldable pub nowActive : List ℕ → List ℕ → Name → ℕ → Bool
+nowActive a run e i = candidate a e i && permitted a run (depthOf run) i
+
+unfoldable pub nowSeen : List ℕ → List ℕ → Name → ℕ → Bool
+nowSeen a run e i = seenAt run (depthOf run) i || nowActive a run e i
+
+unfoldable pub nowMatched : List ℕ → List ℕ → Name → ℕ → Bool
+nowMatched a run e i = matchedAt run i || (nowActive a run e i && maskBit a 5 i)
+
+abbrev pub usedBits : List ℕ → (ℕ → Bool) → List ℕ
+usedBits a f = tabulate (byteOf f) (usedBytes a)
+
+-- the walk of an open
+abbrev pub openWalk : List ℕ → List ℕ → Name → Walk
+openWalk a run e = walkOver a (stateAt run (depthOf run)) e
+
+-- the new row
+unfoldable pub rowWritten : List ℕ → List ℕ → Name → List ℕ → List ℕ
+rowWritten a run e row =
+    sets (sets (sets row 0 (length e ∷ (padded maxName e ++ le16 (openWalk a run e .state))))
+    activeIn (usedBits a (nowActive a run e)))
+    seenIn (usedBits a (nowSeen a run e))
+
+unfoldable pub openRun : List ℕ → List ℕ → Name → List ℕ
+openRun a run e =
+    let at = rowAt (suc (depthOf run)) in
+    sets (sets (take at run ++ (rowWritten a run e (take rowSize (drop at run)) ++ drop (at + rowSize) run))
+    matchesAt (usedBits a (nowMatched a run e)))
+    0 (le16 (suc (depthOf run)))
+
+-- the same in the order of the code (a law ties them): the bits, a byte of each row at a time, then the name, the state and the depth
+
+-- step i is active, from the bits of the labels that take the name
+abbrev pub takenActive : List ℕ → List ℕ → List ℕ → ℕ → ℕ → Bool
+takenActive a run taken d i = (maskBit a 0 i || bitAt taken i) && permitted a run d i
+
+abbrev pub takenSeen : List ℕ → List ℕ → List ℕ → ℕ → ℕ → Bool
+takenSeen a run taken d i = seenAt run d i || takenActive a run taken d i
+
+abbrev pub takenMatched : List ℕ → List ℕ → List ℕ → ℕ → ℕ → Bool
+takenMatched a run taken d i = matchedAt run i || (takenActive a run taken d i && maskBit a 5 i)
+
+unfoldable pub byteMarked : List ℕ → List ℕ → List ℕ → ℕ → ℕ → List ℕ
+byteMarked a run taken d j =
+    set (set (set run (rowAt (suc d) + activeIn + j) (byteOf (takenActive a run taken d) j))
+    (rowAt (suc d) + seenIn + j) (byteOf (takenSeen a run taken d) j))
+    (matchesAt + j) (byteOf (takenMatched a run taken d) j)
+
+unfoldable pub storedBits : List ℕ → ℕ → List ℕ → List ℕ → List ℕ → List ℕ
+storedBits run d active seen matched =
+    sets (sets (sets run (rowAt (suc d) + activeIn) active) (rowAt (suc d) + seenIn) seen) matchesAt matched
+
+unfoldable pub bitsMarked : List ℕ → List ℕ → List ℕ → ℕ → ℕ → List ℕ
+bitsMarked a run taken d used =
+    storedBits run d (tabulate (byteOf (takenActive a run taken d)) used) (tabulate (byteOf (takenSeen a run taken d)) used) (tabulate (byteOf (takenMatched a run taken d)) used)
+
+unfoldable pub rowNamed : Name → ℕ → List ℕ → List ℕ
+rowNamed e state row = sets row 0 (length e ∷ (padded maxName e ++ le16 state))
+
+unfoldable pub nameStored : List ℕ → ℕ → Name → ℕ → List ℕ
+nameStored run d e state =
+    let at = rowAt (suc d) in
+    sets (take at run ++ (rowNamed e state (take rowSize (drop at run)) ++ drop (at + rowSize) run)) 0 (le16 (suc d))
+
+unfoldable pub openCounters : List ℕ → List ℕ → Counters → Name → Counters
+openCounters a run c e = record { opens = c .opens + 1; closes = c .closes; moves = c .moves + openWalk a run e .moves }
+
+-- what an accepted close leaves: the used part of its row is zero
+
+unfoldable pub rowCleared : List ℕ → List ℕ → List ℕ
+rowCleared a row =
+    sets (sets (sets row 0 (replicate activeIn 0)) activeIn (replicate (usedBytes a) 0)) seenIn (replicate (usedBytes a) 0)
+
+unfoldable pub closeRun : List ℕ → List ℕ → List ℕ
+closeRun a run =
+    let at = rowAt (depthOf run) in
+    sets (take at run ++ (rowCleared a (take rowSize (drop at run)) ++ drop (at + rowSize) run)) 0 (le16 (pred (depthOf run)))
+
+unfoldable pub closeCounters : Counters → Counters
+closeCounters c = record { opens = c .opens; closes = c .closes + 1; moves = c .moves }

@@ -1,0 +1,44 @@
+-- The contracts of the calls on a run, of any automaton, run and counters: the answer, and what run and counters are at exit. A refusal is
+-- the first number of the call's order whose condition holds, and leaves all as before.
+use Prim.Native.Nat.{ℕ, zero, suc}
+use mathlib.Core.Path.{_≡_}
+use mathlib.Core.Bool.{cond}
+use mathlib.Core.List.{List}
+use lib.Dec.{eqb}
+use Rattle.notation.specs.Names.{Name}
+use Rattle.stored.specs.RunCalls.{startRefusal, startRun, noCounters, openRefusal, openRun, openWalk, openCounters, closeRefusal, closeRun, closeCounters}
+use Rattle.stored.specs.declared.counters.Counters.{Counters}
+use Rattle.stored.specs.declared.answers.Opened.{Opened}
+use Rattle.stored.specs.declared.answers.Started.{Started}
+use Rattle.stored.specs.declared.answers.OpenedBy.{OpenedBy}
+use Rattle.stored.specs.declared.answers.ClosedBy.{ClosedBy}
+
+-- an open's answer: the refusal's number, or this open's failure moves
+abbrev pub openAnswer : ℕ → ℕ → Opened
+openAnswer zero moves = Opened.Accepted moves
+openAnswer (suc r) moves = Opened.Refused (suc r)
+
+pub record Starts (a run : List ℕ) (c : Counters) (answer : ℕ) (run' : List ℕ) (c' : Counters) : Type 0 where
+  pub answers : answer ≡ startRefusal a run
+  pub runAfter : run' ≡ cond (eqb (startRefusal a run) 0) (startRun a run) run
+  pub countersAfter : c' ≡ cond (eqb (startRefusal a run) 0) noCounters c
+
+pub record Opens (a run : List ℕ) (c : Counters) (e : Name) (answer : Opened) (run' : List ℕ) (c' : Counters) : Type 0 where
+  pub answers : answer ≡ openAnswer (openRefusal a run c e) (openWalk a run e .moves)
+  pub runAfter : run' ≡ cond (eqb (openRefusal a run c e) 0) (openRun a run e) run
+  pub countersAfter : c' ≡ cond (eqb (openRefusal a run c e) 0) (openCounters a run c e) c
+
+pub record Closes (a run : List ℕ) (c : Counters) (e : Name) (answer : ℕ) (run' : List ℕ) (c' : Counters) : Type 0 where
+  pub answers : answer ≡ closeRefusal a run c e
+  pub runAfter : run' ≡ cond (eqb (closeRefusal a run c e) 0) (closeRun a run) run
+  pub countersAfter : c' ≡ cond (eqb (closeRefusal a run c e) 0) (closeCounters c) c
+
+-- the same with counters by value
+abbrev pub StartsBy : List ℕ → List ℕ → Counters → Started → List ℕ → Type 0
+StartsBy a run c r run' = Starts a run c (r .refusal) run' (r .counters)
+
+abbrev pub OpensBy : List ℕ → List ℕ → Counters → Name → OpenedBy → List ℕ → Type 0
+OpensBy a run c e r run' = Opens a run c e (r .answer) run' (r .counters)
+
+abbrev pub ClosesBy : List ℕ → List ℕ → Counters → Name → ClosedBy → List ℕ → Type 0
+ClosesBy a run c e r run' = Closes a run c e (r .refusal) run' (r .counters)

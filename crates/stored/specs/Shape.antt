@@ -1,0 +1,59 @@
+-- The shape test of an automaton: each stored number in its range, every failure link to a shorter word, the text within its limit. It fails
+-- for nothing else.
+use Prim.Native.Nat.{ℕ, zero, suc, _+_, _*_}
+use mathlib.Core.Bool.{Bool, true, false, _&&_, _||_}
+use mathlib.Core.List.{List}
+use lib.Dec.{leb, ltb, eqb}
+use lib.ListN.{getD}
+use Rattle.notation.specs.Names.{within}
+use Rattle.notation.specs.Limits.{maxName, maxSetBytes, maxNumber, maxPaths, maxSteps, maxLabels}
+use Rattle.notation.specs.Layout.{stepsAt}
+use Rattle.notation.specs.Reads.{word16, textLen, folderCount, pathCount, stepCount, labelCount, folderEntryAt, pathEntryAt, labelEntryAt, storedNumber, storedFirst}
+use Rattle.stored.specs.Automaton.{hashes}
+use Rattle.stored.specs.Tables.{headAt, nextAt, parentAt, failAt, sizeAt, startOf, sizeOf}
+
+-- the test holds of every number below n
+unfoldable pub allBelow : ℕ → (ℕ → Bool) → Bool
+allBelow zero f = true
+allBelow (suc n) f = allBelow n f && f n
+
+abbrev pub countsShaped : List ℕ → Bool
+countsShaped a =
+    leb (textLen a) maxSetBytes && (leb (folderCount a) maxPaths && (leb (pathCount a) maxPaths
+    && (leb (stepCount a) (maxPaths * maxSteps) && (leb (labelCount a) maxLabels && leb (startOf a) 1))))
+
+abbrev pub folderShaped : List ℕ → ℕ → Bool
+folderShaped a i = within 1 maxNumber (storedNumber a i) && leb (storedFirst a i) (pathCount a)
+
+-- a path has 1 to 16 of the stored steps, and its text lies within the set's
+abbrev pub pathShaped : List ℕ → ℕ → Bool
+pathShaped a i =
+    let at = pathEntryAt i in
+    within 1 maxSteps (word16 a (at + 2)) && (leb (word16 a at + word16 a (at + 2)) (stepCount a)
+    && leb (word16 a (at + 4) + word16 a (at + 6)) (textLen a))
+
+abbrev pub stepShaped : List ℕ → ℕ → Bool
+stepShaped a i = ltb (getD a (stepsAt + i) 0) 4
+
+-- a label's bytes lie within the set's text and are no more than a name's; its step is one of the stored steps
+abbrev pub labelShaped : List ℕ → ℕ → Bool
+labelShaped a i =
+    let at = labelEntryAt i in
+    leb (word16 a at + word16 a (at + 2)) (textLen a) && (leb (word16 a (at + 2)) maxName && ltb (word16 a (at + 4)) (stepCount a))
+
+abbrev pub headShaped : List ℕ → ℕ → Bool
+headShaped a h = leb (headAt a h) (labelCount a)
+
+-- a chain goes on to a later label or ends; states are those of labels; a failure link leads to a shorter word; a word has at most a
+-- path's steps and `#`
+abbrev pub linkShaped : List ℕ → ℕ → Bool
+linkShaped a l =
+    (eqb (nextAt a l) 0 || (ltb (suc l) (nextAt a l) && leb (nextAt a l) (labelCount a)))
+    && (leb (parentAt a l) (suc (labelCount a)) && (leb (failAt a l) (suc (labelCount a))
+    && (leb (sizeAt a l) (suc maxSteps) && ltb (sizeOf a (failAt a l)) (sizeAt a l))))
+
+unfoldable pub automatonShaped : List ℕ → Bool
+automatonShaped a =
+    countsShaped a && (allBelow (folderCount a) (folderShaped a) && (allBelow (pathCount a) (pathShaped a)
+    && (allBelow (stepCount a) (stepShaped a) && (allBelow (labelCount a) (labelShaped a)
+    && (allBelow hashes (headShaped a) && allBelow (labelCount a) (linkShaped a))))))
