@@ -8,10 +8,10 @@ use crate::tags::inside_end;
 use crate::tags::mark_end;
 use crate::tags::name_reach;
 use crate::tags::reference_end;
+use notation::truth::both;
 ghost use mathlib.Core.Path.{_≡_};
 ghost use Prim.Native.Nat.{_+_, _≤_, _<_};
 ghost use lib.ListN.{length, drop};
-ghost use mathlib.Core.Bool.{_&&_};
 ghost use mathlib.Core.List.{[], _∷_};
 ghost use Rattle.documents.specs.Tokens.{begins};
 ghost use Rattle.documents.specs.Reading.{readTag, readEndTag, readContents, readComment, readText, readToken, readReport};
@@ -154,15 +154,6 @@ fn comment(s: &[u8], at: usize) -> Found
         Reach::No => Found::Nothing,
         Reach::To(e) => Found::Comment(e),
     }
-}
-
-fn both(a: bool, b: bool) -> bool
-    ensures { λ r. ⌜ r ≡ (a && b) ⌝ }
-{
-    if a {
-        return b;
-    }
-    false
 }
 
 // A text, up to the next `<` or the end.

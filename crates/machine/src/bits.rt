@@ -3,8 +3,13 @@ use notation::reads;
 ghost use mathlib.Core.Path.{_≡_};
 ghost use mathlib.Core.Bool.{_&&_, _||_};
 ghost use Prim.Native.Nat.{ℕ, _<_, _≤_};
-ghost use lib.Dec.{eqb};
-ghost use Rattle.stored.specs.Bits.{bitOf, bitIn, bitBefore};
+ghost use Rattle.stored.specs.Bits.{bitOf, bitIn, bitBefore, withBit};
+
+pub fn wide(b: u8) -> usize
+    ensures { λ r. ⌜ (r ≡ b) × (r < 256) ⌝ }
+{
+    b as usize
+}
 
 // Bit k of a byte.
 pub fn bit_of(b: usize, k: usize) -> bool
@@ -33,7 +38,7 @@ pub fn one_on(b: usize, before: usize) -> usize
 // A byte with bit k set.
 pub fn with_bit(b: usize, k: usize) -> usize
     requires { ⌜ (b < 256) × (k < 8) ⌝ }
-    ensures { λ r. ⌜ (r < 256) × ((i : ℕ) → i < 8 → bitOf r i ≡ (bitOf b i || eqb k i)) ⌝ }
+    ensures { λ r. ⌜ (r ≡ withBit b k) × (r < 256) ⌝ }
 {
     b | (1 << k)
 }

@@ -1,13 +1,8 @@
 // The hash of a name: every byte of it, 31 h + b modulo 256.
+use crate::bits::wide;
 ghost use mathlib.Core.Path.{_≡_};
 ghost use Prim.Native.Nat.{_<_};
 ghost use Rattle.stored.specs.Automaton.{hash};
-
-fn wide(b: u8) -> usize
-    ensures { λ r. ⌜ (r ≡ b) × (r < 256) ⌝ }
-{
-    b as usize
-}
 
 pub fn hash_of(e: &[u8]) -> usize
     ensures { λ r. ⌜ (r ≡ hash (now (e .entry))) × (r < 256) ⌝ }

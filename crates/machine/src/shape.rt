@@ -1,8 +1,6 @@
 // The shape test of an automaton: each stored number in its range (paper 01: the shape test). Any bytes are tested.
 ghost use mathlib.Core.Path.{_≡_};
-ghost use mathlib.Core.Bool.{_&&_, _||_};
 ghost use Prim.Native.Nat.{_≤_, _<_};
-ghost use Rattle.notation.specs.Names.{within};
 ghost use Rattle.notation.specs.Reads.{folderCount, pathCount, stepCount, labelCount};
 ghost use Rattle.stored.specs.Automaton.{hashes};
 ghost use Rattle.stored.specs.Tables.{sizeOf};
@@ -23,6 +21,7 @@ use notation::layout::PATHS_AT;
 use notation::layout::STEPS_AT;
 use notation::limits::MAX_LABELS;
 use notation::limits::MAX_NAME;
+use notation::limits::MAX_NUMBER;
 use notation::limits::MAX_PATHS;
 use notation::limits::MAX_SET_BYTES;
 use notation::limits::MAX_STEPS;
@@ -33,27 +32,9 @@ use notation::reads::paths;
 use notation::reads::steps;
 use notation::reads::text_len;
 use notation::reads::word_at;
-
-// The highest folder number.
-const MAX_NUMBER: usize = 9999;
-
-fn both(a: bool, b: bool) -> bool
-    ensures { λ r. ⌜ r ≡ (a && b) ⌝ }
-{
-    if a { b } else { false }
-}
-
-fn either(a: bool, b: bool) -> bool
-    ensures { λ r. ⌜ r ≡ (a || b) ⌝ }
-{
-    if a { true } else { b }
-}
-
-fn between(low: usize, high: usize, x: usize) -> bool
-    ensures { λ r. ⌜ r ≡ within low high x ⌝ }
-{
-    both(low <= x, x <= high)
-}
+use notation::truth::between;
+use notation::truth::both;
+use notation::truth::either;
 
 fn counts_shaped(a: &[u8]) -> bool
     ensures { λ r. ⌜ r ≡ countsShaped (now (a .entry)) ⌝ }

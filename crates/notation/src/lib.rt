@@ -8,6 +8,7 @@ pub mod read;
 pub mod reads;
 mod scan;
 pub mod store;
+pub mod truth;
 pub mod write;
 
 // A path's place: its index among all paths of the set.

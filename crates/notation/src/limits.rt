@@ -3,6 +3,9 @@
 // Bytes of a name.
 pub const MAX_NAME: usize = 32;
 
+// The highest folder number.
+pub const MAX_NUMBER: usize = 9999;
+
 // Bytes of a set's text.
 pub const MAX_SET_BYTES: usize = 16384;
 

@@ -2,12 +2,17 @@
 use Prim.Native.Nat.{ℕ, zero, suc, _+_, _/_, _%_, _^_}
 use mathlib.Core.Bool.{Bool}
 use mathlib.Core.List.{List}
+use lib.Bits.{bitOr}
 use lib.Dec.{eqb}
 use lib.ListN.{getD}
 
 -- bit k of a byte, the lowest first
 unfoldable pub bitOf : ℕ → ℕ → Bool
 bitOf n k = eqb (n / 2 ^ k % 2) 1
+
+-- a byte with bit k set
+unfoldable pub withBit : ℕ → ℕ → ℕ
+withBit b k = bitOr b (2 ^ k)
 
 -- bit i of the bytes from `base` on, eight to a byte
 abbrev pub bitIn : List ℕ → ℕ → ℕ → Bool

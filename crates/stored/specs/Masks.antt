@@ -10,12 +10,8 @@ use Rattle.notation.specs.Layout.{le16}
 use Rattle.notation.specs.Reads.{pathAt, stepAt, pathCount}
 use Rattle.notation.specs.declared.reads.PathAt.{PathAt}
 use Rattle.notation.specs.declared.reads.StepAt.{StepAt}
-use Rattle.stored.specs.Bits.{bitOf}
+use Rattle.stored.specs.Bits.{withBit}
 use Rattle.stored.specs.Automaton.{maskSize, masksAt, startAt, bit, Role, isStarRole, isChildRole, isDescendantRole, isAnywhereRole, isRootRole, isLastRole}
-
--- a byte with bit k set
-unfoldable pub withBit : ℕ → ℕ → ℕ
-withBit x k = cond (bitOf x k) x (x + 2 ^ k)
 
 -- bit i of mask m is set if `on`
 unfoldable pub marked : Bool → ℕ → ℕ → List ℕ → List ℕ

@@ -1,4 +1,6 @@
 // The masks: for each step in set order a bit in each of six rows of bits. And the initial state.
+use crate::bits::wide;
+use crate::bits::with_bit;
 use crate::layout::MASK_SIZE;
 use crate::layout::MASKS_AT;
 use crate::layout::START_AT;
@@ -7,49 +9,16 @@ use notation::reads;
 use notation::reads::PathAt;
 use notation::reads::StepAt;
 use notation::store::put16;
+use notation::truth::negated;
 ghost use mathlib.Core.Path.{_≡_};
-ghost use mathlib.Core.Bool.{true, not};
-ghost use Prim.Native.Nat.{_+_, _*_, _^_, _≤_, _<_};
+ghost use mathlib.Core.Bool.{true};
+ghost use Prim.Native.Nat.{_+_, _*_, _≤_, _<_};
 ghost use lib.ListN.{length};
 ghost use Rattle.stored.specs.Automaton.{automatonSize, maskSize, bit};
-ghost use Rattle.stored.specs.Masks.{withBit, marked, axisMask, markRole, markStep, markSteps, markPath, withMasks, childAt, rooted, anyRooted, withStart};
+ghost use Rattle.stored.specs.Masks.{marked, axisMask, markRole, markStep, markSteps, markPath, withMasks, childAt, rooted, anyRooted, withStart};
 ghost use Rattle.notation.specs.Reads.{stepAt, pathCount};
 
-const POWERS: [usize; 8] = [1, 2, 4, 8, 16, 32, 64, 128];
-
 const STEP_BITS: usize = 8 * MASK_SIZE;
-
-fn wide(b: u8) -> usize
-    ensures { λ r. ⌜ (r ≡ b) × (r < 256) ⌝ }
-{
-    b as usize
-}
-
-fn negated(a: bool) -> bool
-    ensures { λ r. ⌜ r ≡ not a ⌝ }
-{
-    if a { false } else { true }
-}
-
-fn power(k: usize) -> usize
-    requires { ⌜ k < 8 ⌝ }
-    ensures { λ r. ⌜ r ≡ 2 ^ k ⌝ }
-{
-    POWERS[k]
-}
-
-// The byte with bit k set.
-fn with_bit(x: u8, k: usize) -> u8
-    requires { ⌜ k < 8 ⌝ }
-    ensures { λ r. ⌜ r ≡ withBit x k ⌝ }
-{
-    let p = power(k);
-    let n = wide(x);
-    if n / p % 2 == 1 {
-        return x;
-    }
-    (n + p) as u8
-}
 
 // Bit i of mask m.
 fn mark(part: &mut [u8], on: bool, m: usize, i: usize)
@@ -59,7 +28,7 @@ fn mark(part: &mut [u8], on: bool, m: usize, i: usize)
     if on {
         let j = STEP_BITS * m + i;
         let at = MASKS_AT + j / 8;
-        part[at] = with_bit(part[at], j % 8);
+        part[at] = with_bit(wide(part[at]), j % 8) as u8;
     }
 }
 

@@ -13,6 +13,7 @@ use notation::reads;
 use notation::reads::FolderAt;
 use notation::reads::FolderIndex;
 use notation::reads::PathAt;
+use notation::truth::between;
 use stored::answers::Asked;
 use stored::answers::Length;
 ghost use mathlib.Core.Path.{_≡_};
@@ -123,15 +124,6 @@ fn bit_active(a: &[u8], run: &[u8], first: usize, s: usize) -> bool
 {
     let at = rows::row_at(shape::depth(run));
     bit_in(run, at + ACTIVE_IN, minus(first + s, 1))
-}
-
-fn between(low: usize, high: usize, x: usize) -> bool
-    ensures { λ r. ⌜ r ≡ within low high x ⌝ }
-{
-    if low <= x {
-        return x <= high;
-    }
-    false
 }
 
 fn ask_step(a: &[u8], run: &[u8], first: usize, steps: usize, s: usize) -> Asked

@@ -1,47 +1,29 @@
--- A byte with a bit set: it fits a byte, and its bits are those of the byte and this one; a row of bits with one set.
-use Prim.Native.Nat.{ℕ, zero, suc, _+_, _*_, _/_, _%_, _^_, _<_}
-use mathlib.Core.Path.{_≡_, sym, _∙_, ap}
-use mathlib.Core.Bool.{Bool, true, false, _||_, cond}
+-- A byte with a bit set: its bits are those of the byte and this one; a row of bits with one set.
+use Prim.Native.Nat.{ℕ, _+_, _*_, _/_, _%_, _^_, _<_}
+use mathlib.Core.Path.{_≡_, refl, sym, _∙_, ap}
+use mathlib.Core.Bool.{Bool, true, false, _||_}
 use native.Mathlib.Omega.{arith}
 use borrow.Author.Tests.{eq-eqb, ne-eqb, eqb-true, eqb-false}
+use lib.Bits.{or-lt}
 use lib.Dec.{eqb}
 use lib.ListN.{length, getD, set, length-set}
 use lib.Seq.{ext-getD, getD-set-same, getD-set-other}
-use Rattle.stored.specs.Bits.{bitOf}
-use Rattle.stored.specs.Automaton.{bit, packed, byteOf, bitBytes}
-use Rattle.stored.specs.Masks.{withBit}
+use Rattle.stored.specs.Bits.{bitOf, withBit}
+use Rattle.stored.specs.Automaton.{packed, byteOf, bitBytes}
 use Rattle.theory.proofs.Laws.Basics.{cases}
 use Rattle.stored.proofs.Laws.Bytes.Tabulate.{tabulate-length, tabulate-at}
-use Rattle.stored.proofs.Laws.Bytes.Bits.{packed-bit}
+use Rattle.stored.proofs.Laws.Bytes.Bits.{packed-bit, packed-small}
+use Rattle.stored.proofs.Laws.Bytes.ByteBits.{or-bit, power-bit, power-small, packed-from}
 use Rattle.stored.proofs.Laws.Tables.Goto.{same-test}
 
--- a bit that is not set has room
-bit-room : (x k : ℕ) → x < 256 → k < 8 → (x / 2 ^ k % 2 ≡ 1 → ⊥) → x + 2 ^ k < 256
-bit-room x zero a b n = omega arith
-bit-room x (suc zero) a b n = omega arith
-bit-room x (suc (suc zero)) a b n = omega arith
-bit-room x (suc (suc (suc zero))) a b n = omega arith
-bit-room x (suc (suc (suc (suc zero)))) a b n = omega arith
-bit-room x (suc (suc (suc (suc (suc zero))))) a b n = omega arith
-bit-room x (suc (suc (suc (suc (suc (suc zero)))))) a b n = omega arith
-bit-room x (suc (suc (suc (suc (suc (suc (suc zero))))))) a b n = omega arith
-bit-room x (suc (suc (suc (suc (suc (suc (suc (suc k)))))))) a b n = absurd (omega arith)
+-- its bits, and that it is a byte
+pub with-bit : (b k i : ℕ) → k < 8 → i < 8 → bitOf (withBit b k) i ≡ (bitOf b i || eqb k i)
+unfolding withBit
+with-bit b k i h l = or-bit b (2 ^ k) i ∙ ap (λ (x : Bool). bitOf b i || x) (power-bit k i h l)
 
--- as the code computes it, by the byte's number n and the bit's power p
-module _ (x k n p : ℕ) (number : n ≡ x) (power : p ≡ 2 ^ k) where
-  pub with-yes : n / p % 2 ≡ 1 → x ≡ withBit x k
-  unfolding withBit bitOf
-  with-yes h = let e : x / 2 ^ k % 2 ≡ 1 = rw (← number, ← power) h in rw e
-
-  not-set : (n / p % 2 ≡ 1 → ⊥) → x / 2 ^ k % 2 ≡ 1 → ⊥
-  not-set h e = h (rw (number, power) e)
-
-  pub with-no : (n / p % 2 ≡ 1 → ⊥) → n + p ≡ withBit x k
-  unfolding withBit bitOf
-  with-no h = rw (ne-eqb (x / 2 ^ k % 2) 1 (not-set h), number, power)
-
-  pub with-room : x < 256 → k < 8 → (n / p % 2 ≡ 1 → ⊥) → n + p < 256
-  with-room a b h = rw (number, power) (bit-room x k a b (not-set h))
+pub with-small : (b k : ℕ) → b < 256 → k < 8 → withBit b k < 256
+unfolding withBit
+with-small b k h l = or-lt 8 b (2 ^ k) h (power-small k l)
 
 -- equal bits make equal bytes
 pub packed-same : (b c : ℕ → Bool) → ((k : ℕ) → k < 8 → b k ≡ c k) → packed b ≡ packed c
@@ -53,33 +35,20 @@ packed-same b c h =
 abbrev pub adding : ℕ → (ℕ → Bool) → ℕ → Bool
 adding k b j = eqb j k || b j
 
-bit-no : {b : Bool} → b ≡ false → bit b ≡ 0
-bit-no h = rw h
+or-swap : (x y : Bool) → (x || y) ≡ (y || x)
+or-swap true true = refl
+or-swap true false = refl
+or-swap false true = refl
+or-swap false false = refl
 
-packed-add : (b : ℕ → Bool) (k : ℕ) → k < 8 → b k ≡ false → packed b + 2 ^ k ≡ packed (adding k b)
-unfolding packed
-packed-add b zero h n = omega (arith, bit-no n)
-packed-add b (suc zero) h n = omega (arith, bit-no n)
-packed-add b (suc (suc zero)) h n = omega (arith, bit-no n)
-packed-add b (suc (suc (suc zero))) h n = omega (arith, bit-no n)
-packed-add b (suc (suc (suc (suc zero)))) h n = omega (arith, bit-no n)
-packed-add b (suc (suc (suc (suc (suc zero))))) h n = omega (arith, bit-no n)
-packed-add b (suc (suc (suc (suc (suc (suc zero)))))) h n = omega (arith, bit-no n)
-packed-add b (suc (suc (suc (suc (suc (suc (suc zero))))))) h n = omega (arith, bit-no n)
-packed-add b (suc (suc (suc (suc (suc (suc (suc (suc k)))))))) h n = absurd (omega arith)
-
-pub packed-with : (b : ℕ → Bool) (k : ℕ) → k < 8 → withBit (packed b) k ≡ packed (adding k b)
-unfolding withBit
-packed-with b k h = rw (packed-bit b k h) (cases (b k) there absent)
+packed-with : (b : ℕ → Bool) (k : ℕ) → k < 8 → withBit (packed b) k ≡ packed (adding k b)
+packed-with b k h = sym (packed-from (withBit (packed b) k) (adding k b) (with-small (packed b) k (packed-small b) h) same)
   where
-    same : b k ≡ true → (j : ℕ) → b j ≡ adding k b j
-    same t j = cases (eqb j k) (λ e. rw (e, eqb-true j k e) t) (λ e. rw e)
+    same-place : (i : ℕ) → eqb k i ≡ eqb i k
+    same-place i = same-test (eqb k i) (eqb i k) (λ t. eq-eqb i k (sym (eqb-true k i t))) (λ t. eq-eqb k i (sym (eqb-true i k t)))
 
-    there : b k ≡ true → cond (b k) (packed b) (packed b + 2 ^ k) ≡ packed (adding k b)
-    there t = rw t (packed-same b (adding k b) (λ j i. same t j))
-
-    absent : b k ≡ false → cond (b k) (packed b) (packed b + 2 ^ k) ≡ packed (adding k b)
-    absent t = rw t (packed-add b k h t)
+    same : (i : ℕ) → i < 8 → bitOf (withBit (packed b) k) i ≡ adding k b i
+    same i l = with-bit (packed b) k i h l ∙ rw (packed-bit b i l, same-place i) (or-swap (b i) (eqb i k))
 
 -- one bit more in a row of bits
 pub bits-with : (b : ℕ → Bool) (n i : ℕ) → i < 8 * n → set (bitBytes b n) (i / 8) (withBit (getD (bitBytes b n) (i / 8) 0) (i % 8)) ≡ bitBytes (adding i b) n

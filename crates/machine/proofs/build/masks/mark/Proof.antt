@@ -16,12 +16,18 @@ add-at : tie.Need-add-at
 unfolding maskSize
 add-at c = omega arith
 
-slice-read-with-bit : tie.Need-slice-read-with-bit
+slice-read-wide : tie.Need-slice-read-wide
 unfolding maskSize automatonSize
-slice-read-with-bit c = omega arith
+slice-read-wide c = omega arith
+
+wide-requires : tie.Need-wide-requires
+wide-requires c κs = search needs
 
 with-bit-requires : tie.Need-with-bit-requires
 with-bit-requires c κs = search needs
+
+cast-part : tie.Need-cast-part
+cast-part c = search needs
 
 slice-write-part : tie.Need-slice-write-part
 unfolding maskSize automatonSize
@@ -32,7 +38,7 @@ same-length c = search needs
 
 returns : tie.Need-returns
 unfolding marked maskSize masksAt
-returns c = rw (c .before .before .if1 .taken, c .with-bit .ensures)
+returns c = rw (c .before .before .before .if1 .taken, c .with-bit .ensures .0, c .before .wide .ensures .0)
 
 returns-2 : tie.Need-returns-2
 unfolding marked
@@ -45,8 +51,10 @@ mark-spec =
     mul-j
     add-j
     add-at
-    slice-read-with-bit
+    slice-read-wide
+    wide-requires
     with-bit-requires
+    cast-part
     slice-write-part
     same-length
     returns
