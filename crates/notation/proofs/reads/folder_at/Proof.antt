@@ -1,8 +1,7 @@
 -- `reads::folder_at`: by what `has`, `word_at` and `paths_end` ensure.
 use native.Mathlib.Omega.{arith}
-use mathlib.Core.Path.{_≡_}
-use mathlib.Core.Bool.{true, false}
-use Rattle.notation.specs.Reads.{present, folderCount, folderAt}
+use lib.Dec.{lit<}
+use Rattle.notation.specs.Reads.{folderAt}
 use Rattle.notation.specs.Layout.{foldersAt, folderSize}
 use Rattle.notation.specs.Limits.{maxPaths}
 use borrow.Author.Needs.{needs}
@@ -39,15 +38,17 @@ minus-requires c κs = search needs
 
 returns : tie.Need-returns
 unfolding folderAt maxPaths foldersAt folderSize
-returns c = let a = c .before .before .before .before .before .before .before .before .args in
-    let there : present (a .part .now) (folderCount (a .part .now)) maxPaths (a .i) ≡ true = cc in
-    (rw there (cc), omega arith)
+returns c =
+    let w = c .before .before .before in
+    let h = w .before .before in (
+      rw (← h .before .folders .ensures .0, ← h .has .ensures .0, w .before .if1 .taken)
+          (rw (c .minus .ensures, c .before .paths-end .ensures .0, c .before .before .word-at2 .ensures .0, w .word-at .ensures .0)),
+      omega arith,
+    )
 
 returns-2 : tie.Need-returns-2
 unfolding folderAt maxPaths
-returns-2 c = let a = c .before .before .before .before .args in
-    let gone : present (a .part .now) (folderCount (a .part .now)) maxPaths (a .i) ≡ false = cc in
-    (rw gone, omega arith)
+returns-2 c = (rw (← c .before .before .folders .ensures .0, ← c .before .has .ensures .0, c .if1 .left), lit< tt)
 
 pub folder-at-spec : {M : Type 1} → statement M
 folder-at-spec =

@@ -1,10 +1,10 @@
 -- `reads::folder_of`: the search from 0 on equals the search from `i` on, at each turn.
-use Rattle.notation.specs.Reads.{folderCount, storedNumber, searchFolder, folderOf}
-use Prim.Native.Nat.{ℕ, suc, _+_, _-_, _<_, _≤_, min}
+use Rattle.notation.specs.Reads.{storedNumber, searchFolder, folderOf}
+use Prim.Native.Nat.{ℕ, suc, _+_, _-_, _<_, _≤_}
 use mathlib.Core.Path.{_≡_, sym, _∙_}
 use mathlib.Core.List.{List}
 use native.Mathlib.Numerals.{add-one}
-use native.Mathlib.Nat.{sub-zero}
+use native.Mathlib.Nat.{sub-zero, sub-eq-zero-of-le}
 use native.Mathlib.Omega.{arith}
 use borrow.Author.Needs.{needs}
 use borrow.Author.Tests.{le-leb, lt-leb, eq-eqb, ne-eqb}
@@ -58,13 +58,13 @@ word-at-requires c κs = search needs
 
 returns-2 : tie.Need-returns-2 Inv-loop μ-loop
 unfolding folderOf setSize maxPaths foldersAt folderSize
-returns-2 c = let part = c .before .before .before .before .before .before .before .before .args .part .now in
-    let number = c .before .before .before .before .before .before .before .before .args .number .0 in
-    let top = c .before .before .before .before .least .result in
-    let i = c .before .before .before .loop .i in
-    let t : min (folderCount part) maxPaths ≡ top = cc in
-    let e : storedNumber part i ≡ number = cc in
-    rw (le-leb setSize _ (c .before .before .before .before .before .before .if1 .left), t) (sym (c .before .before .before .loop .inv .1 ∙ here part number i top (c .before .before .loop-test .taken) e))
+returns-2 c =
+    let l = c .before .before .before in
+    let t = l .before in
+    let a = t .before .before .before .before .args in
+    let e : storedNumber (a .part .now) (l .loop .i) ≡ a .number .0 = sym (c .before .word-at .ensures .0) ∙ c .if2 .taken in
+    rw (le-leb setSize _ (t .before .before .if1 .left), ← t .before .folders .ensures .0, ← t .least .ensures)
+    (sym (l .loop .inv .1 ∙ here (a .part .now) (a .number .0) (l .loop .i) (t .least .result) (c .before .before .loop-test .taken) e))
 
 add-i : tie.Need-add-i Inv-loop μ-loop
 add-i c = omega arith
@@ -83,13 +83,11 @@ loop-again c = let part = c .before .before .before .before .before .before .bef
 
 returns-3 : tie.Need-returns-3 Inv-loop μ-loop
 unfolding folderOf setSize maxPaths searchFolder
-returns-3 c = let part = c .before .before .before .before .before .before .args .part .now in
-    let number = c .before .before .before .before .before .before .args .number .0 in
-    let top = c .before .before .least .result in
-    let i = c .before .loop .i in
-    let t : min (folderCount part) maxPaths ≡ top = cc in
-    let z : top - i ≡ 0 = omega arith in
-    rw (le-leb setSize _ (c .before .before .before .before .if1 .left), t, c .before .loop .inv .1, z)
+returns-3 c =
+    let l = c .before in
+    let t = l .before in
+    let z : t .least .result - l .loop .i ≡ 0 = sub-eq-zero-of-le (c .loop-test .left) in
+    rw (le-leb setSize _ (t .before .before .if1 .left), ← t .before .folders .ensures .0, ← t .least .ensures, l .loop .inv .1, z)
 
 pub folder-of-spec : {M : Type 1} → statement M
 folder-of-spec =

@@ -1,7 +1,5 @@
 -- `reads::has`: each test is one part of `present`.
-use mathlib.Core.Path.{_≡_}
-use Prim.Native.Nat.{ℕ}
-use native.Mathlib.Omega.{arith}
+use mathlib.Core.Bool.{false≢true}
 use borrow.Author.Tests.{lt-ltb, le-ltb, le-leb, lt-leb, ltb-true}
 use Rattle.notation.specs.Reads.{present}
 use Rattle.notation.specs.Layout.{setSize}
@@ -10,15 +8,15 @@ use Rattle.notation.proofs.reads.has.Tie as tie
 
 returns : tie.Need-returns
 unfolding present setSize
-returns c = (simp (lt-leb setSize _ (c .if1 .taken)), λ e. let z : _≡_ {A = ℕ} 0 1 = cc in omega arith)
+returns c = (rw (lt-leb setSize _ (c .if1 .taken)), λ e. absurd (false≢true e))
 
 returns-2 : tie.Need-returns-2
 unfolding present setSize
-returns-2 c = (simp (le-leb setSize _ (c .before .if1 .left), le-ltb _ _ (c .if2 .taken)), λ e. let z : _≡_ {A = ℕ} 0 1 = cc in omega arith)
+returns-2 c = (rw (le-leb setSize _ (c .before .if1 .left), le-ltb _ _ (c .if2 .taken)), λ e. absurd (false≢true e))
 
 returns-3 : tie.Need-returns-3
 unfolding present setSize
-returns-3 c = (simp (le-leb setSize _ (c .before .if1 .left), lt-ltb _ _ (c .if2 .left)), ltb-true _ _)
+returns-3 c = (rw (le-leb setSize _ (c .before .if1 .left), lt-ltb _ _ (c .if2 .left)), ltb-true _ _)
 
 pub has-spec : {M : Type 1} → statement M
 has-spec = tie.close (tie.spec returns returns-2 returns-3)

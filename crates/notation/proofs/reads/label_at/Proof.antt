@@ -1,8 +1,7 @@
 -- `reads::label_at`: by what `has` and `word_at` ensure.
 use native.Mathlib.Omega.{arith}
-use mathlib.Core.Path.{_≡_}
-use mathlib.Core.Bool.{true, false}
-use Rattle.notation.specs.Reads.{present, labelCount, labelAt}
+use lib.Dec.{lit<}
+use Rattle.notation.specs.Reads.{labelAt}
 use Rattle.notation.specs.Layout.{labelsAt, labelSize}
 use Rattle.notation.specs.Limits.{maxLabels}
 use borrow.Author.Needs.{needs}
@@ -38,15 +37,17 @@ word-at-requires-3 c κs = search needs
 
 returns : tie.Need-returns
 unfolding labelAt maxLabels labelsAt labelSize
-returns c = let a = c .before .before .before .before .before .before .before .args in
-    let there : present (a .part .now) (labelCount (a .part .now)) maxLabels (a .i) ≡ true = cc in
-    (rw there (cc), omega arith)
+returns c =
+    let w = c .before .before in
+    let h = w .before .before in (
+      rw (← h .before .labels .ensures .0, ← h .has .ensures .0, w .before .if1 .taken)
+          (rw (c .word-at3 .ensures .0, c .before .word-at2 .ensures .0, w .word-at .ensures .0)),
+      omega arith,
+    )
 
 returns-2 : tie.Need-returns-2
 unfolding labelAt maxLabels
-returns-2 c = let a = c .before .before .before .before .args in
-    let gone : present (a .part .now) (labelCount (a .part .now)) maxLabels (a .i) ≡ false = cc in
-    (rw gone, omega arith)
+returns-2 c = (rw (← c .before .before .labels .ensures .0, ← c .before .has .ensures .0, c .if1 .left), lit< tt)
 
 pub label-at-spec : {M : Type 1} → statement M
 label-at-spec =

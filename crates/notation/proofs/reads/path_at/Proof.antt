@@ -1,8 +1,7 @@
 -- `reads::path_at`: by what `has` and `word_at` ensure.
 use native.Mathlib.Omega.{arith}
-use mathlib.Core.Path.{_≡_}
-use mathlib.Core.Bool.{true, false}
-use Rattle.notation.specs.Reads.{present, pathCount, pathAt}
+use lib.Dec.{lit<}
+use Rattle.notation.specs.Reads.{pathAt}
 use Rattle.notation.specs.Layout.{pathsAt, pathSize}
 use Rattle.notation.specs.Limits.{maxPaths}
 use borrow.Author.Needs.{needs}
@@ -44,15 +43,17 @@ word-at-requires-4 c κs = search needs
 
 returns : tie.Need-returns
 unfolding pathAt maxPaths pathsAt pathSize
-returns c = let a = c .before .before .before .before .before .before .before .before .args in
-    let there : present (a .part .now) (pathCount (a .part .now)) maxPaths (a .place .0) ≡ true = cc in
-    (rw there (cc), omega arith)
+returns c =
+    let w = c .before .before .before in
+    let h = w .before .before in (
+      rw (← h .before .paths .ensures .0, ← h .has .ensures .0, w .before .if1 .taken)
+          (rw (c .word-at4 .ensures .0, c .before .word-at3 .ensures .0, c .before .before .word-at2 .ensures .0, w .word-at .ensures .0)),
+      omega arith,
+    )
 
 returns-2 : tie.Need-returns-2
 unfolding pathAt maxPaths
-returns-2 c = let a = c .before .before .before .before .args in
-    let gone : present (a .part .now) (pathCount (a .part .now)) maxPaths (a .place .0) ≡ false = cc in
-    (rw gone, omega arith)
+returns-2 c = (rw (← c .before .before .paths .ensures .0, ← c .before .has .ensures .0, c .if1 .left), lit< tt)
 
 pub path-at-spec : {M : Type 1} → statement M
 path-at-spec =

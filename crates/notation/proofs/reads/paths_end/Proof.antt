@@ -1,10 +1,7 @@
 -- `reads::paths_end`: the next folder's first path, or the count of paths.
-use mathlib.Core.Path.{_≡_}
-use mathlib.Core.Bool.{true, false}
-use Rattle.notation.specs.Reads.{present, folderCount, pathsEnd}
+use Rattle.notation.specs.Reads.{pathsEnd}
 use Rattle.notation.specs.Layout.{foldersAt, folderSize}
 use Rattle.notation.specs.Limits.{maxPaths}
-use Prim.Native.Nat.{_+_}
 use borrow.Author.Needs.{needs}
 use Rattle.notation.proofs.reads.paths_end.Statement.{statement}
 use Rattle.notation.proofs.reads.paths_end.Tie as tie
@@ -39,15 +36,15 @@ paths-requires c κs = search needs
 
 returns : tie.Need-returns
 unfolding pathsEnd maxPaths foldersAt folderSize
-returns c = let a = c .before .before .before .before .before .args in
-    let there : present (a .part .now) (folderCount (a .part .now)) maxPaths (a .i + 1) ≡ true = cc in
-    (rw there (c .word-at .ensures .0), c .word-at .ensures .1)
+returns c =
+    let h = c .before .before in
+    (rw (← h .before .folders .ensures .0, ← h .has .ensures .0, c .before .if1 .taken) (c .word-at .ensures .0), c .word-at .ensures .1)
 
 returns-2 : tie.Need-returns-2
 unfolding pathsEnd maxPaths
-returns-2 c = let a = c .before .before .before .before .before .args in
-    let gone : present (a .part .now) (folderCount (a .part .now)) maxPaths (a .i + 1) ≡ false = cc in
-    (rw gone (c .paths .ensures .0), c .paths .ensures .1)
+returns-2 c =
+    let h = c .before .before in
+    (rw (← h .before .folders .ensures .0, ← h .has .ensures .0, c .before .if1 .left) (c .paths .ensures .0), c .paths .ensures .1)
 
 pub paths-end-spec : {M : Type 1} → statement M
 paths-end-spec =

@@ -1,11 +1,8 @@
 -- `reads::step_at`: by what `has` and `byte_at` ensure.
 use native.Mathlib.Omega.{arith}
-use mathlib.Core.Path.{_≡_}
-use mathlib.Core.Bool.{true, false}
-use Rattle.notation.specs.Reads.{present, stepCount, stepAt}
+use Rattle.notation.specs.Reads.{stepAt}
 use Rattle.notation.specs.Layout.{stepsAt}
 use Rattle.notation.specs.Limits.{maxPaths, maxSteps}
-use Prim.Native.Nat.{_*_}
 use borrow.Author.Needs.{needs}
 use Rattle.notation.proofs.reads.step_at.Statement.{statement}
 use Rattle.notation.proofs.reads.step_at.Tie as tie
@@ -24,15 +21,13 @@ byte-at-requires c κs = search needs
 
 returns : tie.Need-returns
 unfolding stepAt maxPaths maxSteps stepsAt
-returns c = let a = c .before .before .before .before .before .args in
-    let there : present (a .part .now) (stepCount (a .part .now)) (maxPaths * maxSteps) (a .i) ≡ true = cc in
-    rw there (rw (← c .byte-at .ensures .0))
+returns c =
+    let h = c .before .before in
+    rw (← h .before .steps .ensures .0, ← h .has .ensures .0, c .before .if1 .taken, ← c .byte-at .ensures .0)
 
 returns-2 : tie.Need-returns-2
 unfolding stepAt maxPaths maxSteps
-returns-2 c = let a = c .before .before .before .before .args in
-    let gone : present (a .part .now) (stepCount (a .part .now)) (maxPaths * maxSteps) (a .i) ≡ false = cc in
-    rw gone
+returns-2 c = rw (← c .before .before .steps .ensures .0, ← c .before .has .ensures .0, c .if1 .left)
 
 pub step-at-spec : {M : Type 1} → statement M
 step-at-spec =

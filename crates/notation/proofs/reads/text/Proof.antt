@@ -10,7 +10,7 @@ text-slice-requires : tie.Need-text-slice-requires
 text-slice-requires c κs = search needs
 
 returns : tie.Need-returns
-returns c = cc
+returns c = rw (← c .before .text-len .ensures .0) (c .text-slice .ensures)
 
 pub text-spec : {M : Type 1} → statement M
 text-spec = tie.close (tie.spec text-len-requires text-slice-requires returns)
