@@ -8,4 +8,5 @@ pub mod Taking
 pub mod FilingStored
 pub mod FilingAlike
 pub mod FilingNumbers
+pub mod FilingOpens
 pub mod FromBytes

@@ -30,7 +30,7 @@ use Rattle.theory.proofs.Laws.Machine.Matches.{run-matched}
 use Rattle.theory.proofs.Laws.Machine.Moves.{Few, fresh-few}
 use Rattle.stored.proofs.Laws.Running.Means.{Means, means}
 use Rattle.stored.proofs.Laws.Running.FolderPlaces.{hasNumber}
-use Rattle.stored.proofs.Laws.Running.Asking.{asked, ask-folder}
+use Rattle.stored.proofs.Laws.Running.Asking.{ask-folder}
 use Rattle.stored.proofs.Laws.Running.Following.{leftOf, number-none, few-run}
 use Rattle.stored.proofs.Laws.Running.Demand3.{path-answers, folder-answers, demand3-means}
 use Rattle.documents.specs.Document.{eventsOf, documentIn}
@@ -41,7 +41,7 @@ use Rattle.filing.specs.FiledReport.{FiledReport, reportNumbers, Demand2
 use Rattle.filing.proofs.Laws.Filing.FilingOrder.{refused-is, filed-is}
 use Rattle.filing.proofs.Laws.Filing.FilingAdded.{added}
 use Rattle.filing.proofs.Laws.Filing.FilingAlike.{same-number}
-use Rattle.filing.proofs.Laws.Filing.FilingNumbers.{given-among}
+use Rattle.filing.proofs.Laws.Filing.FilingOpens.{given-among}
 use Rattle.filing.proofs.Laws.Filing.FilingStored.{storedOf, start-stored, report-stored}
 use Rattle.filing.proofs.Laws.Filing.Demand2.{of-document}
 
