@@ -9,8 +9,8 @@ ghost use Prim.Native.Nat.{_+_, _≤_};
 ghost use lib.ListN.{length, drop};
 ghost use Rattle.documents.specs.Tokens.{inValue};
 ghost use mathlib.Core.List.{[], _∷_};
-ghost use Rattle.documents.specs.Tokens.{blank as blankByte, quoteByte};
-ghost use Rattle.documents.specs.Reading.{thenRead, back, readWord, readName, readQuote, readReference, readParts, readAttributeFrom};
+ghost use Rattle.documents.specs.Tokens.{blank as blankByte};
+ghost use Rattle.documents.specs.Reading.{back, readWord, readName, readReference, readParts, readAttributeFrom};
 ghost use Rattle.filing.specs.Reaches.{reachOf, quotedReach, valueReach, insideReach};
 
 // Nothing that can be read begins there, or where it ends.

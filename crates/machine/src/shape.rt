@@ -1,9 +1,8 @@
 // The shape test of an automaton: each stored number in its range (paper 01: the shape test). Any bytes are tested.
 ghost use mathlib.Core.Path.{_≡_};
-ghost use Prim.Native.Nat.{_≤_, _<_};
+ghost use Prim.Native.Nat.{_<_};
 ghost use Rattle.notation.specs.Reads.{folderCount, pathCount, stepCount, labelCount};
 ghost use Rattle.stored.specs.Automaton.{hashes};
-ghost use Rattle.stored.specs.Tables.{sizeOf};
 ghost use Rattle.stored.specs.Shape.{allBelow, countsShaped, folderShaped, pathShaped, stepShaped, labelShaped, headShaped, linkShaped, automatonShaped};
 use crate::layout::HASHES;
 use crate::layout::HEADS_AT;

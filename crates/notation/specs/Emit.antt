@@ -1,6 +1,6 @@
 -- The entries that reading a set's text writes, byte by byte, beside Scan. That they are the tables of the set (Layout) is a law.
 use Prim.Native.Nat.{ℕ, _+_, _-_}
-use mathlib.Core.Bool.{Bool, true, false, cond}
+use mathlib.Core.Bool.{cond}
 use mathlib.Core.List.{List, [], _∷_, _++_}
 use lib.Dec.{eqb}
 use Rattle.notation.specs.Names.{inName}

@@ -1,10 +1,10 @@
 -- What a path means on the names of the open elements, outermost first (paper 01: Fit; an active step is one that "stands").
-use Prim.Native.Nat.{ℕ, zero, suc, _≤_, _<_, pred}
+use Prim.Native.Nat.{ℕ, suc, _≤_, _<_, pred}
 use mathlib.Core.Path.{_≡_}
-use mathlib.Core.List.{List, [], _∷_}
+use mathlib.Core.List.{List, []}
 use lib.ListN.{length, getD}
 use Rattle.notation.specs.Names.{Name}
-use Rattle.notation.specs.Sets.{Axis, child, Test, label, star, Step, step, Path, axisOf, testOf}
+use Rattle.notation.specs.Sets.{child, Test, label, star, Step, step, Path, axisOf, testOf}
 
 -- a label takes an element of its name, `*` takes any element
 abbrev pub Takes : Test → Name → Type 0

@@ -1,5 +1,5 @@
 -- When a set is well formed, when a text is of the form, and the further conditions on which an accepted form is refused.
-use Prim.Native.Nat.{ℕ, zero, suc, _+_}
+use Prim.Native.Nat.{ℕ, suc, _+_}
 use mathlib.Core.Path.{_≡_}
 use mathlib.Core.Bool.{Bool, true, false, _&&_, _||_, cond}
 use mathlib.Core.List.{List, [], _∷_, _++_}
@@ -7,7 +7,7 @@ use lib.Dec.{leb, ltb}
 use lib.ListN.{length}
 use Rattle.notation.specs.Limits.{maxNumber, maxSteps, maxPaths, maxLabels, maxSetBytes}
 use Rattle.notation.specs.Names.{nameForm, tooLong, within}
-use Rattle.notation.specs.Sets.{Test, label, star, Step, step, Path, Folder, folder, FolderSet, testOf, folderPaths}
+use Rattle.notation.specs.Sets.{Test, label, star, Step, Path, Folder, folder, FolderSet, testOf, folderPaths}
 use Rattle.notation.specs.Print.{print}
 use Rattle.notation.specs.Refusals.{Refusal, outOfTurn, longName, longPath, numberOf}
 

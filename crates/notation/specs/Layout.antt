@@ -1,9 +1,9 @@
 -- Where the parts of a read set stand in its buffer, and which bytes they are. Numbers take two bytes, the lower first; spare bytes are 0.
-use Prim.Native.Nat.{ℕ, zero, suc, _+_, _-_, _*_, _/_, _%_}
+use Prim.Native.Nat.{ℕ, suc, _+_, _-_, _*_, _/_, _%_}
 use mathlib.Core.List.{List, [], _∷_, _++_, map}
 use lib.ListN.{length, replicate}
 use Rattle.notation.specs.Limits.{maxSetBytes, maxPaths, maxSteps, maxLabels}
-use Rattle.notation.specs.Sets.{Axis, child, descendant, Test, label, star, Step, step, Path, Folder, folder, FolderSet}
+use Rattle.notation.specs.Sets.{Axis, child, descendant, Test, label, star, Step, step, Path, folder, FolderSet}
 use Rattle.notation.specs.Print.{decimal, printAxis, printStep, printPath, printFolder, print}
 use Rattle.notation.specs.Form.{pathsOf, stepsOf}
 

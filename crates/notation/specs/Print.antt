@@ -1,6 +1,6 @@
 -- The text of a folder set. The format is defined by printing: a text is of the form exactly when some well-formed set prints to it.
 use Prim.Native.Nat.{ℕ, zero, suc, _+_, _/_, _%_}
-use mathlib.Core.Bool.{Bool, true, false}
+use mathlib.Core.Bool.{true, false}
 use mathlib.Core.List.{List, [], _∷_, _++_}
 use lib.Dec.{ltb}
 use Rattle.notation.specs.Sets.{Axis, child, descendant, Test, label, star, Step, step, Path, Folder, folder, FolderSet}

@@ -1,6 +1,6 @@
 -- What one byte of a set's text writes into the buffer of a read set, beside Scan: the bytes of the entries that Emit adds.
-use Prim.Native.Nat.{ℕ, _+_, _-_, _*_, _≤_, _<_}
-use mathlib.Core.Bool.{Bool, true, false, cond}
+use Prim.Native.Nat.{ℕ, _+_, _-_, _*_, _≤_}
+use mathlib.Core.Bool.{cond}
 use mathlib.Core.List.{List, [], _∷_, _++_}
 use lib.Dec.{eqb}
 use lib.ListN.{set}
@@ -8,7 +8,7 @@ use lib.Seq.{sets}
 use Rattle.notation.specs.Limits.{maxPaths, maxSteps, maxLabels}
 use Rattle.notation.specs.Names.{inName}
 use Rattle.notation.specs.Scan.{scanned}
-use Rattle.notation.specs.Layout.{le16, folderSize, pathSize, labelSize, foldersAt, pathsAt, stepsAt, labelsAt, setSize, folderEntry, pathEntry, labelEntry}
+use Rattle.notation.specs.Layout.{le16, folderSize, pathSize, labelSize, foldersAt, pathsAt, stepsAt, labelsAt, folderEntry, pathEntry, labelEntry}
 use Rattle.notation.specs.declared.scan.Mode.{Mode}
 use Rattle.notation.specs.declared.scan.Mode.the-variants.{Header, LineStart, Word, NumberStart, Number, PathOpen, PathStart, Slash, Slashes, Label, Star, PathEnd, LineEnd, LastLine, Done, Bent}
 use Rattle.notation.specs.declared.scan.Tally.{Tally}

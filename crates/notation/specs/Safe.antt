@@ -1,6 +1,6 @@
 -- What every scan from the start keeps, so that its sums fit: no count is above the number of bytes read, and places in the fixed
 -- words are within them.
-use Prim.Native.Nat.{ℕ, _≤_, _<_}
+use Prim.Native.Nat.{_≤_, _<_}
 use Rattle.notation.specs.declared.scan.Mode.{Mode}
 use Rattle.notation.specs.declared.scan.Mode.the-variants.{Header, LineStart, Word, NumberStart, Number, PathOpen, PathStart, Slash, Slashes, Label, Star, PathEnd, LineEnd, LastLine, Done, Bent}
 use Rattle.notation.specs.declared.scan.Tally.{Tally}

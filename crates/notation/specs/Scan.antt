@@ -1,10 +1,10 @@
 -- Reading a set's text byte by byte: the automaton that the code follows. That it accepts exactly the texts of the form, and counts
 -- what their set has, are laws (proofs/Laws); nothing here has to be believed.
-use Prim.Native.Nat.{ℕ, zero, suc, _+_, _-_, _*_}
+use Prim.Native.Nat.{ℕ, suc, _+_, _-_, _*_}
 use mathlib.Core.Bool.{Bool, true, false, _&&_, _||_, cond}
-use mathlib.Core.List.{List, [], _∷_, _++_}
+use mathlib.Core.List.{List, [], _∷_}
 use lib.Dec.{leb, ltb, eqb}
-use lib.ListN.{getD, length}
+use lib.ListN.{getD}
 use Rattle.notation.specs.Limits.{maxName, maxSteps, maxPaths, maxLabels}
 use Rattle.notation.specs.Names.{beginsName, inName, digit, within}
 use Rattle.notation.specs.Print.{header, folderWord}

@@ -14,15 +14,13 @@ use crate::scan::Tally;
 use crate::store::put_pair;
 use crate::store::put16;
 ghost use mathlib.Core.Path.{_≡_};
-ghost use mathlib.Core.List.{_++_};
 ghost use mathlib.Core.Bool.{cond};
-ghost use Prim.Native.Nat.{_+_, _*_, _-_, _≤_, _<_};
+ghost use Prim.Native.Nat.{_+_, _*_, _≤_, _<_};
 ghost use lib.Dec.{eqb};
-ghost use lib.ListN.{length, drop, replicate};
-ghost use lib.Seq.{sets};
+ghost use lib.ListN.{length};
 ghost use Rattle.notation.specs.Names.{inName};
 ghost use Rattle.notation.specs.Limits.{maxPaths, maxSteps, maxLabels};
-ghost use Rattle.notation.specs.Layout.{le16, setSize};
+ghost use Rattle.notation.specs.Layout.{setSize};
 ghost use Rattle.notation.specs.Put.{putFolder, putStep, putPath, putTest, putLabel, put, Within};
 ghost use Rattle.notation.specs.Scan.{folderRead, pathRead, labelRead, starRead, counted};
 

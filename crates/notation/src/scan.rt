@@ -6,7 +6,7 @@ ghost use mathlib.Core.Path.{_≡_};
 ghost use Prim.Native.Nat.{_+_, _≤_, _<_};
 ghost use lib.ListN.{length};
 ghost use Rattle.notation.specs.Scan.{isDone, ticked, scanned, scan, start, ended, refusalOf};
-ghost use Rattle.notation.specs.Safe.{Small, Safe};
+ghost use Rattle.notation.specs.Safe.{Safe};
 
 mod counting;
 mod modes;

@@ -2,7 +2,7 @@
 use Prim.Native.Nat.{ℕ, zero, suc, _+_, _-_}
 use mathlib.Core.Bool.{Bool, true, false, not, _&&_, cond}
 use mathlib.Core.List.{List, [], _∷_}
-use lib.Dec.{leb, eqb}
+use lib.Dec.{eqb}
 use Rattle.notation.specs.Names.{Name, within}
 use Rattle.notation.specs.Reads.{pathAt, folderAt, folderOf}
 use Rattle.notation.specs.Refusals.{shortBuffer, strangeShape, noSuchPlace}

@@ -6,12 +6,12 @@ use mathlib.Core.List.{List, [], _∷_, _++_, map}
 use lib.Dec.{eqb}
 use lib.ListN.{length}
 use Rattle.notation.specs.Names.{Name}
-use Rattle.notation.specs.Limits.{maxPaths, maxSteps, maxLabels}
-use Rattle.notation.specs.Sets.{Axis, child, descendant, Test, label, star, Step, step, Path, FolderSet, axisOf, testOf}
+use Rattle.notation.specs.Limits.{maxLabels}
+use Rattle.notation.specs.Sets.{Step, Path, FolderSet, axisOf, testOf}
 use Rattle.notation.specs.Form.{pathsOf, stepsOf, labelsOf}
 use Rattle.notation.specs.Layout.{setSize, setPart, le16, joined, padded}
 use Rattle.notation.specs.Reads.{isDescendant, isStar}
-use Rattle.theory.specs.Words.{Symbol, document, name, Word, sameSymbol, before, labelWords, begins}
+use Rattle.theory.specs.Words.{document, name, Word, sameSymbol, before, labelWords, begins}
 use Rattle.theory.specs.Prefix.{failure}
 
 -- sizes and offsets

@@ -1,6 +1,6 @@
 -- The pass that writes the masks and the initial state behind a read set. It follows the code; laws say that on a set's bytes it gives
 -- the set's masks.
-use Prim.Native.Nat.{ℕ, zero, suc, _+_, _*_, _/_, _%_, _^_}
+use Prim.Native.Nat.{ℕ, zero, suc, _+_, _*_, _/_, _%_}
 use mathlib.Core.Bool.{Bool, true, false, not, _||_, cond}
 use mathlib.Core.List.{List}
 use lib.Dec.{ltb, eqb}

@@ -1,6 +1,6 @@
 -- What the calls on a run answer and leave, of any automaton, run and counters, by what is stored: the equations of their contracts.
 use Prim.Native.Nat.{ℕ, zero, suc, _+_, _*_, _/_, pred}
-use mathlib.Core.Bool.{Bool, true, false, not, _&&_, _||_, cond}
+use mathlib.Core.Bool.{Bool, false, not, _&&_, _||_, cond}
 use mathlib.Core.List.{List, [], _∷_, _++_}
 use lib.Dec.{leb, ltb, eqb}
 use lib.ListN.{length, getD, set, take, drop, replicate}
@@ -19,7 +19,7 @@ use Rattle.stored.specs.Shape.{automatonShaped, allBelow}
 use Rattle.stored.specs.Run.{matchesAt, nameIn, stateIn, activeIn, seenIn, rowAt, rowSize, runSize}
 use Rattle.stored.specs.declared.counters.Counters.{Counters}
 use Rattle.stored.specs.declared.walk.Walk.{Walk}
-use Rattle.notation.specs.Refusals.{Refusal, numberOf, shortBuffer, strangeShape, torn, longName, looseEnd, tooDeep, full, crossed, noSuchPlace}
+use Rattle.notation.specs.Refusals.{numberOf, shortBuffer, strangeShape, torn, longName, looseEnd, tooDeep, full, crossed}
 use Rattle.theory.specs.Words.{any}
 use Rattle.theory.specs.Order.{Condition, gives}
 

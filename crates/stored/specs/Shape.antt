@@ -1,14 +1,14 @@
 -- The shape test of an automaton: each stored number in its range, every failure link to a shorter word, the text within its limit. It fails
 -- for nothing else.
 use Prim.Native.Nat.{ℕ, zero, suc, _+_, _*_}
-use mathlib.Core.Bool.{Bool, true, false, _&&_, _||_}
+use mathlib.Core.Bool.{Bool, true, _&&_, _||_}
 use mathlib.Core.List.{List}
 use lib.Dec.{leb, ltb, eqb}
 use lib.ListN.{getD}
 use Rattle.notation.specs.Names.{within}
 use Rattle.notation.specs.Limits.{maxName, maxSetBytes, maxNumber, maxPaths, maxSteps, maxLabels}
 use Rattle.notation.specs.Layout.{stepsAt}
-use Rattle.notation.specs.Reads.{word16, textLen, folderCount, pathCount, stepCount, labelCount, folderEntryAt, pathEntryAt, labelEntryAt, storedNumber, storedFirst}
+use Rattle.notation.specs.Reads.{word16, textLen, folderCount, pathCount, stepCount, labelCount, pathEntryAt, labelEntryAt, storedNumber, storedFirst}
 use Rattle.stored.specs.Automaton.{hashes}
 use Rattle.stored.specs.Tables.{headAt, nextAt, parentAt, failAt, sizeAt, startOf, sizeOf}
 

@@ -1,7 +1,7 @@
 -- What is stored in an automaton's tables, of any bytes, and the walk over them. For the automaton of a set these are the shared machine's
 -- (laws); for any other bytes they are what the calls answer by.
 use Prim.Native.Nat.{ℕ, zero, suc, _+_, _*_}
-use mathlib.Core.Bool.{Bool, true, false, not, _&&_, cond}
+use mathlib.Core.Bool.{Bool, not, _&&_, cond}
 use mathlib.Core.List.{List}
 use lib.Dec.{eqb}
 use Rattle.notation.specs.Names.{Name}

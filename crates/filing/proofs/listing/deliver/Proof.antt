@@ -1,5 +1,4 @@
 -- `listing::deliver`: what the page holds, if it held all.
-use native.Mathlib.Omega.{arith}
 use mathlib.Core.Path.{sym}
 use lib.Seq.{length-take-le}
 use borrow.Author.Tests.{not-true, not-false}

@@ -1,6 +1,3 @@
-use Rattle.stored.proofs.Laws.Bytes.ByteBits.{and-bit, or-bit, one-on, power-bit}
-use lib.Bits.{and-lt, or-lt}
-use native.Mathlib.Omega.{arith}
 use borrow.Author.Needs.{needs}
 use Rattle.machine.proofs.bits.bit_in.Statement.{statement}
 use Rattle.machine.proofs.bits.bit_in.Tie as tie

@@ -1,5 +1,5 @@
-use Rattle.stored.proofs.Laws.Bytes.ByteBits.{and-bit, or-bit, one-on, power-bit}
-use lib.Bits.{and-lt, or-lt}
+use Rattle.stored.proofs.Laws.Bytes.ByteBits.{and-bit}
+use lib.Bits.{and-lt}
 use native.Mathlib.Omega.{arith}
 use Rattle.machine.proofs.bits.both.Statement.{statement}
 use Rattle.machine.proofs.bits.both.Tie as tie

@@ -1,5 +1,5 @@
-use Rattle.stored.proofs.Laws.Bytes.ByteBits.{and-bit, or-bit, one-on, power-bit}
-use lib.Bits.{and-lt, or-lt}
+use Rattle.stored.proofs.Laws.Bytes.ByteBits.{or-bit}
+use lib.Bits.{or-lt}
 use native.Mathlib.Omega.{arith}
 use Rattle.machine.proofs.bits.either.Statement.{statement}
 use Rattle.machine.proofs.bits.either.Tie as tie

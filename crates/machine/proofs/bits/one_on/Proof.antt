@@ -1,5 +1,4 @@
-use Rattle.stored.proofs.Laws.Bytes.ByteBits.{and-bit, or-bit, one-on, power-bit}
-use lib.Bits.{and-lt, or-lt}
+use Rattle.stored.proofs.Laws.Bytes.ByteBits.{one-on}
 use native.Mathlib.Omega.{arith}
 use borrow.Author.Needs.{needs}
 use Rattle.machine.proofs.bits.one_on.Statement.{statement}

@@ -1,15 +1,15 @@
 -- What reading a whole text writes is its layout.
 use Prim.Native.Nat.{ℕ, suc, _+_, _≤_}
-use mathlib.Core.Path.{_≡_, refl, _∙_, sym, ap, subst}
+use mathlib.Core.Path.{_≡_, refl, _∙_, sym, ap}
 use mathlib.Core.List.{List, [], _∷_, _++_}
 use native.Mathlib.Omega.{arith}
-use lib.ListN.{length, drop, replicate, set, length-set, length-replicate}
+use lib.ListN.{length, replicate, set, length-set, length-replicate}
 use lib.Seq.{sets, set-append-left}
 use Rattle.notation.specs.Limits.{maxSetBytes}
 use Rattle.notation.specs.Layout.{Tables, counts, textAt, setSize}
 use Rattle.notation.specs.Scan.{scan, scanned, start}
 use Rattle.notation.specs.Emit.{emit, emitted, tablesRead, partRead, noTables}
-use Rattle.notation.specs.Put.{put, putAll, tallied, Within}
+use Rattle.notation.specs.Put.{putAll, tallied, Within}
 use Rattle.notation.specs.declared.scan.Tally.{Tally}
 use Rattle.notation.specs.declared.scan.Scan.{Scan}
 use Rattle.notation.proofs.Laws.Fill.Assembled.{assembled, head-put, cleared-is}

@@ -1,8 +1,7 @@
 -- Every scan from the start keeps its counts within the bytes read and its places within the fixed words.
 use Prim.Native.Nat.{ℕ, _+_, _-_, _*_, _≤_, _<_}
-use mathlib.Core.Path.{_≡_, refl, _∙_, sym, ap, subst}
+use mathlib.Core.Path.{_≡_, refl, ap}
 use mathlib.Core.Bool.{Bool, true, false, _&&_, cond}
-use mathlib.Core.List.{List, [], _∷_}
 use lib.Dec.{eqb, ltb}
 use native.Mathlib.Omega.{arith}
 use borrow.Author.Tests.{eqb-false}
@@ -10,7 +9,7 @@ use Rattle.notation.proofs.Laws.Tests.{cases}
 use Rattle.notation.specs.Names.{beginsName, inName, digit, within}
 use lib.ListN.{getD}
 use Rattle.notation.specs.Print.{header, folderWord}
-use Rattle.notation.specs.Scan.{next, inWord, testStart, testEnd, counted, scanned, start, folderRead, pathBegun, deepened, labelBegun, labelRead, starRead, pathRead}
+use Rattle.notation.specs.Scan.{next, testStart, testEnd, counted, scanned, start, labelRead, starRead, pathRead}
 use Rattle.notation.specs.Safe.{SmallMode, Small, Safe}
 use Rattle.notation.specs.declared.scan.Mode.{Mode}
 use Rattle.notation.specs.declared.scan.Mode.the-variants.{Header, LineStart, Word, NumberStart, Number, PathOpen, PathStart, Slash, Slashes, Label, Star, PathEnd, LineEnd, LastLine, Done, Bent}

@@ -3,13 +3,12 @@ use Prim.Native.Nat.{ℕ, _*_}
 use mathlib.Core.Path.{_≡_, ap, _∙_}
 use mathlib.Core.Bool.{true}
 use mathlib.Core.List.{List, _++_}
-use lib.ListN.{length, replicate}
+use lib.ListN.{replicate}
 use Rattle.notation.specs.Sets.{FolderSet}
 use Rattle.notation.specs.Form.{formed}
 use Rattle.notation.proofs.Laws.Refused.Fitting.{Fitting}
 use Rattle.stored.specs.Automaton.{maskSize, allLabels, heads, links, masks, assembled, automatonOf}
 use Rattle.stored.specs.Masks.{withMasks, withStart}
-use Rattle.stored.proofs.Laws.Tables.Assembled.{Sized}
 use Rattle.stored.proofs.Laws.Building.Masked.{masks-put}
 use Rattle.stored.proofs.Laws.Building.Started.{start-written}
 use Rattle.stored.proofs.Laws.Tables.Compiled.{automaton-sized}

@@ -1,7 +1,7 @@
 -- On the run of a machine's state the asking calls answer what the machine has, and 13 exactly where what is asked of is not there.
 use Prim.Native.Nat.{ℕ, zero, suc, _+_, _-_, _*_, _≤_, _<_, pred}
 use mathlib.Core.Path.{_≡_, refl, ap₂}
-use mathlib.Core.Bool.{Bool, true, false, not, _&&_, _||_, cond}
+use mathlib.Core.Bool.{Bool, true, false, _&&_, _||_, cond}
 use mathlib.Core.List.{List, [], _++_}
 use native.Mathlib.Omega.{arith}
 use native.Mathlib.Nat.{zero-add}
@@ -27,7 +27,7 @@ use Rattle.notation.proofs.Laws.Stored.ReadFolders.{folder-read, folder-of-read
 use Rattle.theory.specs.Prefix.{prefixOf}
 use Rattle.theory.specs.Words.{any}
 use Rattle.theory.specs.Folders.{countFrom, placesFrom, folderMatched}
-use Rattle.theory.specs.Calls.{State, openNames, depth, activeStep}
+use Rattle.theory.specs.Calls.{State, openNames, activeStep}
 use Rattle.stored.specs.Automaton.{maskSize}
 use Rattle.stored.specs.Run.{runOf}
 use Rattle.stored.specs.RunCalls.{depthOf, storedName, activeAt, given}

@@ -11,7 +11,7 @@ use lib.Dec.{ltb, eqb}
 use lib.ListN.{length, getD, take, length-append, List·getD-append}
 use lib.Seq.{getD-append-add}
 use Rattle.notation.specs.Names.{Name}
-use Rattle.notation.specs.Sets.{Test, label, star, Step, step, Path, FolderSet, testOf}
+use Rattle.notation.specs.Sets.{Test, label, star, Step, Path, FolderSet, testOf}
 use Rattle.notation.specs.Form.{pathsOf, stepsOf, labelOf, labelsOf}
 use Rattle.notation.specs.Activity.{sameName}
 use Rattle.notation.specs.Reads.{word16, labelEntryAt}

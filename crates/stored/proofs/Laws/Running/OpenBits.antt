@@ -10,7 +10,7 @@ use lib.Dec.{ltb, eqb}
 use lib.ListN.{length, getD}
 use lib.Seq.{take-length}
 use Rattle.notation.specs.Names.{Name}
-use Rattle.notation.specs.Sets.{Axis, child, descendant, Test, label, star, step, Path, FolderSet, axisOf, testOf}
+use Rattle.notation.specs.Sets.{Axis, child, descendant, Test, label, star, Path, FolderSet, axisOf, testOf}
 use Rattle.notation.specs.Form.{pathsOf, stepsOf}
 use Rattle.notation.specs.Reads.{isDescendant, isStar}
 use Rattle.notation.specs.Fit.{stepAt}
@@ -18,7 +18,7 @@ use Rattle.notation.specs.Activity.{takes, byAxis, allowed, here, isEmpty, acti
 use Rattle.notation.proofs.Laws.Meaning.Innermost.{active-more, seen-more}
 use Rattle.notation.proofs.Laws.Stored.PathTable.{stepsBefore}
 use Rattle.theory.specs.Limits.{maxDepth}
-use Rattle.stored.specs.Automaton.{maskSize, Role, role, roles, roleAt, isStarRole, isChildRole, isDescendantRole, isAnywhereRole, isRootRole, isLastRole}
+use Rattle.stored.specs.Automaton.{maskSize, Role, roles, roleAt, isStarRole, isChildRole, isDescendantRole, isAnywhereRole, isRootRole, isLastRole}
 use Rattle.stored.specs.Run.{stepBit, matchBit, activeBits, seenBits, runWith}
 use Rattle.stored.specs.RunCalls.{depthOf, activeAt, seenAt, maskBit, candidate, shifted, permitted, nowActive, nowSeen, nowMatched}
 use Rattle.theory.proofs.Laws.Basics.{cases}

@@ -1,6 +1,6 @@
 -- An accepted open of a run gives the run of the names with one more and of the matches with those paths that fit now; its failure moves
 -- are the machine's. An accepted close takes the last name away again. A start gives the fresh run.
-use Prim.Native.Nat.{ℕ, zero, suc, _+_, _*_, _≤_, _<_, pred}
+use Prim.Native.Nat.{ℕ, suc, _+_, _*_, _≤_, _<_, pred}
 use mathlib.Core.Path.{_≡_, refl, sym, _∙_, ap, ap₂}
 use mathlib.Core.Bool.{Bool, false, _||_}
 use mathlib.Core.Logic.{_⊎_, inl, inr}

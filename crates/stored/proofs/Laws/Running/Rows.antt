@@ -1,11 +1,11 @@
 -- A row lent out of the middle of a run and put back.
 use Prim.Native.Nat.{ℕ, _+_, _-_, _≤_, pred}
-use mathlib.Core.Path.{_≡_, refl, sym, ap, _∙_}
+use mathlib.Core.Path.{_≡_, ap}
 use mathlib.Core.List.{List, _++_}
 use native.Mathlib.Omega.{arith}
 use lib.ListN.{length, take, drop, length-take, length-drop}
 use lib.Seq.{sets}
-use borrow.Rule.Slice.PartMut.{midOf, postOf, putMid, post-is, same-len-mid}
+use borrow.Rule.Slice.PartMut.{midOf, putMid, post-is, same-len-mid}
 use Rattle.notation.specs.Layout.{le16}
 use Rattle.stored.specs.Run.{rowAt, rowSize}
 use Rattle.stored.specs.RunCalls.{depthOf, rowCleared, closeRun}

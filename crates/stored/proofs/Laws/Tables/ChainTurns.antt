@@ -1,14 +1,13 @@
 -- The labels of a name on its chain, label by label: the bound of the definition is enough where the tables can be searched.
 use Prim.Native.Nat.{ℕ, zero, suc, _+_, _-_, _≤_, _<_}
 use mathlib.Core.Path.{_≡_, refl, sym, _∙_, ap}
-use mathlib.Core.Bool.{Bool, true, false, _||_, cond}
+use mathlib.Core.Bool.{Bool, true, false, _||_}
 use mathlib.Core.List.{List, [], _∷_, _++_}
 use native.Mathlib.Omega.{arith}
 use lib.ListN.{length}
 use Rattle.notation.specs.Names.{Name}
 use Rattle.notation.specs.Limits.{maxLabels}
-use Rattle.notation.specs.Activity.{sameName}
-use Rattle.notation.specs.Reads.{labelCount, labelName}
+use Rattle.notation.specs.Reads.{labelCount}
 use Rattle.stored.specs.Automaton.{automatonSize}
 use Rattle.theory.specs.Words.{any}
 use Rattle.stored.specs.Tables.{nextAt}

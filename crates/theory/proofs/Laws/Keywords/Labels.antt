@@ -2,7 +2,7 @@
 use Prim.Native.Nat.{ℕ}
 use mathlib.Core.Path.{_≡_, refl, sym, _∙_, ap, subst}
 use mathlib.Core.Logic.{_⊎_, inl, inr, _↔_}
-use mathlib.Core.List.{List, [], _∷_, _++_, append-nil, append-assoc, cons≢nil, tail-eq-of-cons-eq, head-eq-of-cons-eq, List·Memᴰ, List·Memᴰ·head, List·Memᴰ·tail, List·Memᴰ·not-nil, List·Memᴰ·cases-cons, List·Memᴰ·append-cases, List·Memᴰ·eq-of-singleton, Memᴰ·append-right}
+use mathlib.Core.List.{[], _∷_, _++_, append-nil, append-assoc, cons≢nil, tail-eq-of-cons-eq, head-eq-of-cons-eq, List·Memᴰ, List·Memᴰ·head, List·Memᴰ·tail, List·Memᴰ·not-nil, List·Memᴰ·cases-cons, List·Memᴰ·append-cases, List·Memᴰ·eq-of-singleton, Memᴰ·append-right}
 use native.Mathlib.Omega.{arith}
 use lib.ListN.{length, length-append}
 use Rattle.notation.specs.Names.{Name}

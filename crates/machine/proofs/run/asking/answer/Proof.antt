@@ -1,6 +1,4 @@
-use mathlib.Core.Path.{_≡_, sym}
 use Rattle.stored.proofs.Laws.Running.Answered.{refused-asked}
-use borrow.Author.Needs.{needs}
 use Rattle.machine.proofs.run.asking.answer.Statement.{statement}
 use Rattle.machine.proofs.run.asking.answer.Tie as tie
 

@@ -1,11 +1,9 @@
 use native.Mathlib.Omega.{arith}
 use mathlib.Core.Path.{_≡_, sym, _∙_, ap}
-use mathlib.Core.Bool.{Bool}
-use Prim.Native.Nat.{ℕ, _+_, _-_, _≤_}
+use Prim.Native.Nat.{ℕ, _+_, _-_}
 use Rattle.notation.specs.Names.{within}
 use Rattle.stored.specs.Asking.{askRefusal, answered}
 use Rattle.stored.specs.RunCalls.{depthOf, activeAt}
-use Rattle.stored.specs.declared.answers.Asked.{Asked}
 use Rattle.stored.proofs.Laws.Running.Answered.{refused-asked, step-low}
 use Rattle.stored.proofs.Laws.Shapes.Given.{may-ask}
 use borrow.Author.Needs.{needs}

@@ -1,9 +1,8 @@
 use native.Mathlib.Omega.{arith}
-use mathlib.Core.Path.{_≡_, sym, _∙_, ap}
+use mathlib.Core.Path.{_∙_, ap}
 use Prim.Native.Nat.{ℕ, _+_, _-_}
 use Rattle.stored.specs.Bits.{bitIn}
 use Rattle.stored.specs.Run.{rowAt, rowSize, runSize, activeIn}
-use Rattle.stored.specs.RunCalls.{depthOf}
 use Rattle.stored.proofs.Laws.Shapes.RunShape.{run-shape}
 use borrow.Author.Needs.{needs}
 use Rattle.machine.proofs.run.asking.bit_active.Statement.{statement}

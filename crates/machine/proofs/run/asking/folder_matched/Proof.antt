@@ -1,4 +1,4 @@
-use mathlib.Core.Path.{_≡_, sym, _∙_, ap}
+use mathlib.Core.Path.{sym, _∙_}
 use Rattle.theory.specs.Words.{any}
 use Rattle.stored.specs.Asking.{askFolder}
 use borrow.Author.Needs.{needs}

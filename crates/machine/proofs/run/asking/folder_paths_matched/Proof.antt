@@ -1,5 +1,5 @@
 use native.Mathlib.Omega.{arith}
-use mathlib.Core.Path.{_≡_, sym, _∙_, ap}
+use mathlib.Core.Path.{sym, _∙_, ap}
 use Rattle.notation.specs.Reads.{folderTop}
 use Rattle.theory.specs.Words.{any}
 use borrow.Author.Needs.{needs}

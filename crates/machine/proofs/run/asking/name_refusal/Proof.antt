@@ -1,4 +1,4 @@
-use mathlib.Core.Path.{_≡_, sym, _∙_, ap}
+use mathlib.Core.Path.{_∙_, ap}
 use Prim.Native.Nat.{ℕ}
 use Rattle.notation.specs.Names.{within}
 use Rattle.stored.specs.Asking.{askRefusal, nameRefusal}

@@ -1,7 +1,6 @@
-use native.Mathlib.Omega.{arith}
-use mathlib.Core.Path.{_≡_, sym, _∙_, ap}
+use mathlib.Core.Path.{sym, _∙_}
 use borrow.Author.Tests.{eq-eqb, ne-eqb}
-use Rattle.stored.specs.Asking.{askRefusal, nameRefusal, askName, hasDepth}
+use Rattle.stored.specs.Asking.{nameRefusal, askName, hasDepth}
 use Rattle.stored.specs.RunCalls.{depthOf}
 use Rattle.stored.proofs.Laws.Shapes.Given.{may-ask}
 use Rattle.stored.proofs.Laws.Running.Answered.{depth-low}

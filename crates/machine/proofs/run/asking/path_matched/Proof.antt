@@ -1,8 +1,6 @@
-use mathlib.Core.Path.{_≡_, sym, _∙_, ap}
+use mathlib.Core.Path.{_∙_, ap}
 use Prim.Native.Nat.{ℕ}
-use mathlib.Core.Bool.{Bool}
-use Rattle.notation.specs.Reads.{pathAt}
-use Rattle.stored.specs.Asking.{askRefusal, answered, askPath, hasPath, placeMatched}
+use Rattle.stored.specs.Asking.{askRefusal, answered, askPath, placeMatched}
 use borrow.Author.Needs.{needs}
 use Rattle.machine.proofs.run.asking.path_matched.Statement.{statement}
 use Rattle.machine.proofs.run.asking.path_matched.Tie as tie

@@ -1,5 +1,5 @@
 use native.Mathlib.Omega.{arith}
-use mathlib.Core.Path.{_≡_, sym, _∙_, ap}
+use mathlib.Core.Path.{sym, _∙_, ap}
 use Rattle.stored.specs.Run.{matchesAt}
 use Rattle.notation.specs.Reads.{pathTop}
 use borrow.Author.Needs.{needs}

@@ -1,9 +1,7 @@
 use Rattle.notation.specs.Reads.{pathTop}
 use native.Mathlib.Omega.{arith}
-use mathlib.Core.Path.{_≡_, sym, _∙_, ap}
-use mathlib.Core.Bool.{false}
-use Prim.Native.Nat.{ℕ}
-use Rattle.stored.specs.Asking.{askRefusal, askStep, answered}
+use mathlib.Core.Path.{sym, _∙_, ap}
+use Rattle.stored.specs.Asking.{askStep}
 use borrow.Author.Needs.{needs}
 use Rattle.machine.proofs.run.asking.step_active.Statement.{statement}
 use Rattle.machine.proofs.run.asking.step_active.Tie as tie

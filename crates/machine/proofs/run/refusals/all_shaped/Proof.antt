@@ -1,4 +1,4 @@
-use mathlib.Core.Path.{_≡_, sym, _∙_}
+use mathlib.Core.Path.{sym, _∙_}
 use Rattle.stored.proofs.Laws.Shapes.Given.{shaped-parts}
 use borrow.Author.Needs.{needs}
 use Rattle.machine.proofs.run.refusals.all_shaped.Statement.{statement}

@@ -1,4 +1,4 @@
-use mathlib.Core.Path.{_≡_, sym, _∙_}
+use mathlib.Core.Path.{sym, _∙_}
 use borrow.Author.Needs.{needs}
 use Rattle.machine.proofs.run.refusals.both_shaped.Statement.{statement}
 use Rattle.machine.proofs.run.refusals.both_shaped.Tie as tie

@@ -1,11 +1,10 @@
 use Rattle.stored.specs.RunCalls.{nameLength}
-use mathlib.Core.List.{List}
 use native.Mathlib.Omega.{arith}
-use mathlib.Core.Path.{_≡_, sym, _∙_, ap}
+use mathlib.Core.Path.{_≡_, _∙_, ap}
 use Prim.Native.Nat.{ℕ, _+_, _-_}
 use lib.ListN.{take, drop}
 use Rattle.notation.specs.Limits.{maxName}
-use Rattle.stored.specs.Run.{rowSize, runSize, nameIn, rowAt}
+use Rattle.stored.specs.Run.{rowSize, runSize, nameIn}
 use Rattle.stored.proofs.Laws.Shapes.RunShape.{run-shape}
 use borrow.Author.Needs.{needs}
 use Rattle.machine.proofs.run.refusals.stored_name.Statement.{statement}

@@ -1,5 +1,5 @@
 use lib.Seq.{paste, paste-zero, paste-suc, take-length, sets-eq}
-use lib.ListN.{length, take, drop, set, getD, replicate, length-set, length-replicate, getD-replicate}
+use lib.ListN.{length, take, drop, set, replicate, length-set, length-replicate, getD-replicate}
 use native.Mathlib.Numerals.{add-one}
 use mathlib.Core.List.{List, _++_}
 use mathlib.Core.Path.{_≡_, refl, _∙_, sym, ap}

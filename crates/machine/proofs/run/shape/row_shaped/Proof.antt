@@ -1,6 +1,4 @@
-use native.Mathlib.Omega.{arith}
 use native.Mathlib.Numerals.{add-one}
-use mathlib.Core.Path.{refl}
 use borrow.Author.Tests.{lt-leb, le-leb}
 use Rattle.notation.specs.Limits.{maxName}
 use borrow.Author.Needs.{needs}
