@@ -2,6 +2,7 @@
 mod bits;
 pub mod build;
 mod hash;
+mod labels;
 pub mod layout;
 pub mod run;
 pub mod shape;

@@ -1,15 +1,17 @@
 // The walk of an open over the automaton's tables.
 ghost use mathlib.Core.Path.{_≡_};
 ghost use Prim.Native.Nat.{suc, _≤_, _<_};
+ghost use lib.ListN.{length};
+ghost use Rattle.notation.specs.Limits.{maxLabels};
 ghost use Rattle.notation.specs.Reads.{labelCount};
-ghost use Rattle.stored.specs.Automaton.{hash};
+ghost use Rattle.stored.specs.Automaton.{automatonSize, hash};
 ghost use Rattle.stored.specs.Tables.{sizeOf, failOf, follows, goto, walkOver};
 ghost use Rattle.stored.specs.Walkable.{Searchable, Walkable};
+use crate::labels::label_is;
+use crate::labels::word;
 use crate::layout::HEADS_AT;
 use crate::layout::LINK_SIZE;
 use crate::layout::LINKS_AT;
-use notation::names::same_name;
-use notation::reads::label_name;
 use notation::reads::word_at;
 use stored::walk::Walk;
 
@@ -27,26 +29,26 @@ pub fn size_of(a: &[u8], q: usize) -> usize
 
 // Whether label `l` ends the word of state `q` followed by `e`.
 fn follows_label(a: &[u8], q: usize, e: &[u8], l: usize) -> bool
-    requires { ⌜ l < 65536 ⌝ }
+    requires { ⌜ (automatonSize ≤ length (now a)) × ((l < maxLabels) × (l < labelCount (now a))) ⌝ }
     ensures { λ r. ⌜ r ≡ follows (now (a .entry)) q (now (e .entry)) l ⌝ }
 {
-    if word_at(a, LINKS_AT + LINK_SIZE * l + 2) != q {
+    if word(a, LINKS_AT + LINK_SIZE * l + 2) != q {
         return false;
     }
-    same_name(label_name(a, l), e)
+    label_is(a, l, e)
 }
 
 // The state of the word of state `q` followed by `e`, 0 for none. `h` is the hash of `e`.
 pub fn goto_state(a: &[u8], q: usize, e: &[u8], h: usize) -> usize
-    requires { ⌜ Searchable (now a) × (h ≡ hash (now e)) ⌝ }
+    requires { ⌜ Searchable (now a) × ((h ≡ hash (now e)) × (automatonSize ≤ length (now a))) ⌝ }
     ensures { λ r. ⌜ (r ≡ goto (now (a .entry)) q (now (e .entry))) × (r ≤ suc (labelCount (now (a .entry)))) ⌝ }
 {
-    let mut k = word_at(a, HEADS_AT + 2 * h);
+    let mut k = word(a, HEADS_AT + 2 * h);
     while k != 0 {
         if follows_label(a, q, e, k - 1) {
             return k + 1;
         }
-        k = word_at(a, LINKS_AT + LINK_SIZE * (k - 1));
+        k = word(a, LINKS_AT + LINK_SIZE * (k - 1));
     }
     0
 }
@@ -65,7 +67,7 @@ pub fn fail_of(a: &[u8], q: usize) -> usize
 
 // The walk of an open of `e` from state `q` (paper 01: the walk with its fall-backs).
 pub fn walk_from(a: &[u8], q: usize, e: &[u8], h: usize) -> Walk
-    requires { ⌜ Walkable (now a) × ((q ≤ suc (labelCount (now a))) × (h ≡ hash (now e))) ⌝ }
+    requires { ⌜ Walkable (now a) × ((q ≤ suc (labelCount (now a))) × ((h ≡ hash (now e)) × (automatonSize ≤ length (now a)))) ⌝ }
     ensures { λ r. ⌜ (r ≡ walkOver (now (a .entry)) q (now (e .entry))) × ((r .state ≤ suc (labelCount (now (a .entry)))) × (r .moves ≤ sizeOf (now (a .entry)) q)) ⌝ }
 {
     let to = goto_state(a, q, e, h);

@@ -76,7 +76,7 @@ fn store_word(part: &mut [u8], l: usize, q: usize)
 
 // The state after label `l` where `q` is the one before it.
 fn follow(part: &[u8], q: usize, l: usize) -> usize
-    requires { ⌜ Searchable (now part) ⌝ }
+    requires { ⌜ Searchable (now part) × (automatonSize ≤ length (now part)) ⌝ }
     ensures { λ r. ⌜ (r ≡ goto (now (part .entry)) q (labelName (now (part .entry)) l)) × (r ≤ suc (labelCount (now (part .entry)))) ⌝ }
 {
     let e = reads::label_name(part, l);

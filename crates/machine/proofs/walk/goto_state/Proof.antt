@@ -3,7 +3,7 @@ use Rattle.stored.proofs.Laws.Tables.Goto.{hash-small, goto-end}
 use Rattle.stored.proofs.Laws.Tables.Fuel.{goto-turn}
 use Rattle.stored.specs.Walkable.{Searchable}
 use Rattle.stored.specs.Tables.{headAt, nextAt, follows, gotoFrom, goto}
-use Rattle.stored.specs.Automaton.{hashes, hash, headsAt, linksAt, linkSize}
+use Rattle.stored.specs.Automaton.{hashes, hash, headsAt, linksAt, linkSize, automatonSize}
 use Rattle.notation.specs.Reads.{labelCount}
 use Rattle.notation.specs.Limits.{maxLabels}
 use Rattle.notation.specs.Names.{Name}
@@ -12,7 +12,6 @@ use mathlib.Core.List.{List}
 use mathlib.Core.Bool.{true, false}
 use mathlib.Core.Path.{_≡_, refl, sym, _∙_, ap}
 use Prim.Native.Nat.{ℕ, zero, suc, _+_, _-_, _≤_, _<_}
-use borrow.Author.Needs.{needs}
 use Rattle.machine.proofs.walk.goto_state.Statement.{statement}
 use Rattle.machine.proofs.walk.goto_state.Tie as tie
 
@@ -51,16 +50,18 @@ Inv-loop a q e h k₀ k = (k ≤ labelCount a) × (goto a q e ≡ gotoFrom maxLa
 abbrev μ-loop : tie.MeasureT-loop
 μ-loop a q e h k₀ k = left (labelCount a) k
 
-mul-word-at : tie.Need-mul-word-at Inv-loop μ-loop
+mul-word : tie.Need-mul-word Inv-loop μ-loop
 unfolding hashes
-mul-word-at c = omega (arith, hash-small (c .before .before .args .e .now), c .before .before .pre .1)
+mul-word c = omega (arith, hash-small (c .before .before .args .e .now), c .before .before .pre .1 .0)
 
-add-word-at : tie.Need-add-word-at Inv-loop μ-loop
+add-word : tie.Need-add-word Inv-loop μ-loop
 unfolding hashes
-add-word-at c = omega (arith, hash-small (c .before .before .args .e .now), c .before .before .pre .1)
+add-word c = omega (arith, hash-small (c .before .before .args .e .now), c .before .before .pre .1 .0)
 
-word-at-requires : tie.Need-word-at-requires Inv-loop μ-loop
-word-at-requires c κs = search needs
+word-requires : tie.Need-word-requires Inv-loop μ-loop
+unfolding hashes automatonSize
+word-requires c κs = let b = c .before .before in
+    omega (arith, hash-small (b .args .e .now), b .pre .1 .0, b .pre .1 .1)
 
 loop-holds : tie.Need-loop-holds Inv-loop μ-loop
 unfolding goto headsAt
@@ -68,16 +69,17 @@ loop-holds c = let a = c .before .before .before .args .a .now in
     let q = c .before .before .before .args .q in
     let e = c .before .before .before .args .e .now in
     let ch : Searchable a = c .before .before .before .pre .0 in
-    let hh : c .before .before .before .args .h ≡ hash e = c .before .before .before .pre .1 in
-    let r : c .word-at .result ≡ headAt a (hash e) = rw hh at (c .word-at .ensures .0) in
+    let hh : c .before .before .before .args .h ≡ hash e = c .before .before .before .pre .1 .0 in
+    let r : c .word .result ≡ headAt a (hash e) = rw hh at (c .word .ensures .0) in
     (rw r (ch .head (hash e) (hash-small e)), sym (ap (gotoFrom maxLabels a q e) r))
 
 sub-follows-label : tie.Need-sub-follows-label Inv-loop μ-loop
 sub-follows-label c = omega arith
 
 follows-label-requires : tie.Need-follows-label-requires Inv-loop μ-loop
-unfolding maxLabels
-follows-label-requires c κs = omega arith
+follows-label-requires c κs = let b = c .before .before .before .before .before in
+    let l = low (c .before .loop .k) (labelCount (b .args .a .now)) (c .loop-test .taken) (c .before .loop .inv .0) in
+    (b .pre .1 .1, (omega (arith, l, b .pre .0 .few), l))
 
 add-result : tie.Need-add-result Inv-loop μ-loop
 unfolding maxLabels
@@ -93,19 +95,21 @@ returns c = let a = c .before .before .before .before .before .before .before .a
     let n : k + 1 ≡ suc k = omega arith in
     (n ∙ (found a q e k ch (c .before .before .loop-test .taken) (c .before .before .before .loop .inv .0) t ∙ sym (c .before .before .before .loop .inv .1)), omega (arith, c .before .before .before .loop .inv .0))
 
-sub-word-at : tie.Need-sub-word-at Inv-loop μ-loop
-sub-word-at c = omega arith
+sub-word : tie.Need-sub-word Inv-loop μ-loop
+sub-word c = omega arith
 
-mul-word-at-2 : tie.Need-mul-word-at-2 Inv-loop μ-loop
+mul-word-2 : tie.Need-mul-word-2 Inv-loop μ-loop
 unfolding maxLabels
-mul-word-at-2 c = omega arith
+mul-word-2 c = omega arith
 
-add-word-at-2 : tie.Need-add-word-at-2 Inv-loop μ-loop
+add-word-2 : tie.Need-add-word-2 Inv-loop μ-loop
 unfolding maxLabels
-add-word-at-2 c = omega arith
+add-word-2 c = omega arith
 
-word-at-requires-2 : tie.Need-word-at-requires-2 Inv-loop μ-loop
-word-at-requires-2 c κs = search needs
+word-requires-2 : tie.Need-word-requires-2 Inv-loop μ-loop
+unfolding maxLabels automatonSize
+word-requires-2 c κs = let b = c .before .before .before .before .before .before .before in
+    omega (arith, c .before .before .before .loop .inv .0, b .pre .0 .few, b .pre .1 .1)
 
 loop-less : tie.Need-loop-less Inv-loop μ-loop
 unfolding linksAt linkSize
@@ -117,8 +121,8 @@ loop-less c = let a = c .before .before .before .before .before .before .before 
     let z = c .before .before .before .loop-test .taken in
     let i : k ≤ labelCount a = c .before .before .before .before .loop .inv .0 in
     let l : k - 1 < labelCount a = low k (labelCount a) z i in
-    let r : c .word-at2 .result ≡ nextAt a (k - 1) = c .word-at2 .ensures .0 in
-    rises (labelCount a) k (c .word-at2 .result) z i (rw r (ch .next (k - 1) l)) (λ j p. ch .later (k - 1) j l (sym r ∙ p))
+    let r : c .word2 .result ≡ nextAt a (k - 1) = c .word2 .ensures .0 in
+    rises (labelCount a) k (c .word2 .result) z i (rw r (ch .next (k - 1) l)) (λ j p. ch .later (k - 1) j l (sym r ∙ p))
 
 loop-again : tie.Need-loop-again Inv-loop μ-loop
 unfolding linksAt linkSize
@@ -130,7 +134,7 @@ loop-again c = let a = c .before .before .before .before .before .before .before
     let z = c .before .before .before .loop-test .taken in
     let i : k ≤ labelCount a = c .before .before .before .before .loop .inv .0 in
     let l : k - 1 < labelCount a = low k (labelCount a) z i in
-    let r : c .word-at2 .result ≡ nextAt a (k - 1) = c .word-at2 .ensures .0 in
+    let r : c .word2 .result ≡ nextAt a (k - 1) = c .word2 .ensures .0 in
     let t : false ≡ follows a q e (k - 1) = sym (c .before .if1 .left) ∙ c .before .before .follows-label .ensures in
     (rw r (ch .next (k - 1) l), c .before .before .before .before .loop .inv .1 ∙ (further a q e k ch z i t ∙ sym (ap (gotoFrom maxLabels a q e) r)))
 
@@ -147,18 +151,18 @@ goto-state-spec =
     (tie.spec
     Inv-loop
     μ-loop
-    mul-word-at
-    add-word-at
-    word-at-requires
+    mul-word
+    add-word
+    word-requires
     loop-holds
     sub-follows-label
     follows-label-requires
     add-result
     returns
-    sub-word-at
-    mul-word-at-2
-    add-word-at-2
-    word-at-requires-2
+    sub-word
+    mul-word-2
+    add-word-2
+    word-requires-2
     loop-less
     loop-again
     returns-2)

@@ -54,7 +54,7 @@ walk-from-requires c κs = let a = c .before .before .before .before .before .be
     let i : l < labelCount a = c .before .before .before .before .before .before .pre .1 in
     let p : c .before .before .before .before .word-at .result ≡ parentAt a l = c .before .before .before .before .word-at .ensures .0 in
     let f : c .before .fail-of .result ≡ failOf a (parentAt a l) = c .before .fail-of .ensures ∙ ap (failOf a) p in
-    (g .walkable, (rw f (fail-state a (g .walkable .falling) (parentAt a l) (g .parent l i)), c .hash-of .ensures .0))
+    (g .walkable, (rw f (fail-state a (g .walkable .falling) (parentAt a l) (g .parent l i)), (c .hash-of .ensures .0, g .room)))
 
 returns-2 : tie.Need-returns-2
 unfolding failTo linksAt linkSize

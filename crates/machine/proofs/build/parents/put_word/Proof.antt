@@ -43,7 +43,9 @@ add-t9 : tie.Need-add-t9
 add-t9 c = search needs
 
 follow-requires : tie.Need-follow-requires
-follow-requires c κs = subst Searchable (sym (c .before .before .before .store-word .ensures)) (searchable-stored (c .before .before .before .before .before .before .before .args .at .labels) (c .before .before .before .before .before .before .before .args .at .state) (c .before .before .before .before .before .before .before .args .part .now) (c .before .before .before .before .before .before .before .pre .0))
+follow-requires c κs = let b = c .before .before .before .before .before .before .before in
+    let w = c .before .before .before .store-word in
+    (subst Searchable (sym (w .ensures)) (searchable-stored (b .args .at .labels) (b .args .at .state) (b .args .part .now) (b .pre .0)), omega (arith, w .kept .0, b .pre .1 .1))
 
 same-length : tie.Need-same-length
 same-length c = search needs

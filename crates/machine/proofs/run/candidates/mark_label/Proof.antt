@@ -15,7 +15,9 @@ use Rattle.machine.proofs.run.candidates.mark_label.Statement.{statemen
 use Rattle.machine.proofs.run.candidates.mark_label.Tie as tie
 
 label-is-requires : tie.Need-label-is-requires
-label-is-requires c κs = search needs
+label-is-requires c κs = let b = c .before .before .before in
+    let o = b .pre .1 in
+    (o .0 .size, (omega (arith, o .1, o .0 .walkable .searchable .few), o .1))
 
 mul-word : tie.Need-mul-word
 unfolding maxLabels

@@ -35,7 +35,7 @@ walk-from-requires c κs = let b = c .before .before .before .before .before .be
     let d = c .before .before .depth in
     let s = run-shape (b .args .a .now) (b .args .run .now) (b .pre .0 .runIsShaped) in
     let q : c .state-at .result ≤ suc (labelCount (b .args .a .now)) = rw (c .state-at .ensures .0) (s .state (d .result) (omega (arith, d .ensures .0))) in
-    (openable (b .args .a .now) (b .pre .0 .shaped) (b .pre .0 .size) .walkable, (q, c .before .before .before .before .hash-of .ensures .0))
+    (openable (b .args .a .now) (b .pre .0 .shaped) (b .pre .0 .size) .walkable, (q, (c .before .before .before .before .hash-of .ensures .0, b .pre .0 .size)))
 
 mark-requires : tie.Need-mark-requires
 mark-requires c κs = let b = c .before .before .before .before .before .before .before .before .before .before in

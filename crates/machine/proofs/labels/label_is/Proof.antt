@@ -1,4 +1,4 @@
--- `candidates::label_is`: the label is there, so its name is the text that its entry names.
+-- `labels::label_is`: the label is there, so its name is the text that its entry names.
 use native.Mathlib.Omega.{arith}
 use mathlib.Core.Path.{_≡_, sym}
 use mathlib.Core.Bool.{true}
@@ -10,41 +10,36 @@ use Rattle.notation.specs.Limits.{maxLabels}
 use Rattle.notation.specs.Layout.{setSize, labelsAt, labelSize}
 use Rattle.notation.specs.Reads.{labelCount, present, labelAt}
 use Rattle.stored.specs.Automaton.{automatonSize}
-use Rattle.stored.specs.Openable.{Openable}
-use Rattle.machine.proofs.run.candidates.label_is.Statement.{statement}
-use Rattle.machine.proofs.run.candidates.label_is.Tie as tie
+use Rattle.machine.proofs.labels.label_is.Statement.{statement}
+use Rattle.machine.proofs.labels.label_is.Tie as tie
 
-holds-set : (a : List ℕ) → Openable a → setSize ≤ length a
+holds-set : (a : List ℕ) → automatonSize ≤ length a → setSize ≤ length a
 unfolding setSize automatonSize
-holds-set a o = omega (arith, o .size)
+holds-set a h = omega arith
 
-there : (a : List ℕ) → Openable a → (l : ℕ) → l < labelCount a → present a (labelCount a) maxLabels l ≡ true
+there : (a : List ℕ) → automatonSize ≤ length a → (l : ℕ) → l < maxLabels → l < labelCount a → present a (labelCount a) maxLabels l ≡ true
 unfolding present
-there a o l h = let b : l < maxLabels = omega (arith, o .walkable .searchable .few) in
-    simp (le-leb setSize _ (holds-set a o), lt-ltb l _ h, lt-ltb l maxLabels b)
+there a s l m h = simp (le-leb setSize _ (holds-set a s), lt-ltb l _ h, lt-ltb l maxLabels m)
 
 mul-entry : tie.Need-mul-entry
 unfolding maxLabels
-mul-entry c = omega (arith, c .before .before .pre .1, c .before .before .pre .0 .walkable .searchable .few)
+mul-entry c = omega (arith, c .before .before .pre .1 .0)
 
 add-entry : tie.Need-add-entry
 unfolding maxLabels
-add-entry c = omega (arith, c .before .before .pre .1, c .before .before .pre .0 .walkable .searchable .few)
+add-entry c = omega (arith, c .before .before .pre .1 .0)
 
 word-requires : tie.Need-word-requires
 unfolding maxLabels automatonSize
-word-requires c κs = let b = c .before .before in
-    omega (arith, b .pre .1, b .pre .0 .walkable .searchable .few, b .pre .0 .size)
+word-requires c κs = omega (arith, c .before .before .pre .0, c .before .before .pre .1 .0)
 
 add-word : tie.Need-add-word
 unfolding maxLabels
-add-word c = let b = c .before .before .before in
-    omega (arith, b .pre .1, b .pre .0 .walkable .searchable .few)
+add-word c = omega (arith, c .before .before .before .pre .1 .0)
 
 word-requires-2 : tie.Need-word-requires-2
 unfolding maxLabels automatonSize
-word-requires-2 c κs = let b = c .before .before .before in
-    omega (arith, b .pre .1, b .pre .0 .walkable .searchable .few, b .pre .0 .size)
+word-requires-2 c κs = omega (arith, c .before .before .before .pre .0, c .before .before .before .pre .1 .0)
 
 text-is-requires : tie.Need-text-is-requires
 text-is-requires c κs = let b = c .before .before .before .before in
@@ -53,7 +48,7 @@ text-is-requires c κs = let b = c .before .before .before .before in
 returns : tie.Need-returns
 unfolding labelAt labelsAt labelSize
 returns c = let b = c .before .before .before .before .before in
-    let t = there (b .args .a .now) (b .pre .0) (b .args .l) (b .pre .1) in
+    let t = there (b .args .a .now) (b .pre .0) (b .args .l) (b .pre .1 .0) (b .pre .1 .1) in
     rw (t, sym (c .before .before .word .ensures .0), sym (c .before .word2 .ensures .0)) (c .text-is .ensures)
 
 pub label-is-spec : {M : Type 1} → statement M

@@ -1,10 +1,10 @@
--- `candidates::word`: an element of a slice of bytes is below 256.
+-- `labels::word`: an element of a slice of bytes is below 256.
 use native.Mathlib.Omega.{arith}
 use Prim.Native.Nat.{_+_}
 use Rattle.notation.specs.Reads.{word16}
 use borrow.Author.Needs.{needs}
-use Rattle.machine.proofs.run.candidates.word.Statement.{statement}
-use Rattle.machine.proofs.run.candidates.word.Tie as tie
+use Rattle.machine.proofs.labels.word.Statement.{statement}
+use Rattle.machine.proofs.labels.word.Tie as tie
 
 shared-slice-read-result : tie.Need-shared-slice-read-result
 shared-slice-read-result c = search needs

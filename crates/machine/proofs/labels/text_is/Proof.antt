@@ -1,4 +1,4 @@
--- `candidates::text_is`: bytes past the text's room are none, and names of different length differ.
+-- `labels::text_is`: bytes past the text's room are none, and names of different length differ.
 use mathlib.Core.Path.{_≡_, sym, _∙_, ap}
 use mathlib.Core.List.{List, []}
 use Prim.Native.Nat.{ℕ, _+_, _-_, _≤_, _<_}
@@ -11,8 +11,8 @@ use Rattle.notation.specs.Limits.{maxSetBytes}
 use Rattle.notation.specs.Layout.{setSize, textAt}
 use Rattle.notation.specs.Reads.{textSlice}
 use Rattle.notation.proofs.Laws.Bytes.SameName.{unequal-length}
-use Rattle.machine.proofs.run.candidates.text_is.Statement.{statement}
-use Rattle.machine.proofs.run.candidates.text_is.Tie as tie
+use Rattle.machine.proofs.labels.text_is.Statement.{statement}
+use Rattle.machine.proofs.labels.text_is.Tie as tie
 
 none : (a : List ℕ) (at size : ℕ) → setSize ≤ length a → maxSetBytes < at + size → textSlice a at size ≡ []
 unfolding textSlice
