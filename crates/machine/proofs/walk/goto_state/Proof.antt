@@ -1,48 +1,18 @@
 -- `walk::goto_state`: the search from the head is the search from the place that the loop has come to.
 use Rattle.stored.proofs.Laws.Tables.Goto.{hash-small, goto-end}
-use Rattle.stored.proofs.Laws.Tables.Fuel.{goto-turn}
+use Rattle.stored.proofs.Laws.Tables.Fuel.{goto-found, goto-further}
+use Rattle.stored.proofs.Laws.Tables.ChainTurns.{left, low, rises}
 use Rattle.stored.specs.Walkable.{Searchable}
 use Rattle.stored.specs.Tables.{headAt, nextAt, follows, gotoFrom, goto}
 use Rattle.stored.specs.Automaton.{hashes, hash, headsAt, linksAt, linkSize, automatonSize}
 use Rattle.notation.specs.Reads.{labelCount}
 use Rattle.notation.specs.Limits.{maxLabels}
-use Rattle.notation.specs.Names.{Name}
 use native.Mathlib.Omega.{arith}
-use mathlib.Core.List.{List}
 use mathlib.Core.Bool.{true, false}
-use mathlib.Core.Path.{_≡_, refl, sym, _∙_, ap}
-use Prim.Native.Nat.{ℕ, zero, suc, _+_, _-_, _≤_, _<_}
+use mathlib.Core.Path.{_≡_, sym, _∙_, ap}
+use Prim.Native.Nat.{suc, _+_, _-_, _≤_, _<_}
 use Rattle.machine.proofs.walk.goto_state.Statement.{statement}
 use Rattle.machine.proofs.walk.goto_state.Tie as tie
-
--- how far a chain can still go
-unfoldable left : ℕ → ℕ → ℕ
-left n zero = 0
-left n (suc l) = n - l
-
-rises : (n k m : ℕ) → (k ≡ 0 → ⊥) → k ≤ n → m ≤ n → ((j : ℕ) → m ≡ suc j → k - 1 < j) → left n m < left n k
-unfolding left
-rises n zero m z h i f = absurd (z refl)
-rises n (suc l) zero z h i f = omega arith
-rises n (suc l) (suc j) z h i f = omega (arith, f j refl)
-
-low : (k n : ℕ) → (k ≡ 0 → ⊥) → k ≤ n → k - 1 < n
-low zero n z h = absurd (z refl)
-low (suc l) n z h = omega arith
-
-found : (a : List ℕ) (q : ℕ) (e : Name) (k : ℕ) → Searchable a → (k ≡ 0 → ⊥) → k ≤ labelCount a → true ≡ follows a q e (k - 1) → suc k ≡ gotoFrom maxLabels a q e k
-found a q e zero c z h t = absurd (z refl)
-found a q e (suc l) c z h t =
-    let s : suc l - 1 ≡ l = omega arith in
-    let u : true ≡ follows a q e l = rw s at t in
-    sym (goto-turn a c q e l h ∙ rw (sym u))
-
-further : (a : List ℕ) (q : ℕ) (e : Name) (k : ℕ) → Searchable a → (k ≡ 0 → ⊥) → k ≤ labelCount a → false ≡ follows a q e (k - 1) → gotoFrom maxLabels a q e k ≡ gotoFrom maxLabels a q e (nextAt a (k - 1))
-further a q e zero c z h t = absurd (z refl)
-further a q e (suc l) c z h t =
-    let s : suc l - 1 ≡ l = omega arith in
-    let u : false ≡ follows a q e l = rw s at t in
-    rw s (goto-turn a c q e l h ∙ rw (sym u))
 
 abbrev Inv-loop : tie.InvT-loop
 Inv-loop a q e h k₀ k = (k ≤ labelCount a) × (goto a q e ≡ gotoFrom maxLabels a q e k)
@@ -78,7 +48,7 @@ sub-follows-label c = omega arith
 
 follows-label-requires : tie.Need-follows-label-requires Inv-loop μ-loop
 follows-label-requires c κs = let b = c .before .before .before .before .before in
-    let l = low (c .before .loop .k) (labelCount (b .args .a .now)) (c .loop-test .taken) (c .before .loop .inv .0) in
+    let l = low (b .args .a .now) (b .pre .0) (c .before .loop .k) (c .loop-test .taken) (c .before .loop .inv .0) in
     (b .pre .1 .1, (omega (arith, l, b .pre .0 .few), l))
 
 add-result : tie.Need-add-result Inv-loop μ-loop
@@ -93,7 +63,7 @@ returns c = let a = c .before .before .before .before .before .before .before .a
     let k = c .before .before .before .loop .k in
     let t : true ≡ follows a q e (k - 1) = sym (c .if1 .taken) ∙ c .before .follows-label .ensures in
     let n : k + 1 ≡ suc k = omega arith in
-    (n ∙ (found a q e k ch (c .before .before .loop-test .taken) (c .before .before .before .loop .inv .0) t ∙ sym (c .before .before .before .loop .inv .1)), omega (arith, c .before .before .before .loop .inv .0))
+    (n ∙ (goto-found a ch q e k (c .before .before .loop-test .taken) (c .before .before .before .loop .inv .0) t ∙ sym (c .before .before .before .loop .inv .1)), omega (arith, c .before .before .before .loop .inv .0))
 
 sub-word : tie.Need-sub-word Inv-loop μ-loop
 sub-word c = omega arith
@@ -113,16 +83,10 @@ word-requires-2 c κs = let b = c .before .before .before .before .before .befor
 
 loop-less : tie.Need-loop-less Inv-loop μ-loop
 unfolding linksAt linkSize
-loop-less c = let a = c .before .before .before .before .before .before .before .before .args .a .now in
-    let q = c .before .before .before .before .before .before .before .before .args .q in
-    let e = c .before .before .before .before .before .before .before .before .args .e .now in
-    let ch : Searchable a = c .before .before .before .before .before .before .before .before .pre .0 in
-    let k = c .before .before .before .before .loop .k in
-    let z = c .before .before .before .loop-test .taken in
-    let i : k ≤ labelCount a = c .before .before .before .before .loop .inv .0 in
-    let l : k - 1 < labelCount a = low k (labelCount a) z i in
-    let r : c .word2 .result ≡ nextAt a (k - 1) = c .word2 .ensures .0 in
-    rises (labelCount a) k (c .word2 .result) z i (rw r (ch .next (k - 1) l)) (λ j p. ch .later (k - 1) j l (sym r ∙ p))
+loop-less c = let b = c .before .before .before .before .before .before .before .before in
+    let l = c .before .before .before .before .loop in
+    let r : c .word2 .result ≡ nextAt (b .args .a .now) (l .k - 1) = c .word2 .ensures .0 in
+    rw r (rises (b .args .a .now) (b .pre .0) (l .k) (c .before .before .before .loop-test .taken) (l .inv .0))
 
 loop-again : tie.Need-loop-again Inv-loop μ-loop
 unfolding linksAt linkSize
@@ -133,10 +97,10 @@ loop-again c = let a = c .before .before .before .before .before .before .before
     let k = c .before .before .before .before .loop .k in
     let z = c .before .before .before .loop-test .taken in
     let i : k ≤ labelCount a = c .before .before .before .before .loop .inv .0 in
-    let l : k - 1 < labelCount a = low k (labelCount a) z i in
+    let l : k - 1 < labelCount a = low a ch k z i in
     let r : c .word2 .result ≡ nextAt a (k - 1) = c .word2 .ensures .0 in
     let t : false ≡ follows a q e (k - 1) = sym (c .before .if1 .left) ∙ c .before .before .follows-label .ensures in
-    (rw r (ch .next (k - 1) l), c .before .before .before .before .loop .inv .1 ∙ (further a q e k ch z i t ∙ sym (ap (gotoFrom maxLabels a q e) r)))
+    (rw r (ch .next (k - 1) l), c .before .before .before .before .loop .inv .1 ∙ (goto-further a ch q e k z i t ∙ sym (ap (gotoFrom maxLabels a q e) r)))
 
 returns-2 : tie.Need-returns-2 Inv-loop μ-loop
 returns-2 c = let a = c .before .before .before .before .before .args .a .now in

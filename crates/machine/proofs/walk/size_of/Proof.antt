@@ -1,4 +1,4 @@
--- `shape::size_of`: the length of a label's word; the empty word has 0, `#` 1.
+-- `walk::size_of`: the length of a label's word; the empty word has 0, `#` 1.
 use Rattle.stored.specs.Tables.{sizeAt, sizeOf}
 use Rattle.stored.specs.Automaton.{linkSize, linksAt}
 use native.Mathlib.Omega.{arith}

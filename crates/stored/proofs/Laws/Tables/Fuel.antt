@@ -1,8 +1,8 @@
 -- The walk over an automaton's tables, turn by turn: the bounds in its definitions on how far to look are enough where the tables are
 -- walkable, so that they never show.
-use Prim.Native.Nat.{ℕ, zero, suc, _+_, _≤_, _<_}
+use Prim.Native.Nat.{ℕ, zero, suc, _+_, _-_, _≤_, _<_}
 use mathlib.Core.Path.{_≡_, refl, sym, _∙_, ap}
-use mathlib.Core.Bool.{not, _&&_, cond}
+use mathlib.Core.Bool.{true, false, not, _&&_, cond}
 use mathlib.Core.List.{List}
 use native.Mathlib.Omega.{arith}
 use lib.Dec.{eqb}
@@ -35,6 +35,21 @@ module _ (a : List ℕ) (c : Searchable a) (q : ℕ) (e : Name) where
   pub goto-turn : (l : ℕ) → l < labelCount a → gotoFrom maxLabels a q e (suc l) ≡ cond (follows a q e l) (suc (suc l)) (gotoFrom maxLabels a q e (nextAt a l))
   unfolding gotoFrom
   goto-turn l i = enough maxLabels (suc maxLabels) l i (omega (arith, c .few)) (omega (arith, c .few))
+
+  -- at place k, which is 1 more than its label: the label's state if it follows, else the search goes on
+  pub goto-found : (k : ℕ) → (k ≡ 0 → ⊥) → k ≤ labelCount a → true ≡ follows a q e (k - 1) → suc k ≡ gotoFrom maxLabels a q e k
+  goto-found zero z h t = absurd (z refl)
+  goto-found (suc l) z h t =
+      let s : suc l - 1 ≡ l = omega arith in
+      let u : true ≡ follows a q e l = rw s at t in
+      sym (goto-turn l h ∙ rw (sym u))
+
+  pub goto-further : (k : ℕ) → (k ≡ 0 → ⊥) → k ≤ labelCount a → false ≡ follows a q e (k - 1) → gotoFrom maxLabels a q e k ≡ gotoFrom maxLabels a q e (nextAt a (k - 1))
+  goto-further zero z h t = absurd (z refl)
+  goto-further (suc l) z h t =
+      let s : suc l - 1 ≡ l = omega arith in
+      let u : false ≡ follows a q e l = rw s at t in
+      rw s (goto-turn l h ∙ rw (sym u))
 
   -- a state that is found is a label's
   goto-within : (m k : ℕ) → k ≤ labelCount a → gotoFrom m a q e k ≤ suc (labelCount a)
