@@ -195,6 +195,16 @@ mask f s = bitBytes (roleAt f (roles s)) maskSize
 unfoldable pub masks : FolderSet → List ℕ
 masks s = mask isStarRole s ++ (mask isChildRole s ++ (mask isDescendantRole s ++ (mask isAnywhereRole s ++ (mask isRootRole s ++ mask isLastRole s))))
 
+-- the test that mask m holds of each step
+abbrev pub maskTest : ℕ → Role → Bool
+maskTest zero r = isStarRole r
+maskTest (suc zero) r = isChildRole r
+maskTest (suc (suc zero)) r = isDescendantRole r
+maskTest (suc (suc (suc zero))) r = isAnywhereRole r
+maskTest (suc (suc (suc (suc zero)))) r = isRootRole r
+maskTest (suc (suc (suc (suc (suc zero))))) r = isLastRole r
+maskTest (suc (suc (suc (suc (suc (suc m)))))) r = false
+
 -- the bytes of the tables
 unfoldable pub headBytes : List ℕ → List ℕ
 headBytes hs = joined (map le16 hs)

@@ -14,11 +14,10 @@ use Rattle.theory.specs.Words.{Word, begins}
 use Rattle.theory.specs.Prefix.{IsPrefix, failure}
 use Rattle.theory.specs.Walk.{followedBy, Walked, movesOf, arrivedAt, walk}
 use Rattle.theory.specs.Calls.{fresh}
-use Rattle.stored.specs.Automaton.{maskSize, masksAt, allSteps, allLabels, stateOf, roles, roleAt, startState}
+use Rattle.stored.specs.Automaton.{maskSize, masksAt, allSteps, allLabels, stateOf, roles, roleAt, startState, maskTest}
 use Rattle.stored.specs.Tables.{startOf, sizeOf, failOf, goto, walkOver}
 use Rattle.stored.specs.Bits.{bitIn}
 use Rattle.stored.specs.Chain.{chainLabels}
-use Rattle.stored.specs.Masks.{maskTest}
 use Rattle.stored.specs.declared.walk.Walk.{Walk}
 
 -- the places of the labels with name e, ascending; k stand before these

@@ -9,6 +9,7 @@ pub mod Bits
 pub mod Chain
 pub mod Run
 pub mod RunCalls
+pub mod OpenSteps
 pub mod Asking
 pub mod Openable
 pub mod RunContracts

@@ -11,7 +11,7 @@ use Rattle.notation.specs.Reads.{pathAt, stepAt, pathCount}
 use Rattle.notation.specs.declared.reads.PathAt.{PathAt}
 use Rattle.notation.specs.declared.reads.StepAt.{StepAt}
 use Rattle.stored.specs.Bits.{withBit}
-use Rattle.stored.specs.Automaton.{maskSize, masksAt, startAt, bit, Role, isStarRole, isChildRole, isDescendantRole, isAnywhereRole, isRootRole, isLastRole}
+use Rattle.stored.specs.Automaton.{maskSize, masksAt, startAt, bit}
 
 -- bit i of mask m is set if `on`
 unfoldable pub marked : Bool → ℕ → ℕ → List ℕ → List ℕ
@@ -25,16 +25,6 @@ axisMask true true = 3
 axisMask true false = 4
 axisMask false true = 2
 axisMask false false = 1
-
--- the test that mask m holds of each step
-abbrev pub maskTest : ℕ → Role → Bool
-maskTest zero r = isStarRole r
-maskTest (suc zero) r = isChildRole r
-maskTest (suc (suc zero)) r = isDescendantRole r
-maskTest (suc (suc (suc zero))) r = isAnywhereRole r
-maskTest (suc (suc (suc (suc zero)))) r = isRootRole r
-maskTest (suc (suc (suc (suc (suc zero))))) r = isLastRole r
-maskTest (suc (suc (suc (suc (suc (suc m)))))) r = false
 
 -- a step in the masks
 unfoldable pub markRole : ℕ → Bool → Bool → Bool → Bool → List ℕ → List ℕ

@@ -3,7 +3,7 @@ use Prim.Native.Nat.{ℕ, zero, suc, _+_, _*_, _/_, pred}
 use mathlib.Core.Bool.{Bool, false, not, _&&_, _||_, cond}
 use mathlib.Core.List.{List, [], _∷_, _++_}
 use lib.Dec.{leb, ltb, eqb}
-use lib.ListN.{length, getD, set, take, drop, replicate}
+use lib.ListN.{length, getD, take, drop, replicate}
 use lib.Seq.{sets}
 use Rattle.notation.specs.Names.{Name, nameForm, tooLong}
 use Rattle.notation.specs.Limits.{maxName}
@@ -14,7 +14,7 @@ use Rattle.theory.specs.Limits.{maxDepth, maxOpens}
 use Rattle.stored.specs.Automaton.{maskSize, masksAt, automatonSize, byteOf, tabulate}
 use Rattle.stored.specs.Tables.{startOf, walkOver}
 use Rattle.stored.specs.Chain.{chainLabels}
-use Rattle.stored.specs.Bits.{bitIn, bitAt}
+use Rattle.stored.specs.Bits.{bitIn}
 use Rattle.stored.specs.Shape.{automatonShaped, allBelow}
 use Rattle.stored.specs.Run.{matchesAt, nameIn, stateIn, activeIn, seenIn, rowAt, rowSize, runSize}
 use Rattle.stored.specs.declared.counters.Counters.{Counters}
@@ -177,40 +177,6 @@ openRun a run e =
     sets (sets (take at run ++ (rowWritten a run e (take rowSize (drop at run)) ++ drop (at + rowSize) run))
     matchesAt (usedBits a (nowMatched a run e)))
     0 (le16 (suc (depthOf run)))
-
--- the same in the order of the code (a law ties them): the bits, a byte of each row at a time, then the name, the state and the depth
-
--- step i is active, from the bits of the labels that take the name
-abbrev pub takenActive : List ℕ → List ℕ → List ℕ → ℕ → ℕ → Bool
-takenActive a run taken d i = (maskBit a 0 i || bitAt taken i) && permitted a run d i
-
-abbrev pub takenSeen : List ℕ → List ℕ → List ℕ → ℕ → ℕ → Bool
-takenSeen a run taken d i = seenAt run d i || takenActive a run taken d i
-
-abbrev pub takenMatched : List ℕ → List ℕ → List ℕ → ℕ → ℕ → Bool
-takenMatched a run taken d i = matchedAt run i || (takenActive a run taken d i && maskBit a 5 i)
-
-unfoldable pub byteMarked : List ℕ → List ℕ → List ℕ → ℕ → ℕ → List ℕ
-byteMarked a run taken d j =
-    set (set (set run (rowAt (suc d) + activeIn + j) (byteOf (takenActive a run taken d) j))
-    (rowAt (suc d) + seenIn + j) (byteOf (takenSeen a run taken d) j))
-    (matchesAt + j) (byteOf (takenMatched a run taken d) j)
-
-unfoldable pub storedBits : List ℕ → ℕ → List ℕ → List ℕ → List ℕ → List ℕ
-storedBits run d active seen matched =
-    sets (sets (sets run (rowAt (suc d) + activeIn) active) (rowAt (suc d) + seenIn) seen) matchesAt matched
-
-unfoldable pub bitsMarked : List ℕ → List ℕ → List ℕ → ℕ → ℕ → List ℕ
-bitsMarked a run taken d used =
-    storedBits run d (tabulate (byteOf (takenActive a run taken d)) used) (tabulate (byteOf (takenSeen a run taken d)) used) (tabulate (byteOf (takenMatched a run taken d)) used)
-
-unfoldable pub rowNamed : Name → ℕ → List ℕ → List ℕ
-rowNamed e state row = sets row 0 (length e ∷ (padded maxName e ++ le16 state))
-
-unfoldable pub nameStored : List ℕ → ℕ → Name → ℕ → List ℕ
-nameStored run d e state =
-    let at = rowAt (suc d) in
-    sets (take at run ++ (rowNamed e state (take rowSize (drop at run)) ++ drop (at + rowSize) run)) 0 (le16 (suc d))
 
 unfoldable pub openCounters : List ℕ → List ℕ → Counters → Name → Counters
 openCounters a run c e = record { opens = c .opens + 1; closes = c .closes; moves = c .moves + openWalk a run e .moves }

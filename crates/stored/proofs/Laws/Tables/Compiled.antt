@@ -21,10 +21,9 @@ use Rattle.theory.specs.Words.{document, name, Word, before, labelWords, begins
 use Rattle.theory.specs.Prefix.{IsPrefix, failure}
 use Rattle.theory.specs.Walk.{followedBy}
 use Rattle.theory.specs.Calls.{fresh}
-use Rattle.stored.specs.Automaton.{hashes, maskSize, masksAt, allLabels, allWords, stateOf, heads, headOf, links, roles, roleAt, masks, bitBytes, byteOf, startState, automatonOf}
+use Rattle.stored.specs.Automaton.{hashes, maskSize, masksAt, allLabels, allWords, stateOf, heads, headOf, links, roles, roleAt, masks, bitBytes, byteOf, startState, automatonOf, maskTest}
 use Rattle.stored.specs.Tables.{startOf, sizeAt, sizeOf}
 use Rattle.stored.specs.Bits.{bitOf, bitIn}
-use Rattle.stored.specs.Masks.{maskTest}
 use Rattle.stored.specs.Compiled.{LabelStep, Compiled}
 use Rattle.theory.proofs.Laws.Basics.{cases}
 use Rattle.theory.proofs.Laws.Keywords.Prefix.{longest-end}
