@@ -28,6 +28,18 @@ fn errs() {
     );
 }
 
+// Which elements a path selects: `*` takes any element, and no text and no comment; equal elements are two.
+fn selected() {
+    show(b"(folders\n(folder 1 (//*/lock))\n)\n", b"<r><lock/></r>");
+    show(
+        b"(folders\n(folder 1 (//a/a/b))\n)\n",
+        b"<r><a><a><c/><c/><c/><b/></a></a></r>",
+    );
+    show(b"(folders\n(folder 1 (/a/*))\n)\n", b"<a>c<!--b--></a>");
+    show(b"(folders\n(folder 1 (/a/*))\n)\n", b"<a>c<b/></a>");
+    show(b"(folders\n(folder 1 (//a))\n)\n", b"<r><a/><a/></r>");
+}
+
 fn foreign() {
     judge(b"<a>\t\n\r ~</a>");
     judge(b"<a>\x08</a>");
@@ -98,6 +110,7 @@ fn left() {
 fn main() {
     example();
     errs();
+    selected();
     foreign();
     torn();
     loose();

@@ -1,9 +1,10 @@
-// Prints, for each case, its bytes, its tokens with the names of tags, and whether they are a run of tokens or torn. A byte that does not
-// print stands as `?`. d: declaration, c: comment, s: start tag, x: empty-element tag, e: end tag, t: text, b: blank text.
+// Prints, for each case, its bytes, its tokens with the names of tags, and whether they are a run of tokens or torn; then, for some bytes and
+// offsets, from where to where the name of the tag stands. A byte that does not print stands as `?`. d: declaration, c: comment, s: start tag, x: empty-element tag, e: end tag, t: text, b: blank text.
 use filing::tokens::Found;
 use filing::tokens::end_of;
 use filing::tokens::is_run;
 use filing::tokens::tag_name;
+use filing::tokens::tag_span;
 use filing::tokens::token_at;
 
 fn put(s: &[u8]) {
@@ -169,6 +170,33 @@ fn names() {
     show(b"<xmlns xmlns='x'/>");
 }
 
+fn span(s: &[u8], at: usize) {
+    put(s);
+    io::write_all(1, b" | at ");
+    io::print_decimal(1, at as u64);
+    let p = tag_span(s, at);
+    io::write_all(1, b" from ");
+    io::print_decimal(1, p.from as u64);
+    io::write_all(1, b" to ");
+    io::print_decimal(1, p.to as u64);
+    io::write_all(1, b" ");
+    put(tag_name(s, at));
+    io::write_all(1, b"\n");
+}
+
+// A name that stands in the bytes more than once; no tag at the offset; a tag that is not whole; an offset past the end.
+fn spans() {
+    span(b"ab<ab ab='ab'></ab>", 2);
+    span(b"ab<ab ab='ab'></ab>", 14);
+    span(b"ab<ab/>", 2);
+    span(b"ab<ab/>", 0);
+    span(b"ab<ab/>", 3);
+    span(b"ab<ab", 2);
+    span(b"<!--ab-->", 0);
+    span(b"<ab/>", 5);
+    span(b"<ab/>", 6);
+}
+
 fn main() {
     declarations();
     comments();
@@ -176,4 +204,5 @@ fn main() {
     attributes();
     texts();
     names();
+    spans();
 }

@@ -1,11 +1,10 @@
 -- From a run of tokens to the document: the opens, closes, texts and comments that the tokens are, and the tree that has these in this order.
 use Prim.Native.Nat.{ℕ, _+_}
 use mathlib.Core.Path.{_≡_}
-use mathlib.Core.Bool.{Bool, true, false, not, _&&_}
-use mathlib.Core.List.{List, [], _∷_, _++_, dropLast}
+use mathlib.Core.Bool.{Bool, true, _&&_}
+use mathlib.Core.List.{List, [], _∷_, _++_}
 use Rattle.notation.specs.Names.{Name}
 use Rattle.notation.specs.Form.{every}
-use Rattle.notation.specs.Activity.{sameName}
 use Rattle.documents.specs.Tree.{Node, element, text, comment, Nodes, none, _then_, Document}
 use Rattle.documents.specs.Tokens.{Token, declaration, startTag, emptyTag, endTag, text as textToken, comment as commentToken, printParts, blank, RunOfTokens}
 
@@ -75,28 +74,6 @@ unfoldable pub documentOf : Nodes → Document
 documentOf none = none
 documentOf (x then xs) = keep x (documentOf xs)
 
--- The same read from left to right. `names` are the open names, innermost first, `seen` says whether the root was opened: opens and closes
--- match, there is one root, and text outside it is blank
-unfoldable pub balanced : List Name → Bool → List Event → Bool
-balanced [] seen [] = seen
-balanced (m ∷ names) seen [] = false
-balanced [] seen (opening n ∷ es) = not seen && balanced (n ∷ []) true es
-balanced (m ∷ names) seen (opening n ∷ es) = balanced (n ∷ m ∷ names) seen es
-balanced [] seen (closing n ∷ es) = false
-balanced (m ∷ names) seen (closing n ∷ es) = sameName m n && balanced names seen es
-balanced [] seen (textHere b ∷ es) = every blank b && balanced [] seen es
-balanced (m ∷ names) seen (textHere b ∷ es) = balanced (m ∷ names) seen es
-balanced [] seen (commentHere b ∷ es) = balanced [] seen es
-balanced (m ∷ names) seen (commentHere b ∷ es) = balanced (m ∷ names) seen es
-
--- the lists of open names, outermost first, right after each open
-unfoldable pub passed : List Name → List Event → List (List Name)
-passed names [] = []
-passed names (opening n ∷ es) = (names ++ (n ∷ [])) ∷ passed (names ++ (n ∷ [])) es
-passed names (closing n ∷ es) = passed (dropLast names) es
-passed names (textHere b ∷ es) = passed names es
-passed names (commentHere b ∷ es) = passed names es
-
 -- a report with a document: its bytes are a run of tokens, and these are those of a tree with one root
 pub record Report (bytes : List ℕ) : Type 0 where
   pub run : RunOfTokens bytes
@@ -105,7 +82,3 @@ pub record Report (bytes : List ℕ) : Type 0 where
 -- the document in which a path selects
 abbrev pub documentIn : {bytes : List ℕ} → Report bytes → Document
 documentIn r = documentOf (r .tree .nodes)
-
--- the lists of open names that the report's opens pass through
-abbrev pub passedIn : {bytes : List ℕ} → Report bytes → List (List Name)
-passedIn r = passed [] (eventsOf (r .run .tokens))

@@ -1,3 +1,4 @@
 pub mod Read
 pub mod Filing
 pub mod Listing
+pub mod Demand1

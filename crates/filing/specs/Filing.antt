@@ -10,9 +10,10 @@ use lib.ListN.{length}
 use Rattle.notation.specs.Sets.{FolderSet}
 use Rattle.notation.specs.Form.{every, nonEmpty}
 use Rattle.notation.specs.Refusals.{Refusal, oversize, foreignByte, torn, looseEnd, numberOf}
-use Rattle.theory.specs.Calls.{asLeft, Call, openCall, closeCall, State, nothingOpen, fresh, refusal, accepted, step}
+use Rattle.theory.specs.Order.{FirstOf}
+use Rattle.theory.specs.Calls.{asLeft, Call, openCall, closeCall, State, nothingOpen, openOrder, closeOrder, fresh, refusal, accepted, step}
 use Rattle.filing.specs.Limits.{maxReportBytes}
-use Rattle.documents.specs.Tokens.{Token, blank, listed, RunOfTokens}
+use Rattle.documents.specs.Tokens.{Token, declaration, comment, startTag, emptyTag, endTag, text, printParts, blank, listed, RunOfTokens}
 use Rattle.documents.specs.Reading.{Read, fail, got, readReport}
 use Rattle.documents.specs.Document.{Event, opening, closing, textHere, commentHere, eventsOfToken}
 
@@ -89,7 +90,17 @@ fileReport set bytes =
 
 -- The same, plainly.
 
--- the first token that is refused: those before it are all taken
+-- what stops a token, by its kind: an open or a close is refused with the first of its order whose condition holds. The close of an
+-- empty-element tag never is: it is that of the element just opened
+abbrev pub Stops : State → Token → Refusal → Type 0
+Stops m declaration r = ⊥
+Stops m (comment c) r = ⊥
+Stops m (startTag n attributes b) r = FirstOf (openOrder m n) r
+Stops m (emptyTag n attributes b) r = FirstOf (openOrder m n) r
+Stops m (endTag n b) r = FirstOf (closeOrder m n) r
+Stops m (text parts) r = (r ≡ looseEnd) × (looseText m (printParts parts) ≡ true)
+
+-- the first token that is stopped: those before it are all taken
 pub record StopsAt (set : FolderSet) (ts : List Token) (r : Refusal) : Type 0 where
   pub before : List Token
   pub token : Token
@@ -97,7 +108,7 @@ pub record StopsAt (set : FolderSet) (ts : List Token) (r : Refusal) : Type 0 wh
   pub joined : before ++ (token ∷ later) ≡ ts
   pub state : State
   pub taken : fileTokens set (fresh set) before ≡ filed state
-  pub stops : fileEvents set state (eventsOfToken token) ≡ refused r
+  pub stops : Stops state token r
 
 -- when a report is refused, and with which refusal: the conditions in their order, each with none of those before it
 pub data Refused (set : FolderSet) (bytes : List ℕ) (r : Refusal) : Type 0 where

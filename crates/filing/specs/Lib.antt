@@ -1,12 +1,13 @@
-pub mod Reaches
 pub mod Seen
+pub mod NamePart
 pub mod Limits
 pub mod Filing
 pub mod Demand2
 pub mod FileCall
 pub mod FiledReport
+pub mod ReportRefusals
 pub mod Listing
-pub mod Page
 pub mod Listed
 pub mod Filer
-pub mod Taking
+pub mod Printed
+pub mod Code

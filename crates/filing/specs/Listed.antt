@@ -1,21 +1,21 @@
 -- What the calls that write a listing promise, of any automaton, run and counters, by what is stored.
-use Prim.Native.Nat.{ℕ, zero, suc}
-use mathlib.Core.Path.{_≡_}
+use Prim.Native.Nat.{ℕ}
 use mathlib.Core.Bool.{not, _||_, cond}
 use mathlib.Core.Option.{Option, none, some}
 use mathlib.Core.List.{List, [], _∷_, _++_}
 use lib.Dec.{ltb}
 use lib.ListN.{length}
-use lib.Seq.{sets}
 use Rattle.notation.specs.Print.{decimal, folderWord, footer}
 use Rattle.notation.specs.Reads.{folderCount, folderAt, pathText}
-use Rattle.notation.specs.Refusals.{shortBuffer, strangeShape}
+use Rattle.notation.specs.Refusals.{shortBuffer, strangeShape, numberOf}
+use Rattle.notation.specs.WriteText.{TextWritten}
 use Rattle.notation.specs.declared.reads.FolderAt.{FolderAt}
-use Rattle.theory.specs.Words.{any}
+use Rattle.notation.specs.Form.{any}
 use Rattle.theory.specs.Folders.{countFrom}
-use Rattle.theory.specs.Order.{Condition, gives}
-use Rattle.stored.specs.RunCalls.{shaped, tooShort, given}
+use Rattle.theory.specs.Order.{Condition, gives, given}
+use Rattle.stored.specs.RunCalls.{shaped, tooShort}
 use Rattle.stored.specs.Asking.{placeMatched, pathsOfFolder}
+use Rattle.stored.specs.Answers.{writtenSays}
 use Rattle.stored.specs.declared.answers.Written.{Written}
 use Rattle.stored.specs.declared.counters.Counters.{Counters}
 use Rattle.filing.specs.Limits.{listingSize}
@@ -70,27 +70,16 @@ heldRefusal text = given (gives (ltb listingSize (length text)) shortBuffer ∷ 
 unfoldable pub listingRefusal : List ℕ → List ℕ → Counters → List ℕ → ℕ
 listingRefusal a run c out = given (listingConditions a run c out)
 
--- a refusal's number, or the length of the text
-abbrev pub writeAnswer : ℕ → List ℕ → Written
-writeAnswer zero text = Written.Bytes (length text)
-writeAnswer (suc r) text = Written.Refused (suc r)
-
--- the text first, and bytes past it stay; a refusal changes nothing
-abbrev pub writeBuffer : ℕ → List ℕ → List ℕ → List ℕ
-writeBuffer zero text out = sets out 0 text
-writeBuffer (suc r) text out = out
-
 -- this text is written, or refused with this number
-pub record Writes (refusal : ℕ) (text before : List ℕ) (answer : Written) (after : List ℕ) : Type 0 where
-  pub answers : answer ≡ writeAnswer refusal text
-  pub leaves : after ≡ writeBuffer refusal text before
+abbrev pub Writes : ℕ → List ℕ → List ℕ → Written → List ℕ → Type 0
+Writes refusal text before answer after = TextWritten refusal text before (writtenSays answer) after
 
 abbrev pub ListingWritten : List ℕ → List ℕ → Counters → List ℕ → Written → List ℕ → Type 0
 ListingWritten a run c before answer after = Writes (listingRefusal a run c before) (listingIn a run c) before answer after
 
 -- what a page holds is written, or 1 where it was too short for it
 abbrev pub pageRefusal : Option (List ℕ) → ℕ
-pageRefusal none = 1
+pageRefusal none = numberOf shortBuffer
 pageRefusal (some w) = 0
 
 abbrev pub pageText : Option (List ℕ) → List ℕ

@@ -1,15 +1,12 @@
 -- What the code says of the token at an offset: its kind, its end, where its name stands, whether it is blank.
 use Prim.Native.Nat.{ℕ, _+_, _-_}
-use mathlib.Core.Bool.{Bool, true, false, cond}
-use mathlib.Core.List.{List, []}
-use lib.Dec.{eqb, ltb}
-use lib.ListN.{length, getD, drop}
-use Rattle.notation.specs.Names.{Name}
+use mathlib.Core.Bool.{Bool, true, false}
+use lib.ListN.{length}
 use Rattle.notation.specs.Form.{every}
 use Rattle.filing.specs.declared.tokens.Found.{Found}
 use Rattle.filing.specs.declared.tokens.Found.the-variants.{Nothing, Declaration, Comment, Start, Empty, End, Text}
-use Rattle.documents.specs.Tokens.{Token, declaration, comment, startTag, emptyTag, endTag, text, declarationBytes, printParts, blank}
-use Rattle.documents.specs.Reading.{Read, fail, got, thenRead, readWord}
+use Rattle.documents.specs.Tokens.{Token, declaration, comment, startTag, emptyTag, endTag, text, printParts, blank}
+use Rattle.documents.specs.Reading.{Read, fail, got}
 
 -- of a token with its `<` at an offset, in bytes of this length in all
 abbrev pub shown : Token → ℕ → ℕ → Found
@@ -23,37 +20,6 @@ shown (text ps) at end = Text end (every blank (printParts ps))
 abbrev pub foundOf : ℕ → ℕ → Read Token → Found
 foundOf total at fail = Nothing
 foundOf total at (got t r) = shown t at (total - length r)
-
--- `>` or `/>` at e, of a tag whose name stands from .. to
-abbrev pub tagEndOf : List ℕ → ℕ → ℕ → ℕ → Found
-tagEndOf s from to e =
-    cond (ltb e (length s))
-    (cond (eqb (getD s e 0) 62) (Start from to (e + 1))
-    (cond (eqb (getD s e 0) 47)
-    (cond (ltb (e + 1) (length s)) (cond (eqb (getD s (e + 1) 0) 62) (Empty from to (e + 1 + 1)) Nothing) Nothing)
-    Nothing))
-    Nothing
-
--- a text from an offset to another, if there is any
-abbrev pub textFound : ℕ → ℕ → Bool → Found
-textFound at end all = cond (ltb at end) (Text end all) Nothing
-
--- the declaration, at an offset
-abbrev pub declarationAt : List ℕ → ℕ → Found
-declarationAt s at = foundOf (length s) at (thenRead (readWord declarationBytes (drop at s)) (λ w r. got declaration r))
-
--- a tag's name; no other token has one
-abbrev pub nameOfToken : Token → Name
-nameOfToken declaration = []
-nameOfToken (comment c) = []
-nameOfToken (startTag n l b) = n
-nameOfToken (emptyTag n l b) = n
-nameOfToken (endTag n b) = n
-nameOfToken (text ps) = []
-
-abbrev pub tagName : Read Token → Name
-tagName fail = []
-tagName (got t r) = nameOfToken t
 
 -- where a tag's name begins and ends; 0 for what has none
 abbrev pub nameFrom : Found → ℕ

@@ -22,9 +22,9 @@ ghost use lib.ListN.{length};
 ghost use Rattle.notation.specs.Print.{decimal, folderWord};
 ghost use Rattle.notation.specs.Reads.{folderAt, folderCount};
 ghost use Rattle.theory.specs.Folders.{countFrom};
-ghost use Rattle.stored.specs.RunCalls.{given};
+ghost use Rattle.theory.specs.Order.{given};
 ghost use Rattle.filing.specs.Limits.{listingSize};
-ghost use Rattle.filing.specs.Page.{On, Adds, Holds, soFar};
+ghost use Rattle.filing.specs.Code.Page.{On, Adds, Holds, soFar};
 ghost use Rattle.filing.specs.Listing.{movesWord, movesLine, refusedLine};
 ghost use Rattle.filing.specs.Listed.{pathListed, ifMatched, pathsListed, lineListed, lineAt, folderListed, foldersListed, listingIn, lentConditions, heldRefusal, Writes, ListingWritten, RefusedWritten, pageRefusal, pageText};
 

@@ -3,7 +3,7 @@ use notation::store::copy;
 ghost use mathlib.Core.List.{[], _∷_};
 ghost use Prim.Native.Nat.{_+_, _<_};
 ghost use Rattle.notation.specs.Print.{decimal};
-ghost use Rattle.filing.specs.Page.{On, Adds};
+ghost use Rattle.filing.specs.Code.Page.{On, Adds};
 
 pub struct Pen {
     // After the last piece.

@@ -10,7 +10,8 @@ use stored::answers::Written;
 use stored::counters::Counters;
 ghost use mathlib.Core.Path.{_≡_};
 ghost use mathlib.Core.Bool.{false};
-ghost use Rattle.filing.specs.Filer.{tooSmall, Prints, OutcomeWritten, FiledAndListed};
+ghost use Rattle.filing.specs.Filer.{tooSmall, Prints};
+ghost use Rattle.filing.specs.Code.Filer.{OutcomeWritten, FiledAndListed};
 
 fn too_small(a: &[u8], run: &[u8], out: &[u8]) -> bool
     ensures { λ r. ⌜ r ≡ tooSmall (now (a .entry)) (now (run .entry)) (now (out .entry)) ⌝ }

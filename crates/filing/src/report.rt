@@ -16,14 +16,17 @@ use stored::counters::Counters;
 ghost use mathlib.Core.Path.{_≡_};
 ghost use Prim.Native.Nat.{_≤_, _<_};
 ghost use lib.ListN.{length, drop};
+ghost use Rattle.notation.specs.Answers.{numberSaid};
+ghost use Rattle.stored.specs.Answers.{openedSays};
 ghost use Rattle.stored.specs.Run.{runSize};
 ghost use Rattle.stored.specs.RunCalls.{startRun, noCounters};
 ghost use Rattle.stored.specs.Openable.{Usable};
 ghost use Rattle.stored.specs.Demand3.{started};
 ghost use Rattle.documents.specs.Reading.{readToken, readReport};
-ghost use Rattle.filing.specs.Seen.{foundOf, tagName};
+ghost use Rattle.filing.specs.Seen.{foundOf};
+ghost use Rattle.filing.specs.Code.Seen.{tagName};
 ghost use Rattle.filing.specs.FileCall.{Files, thenGo, openOutcome, closeOutcome, textOutcome, endOutcome, runOutcome, reportOutcome};
-ghost use Rattle.filing.specs.Taking.{openNumber, so, Takes, Leaves, foundOutcome, tornAt, runFrom};
+ghost use Rattle.filing.specs.Code.Taking.{so, Takes, Leaves, foundOutcome, tornAt, runFrom};
 
 // What calls answer: the refusal, 0 for none, and the counters after them.
 pub struct Taken {
@@ -45,7 +48,7 @@ fn with_none(n: u8) -> Taken
 }
 
 fn of_open(answer: Opened, c: Counters) -> Taken
-    ensures { λ r. ⌜ (r .refusal ≡ openNumber answer) × (r .counters ≡ c) ⌝ }
+    ensures { λ r. ⌜ (r .refusal ≡ numberSaid (openedSays answer)) × (r .counters ≡ c) ⌝ }
 {
     match answer {
         Opened::Accepted(_) => Taken {

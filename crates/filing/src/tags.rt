@@ -11,7 +11,7 @@ ghost use Rattle.documents.specs.Tokens.{inValue};
 ghost use mathlib.Core.List.{[], _∷_};
 ghost use Rattle.documents.specs.Tokens.{blank as blankByte};
 ghost use Rattle.documents.specs.Reading.{back, readWord, readName, readReference, readParts, readAttributeFrom};
-ghost use Rattle.filing.specs.Reaches.{reachOf, quotedReach, valueReach, insideReach};
+ghost use Rattle.filing.specs.Code.Reaches.{reachOf, quotedReach, valueReach, insideReach};
 
 // Nothing that can be read begins there, or where it ends.
 pub enum Reach {

@@ -14,9 +14,12 @@ ghost use Prim.Native.Nat.{_+_, _≤_, _<_};
 ghost use lib.ListN.{length, drop};
 ghost use mathlib.Core.List.{[], _∷_};
 ghost use Rattle.documents.specs.Tokens.{begins};
+ghost use Rattle.documents.specs.TagAt.{TagAt};
 ghost use Rattle.documents.specs.Reading.{readTag, readEndTag, readContents, readComment, readText, readToken, readReport};
-ghost use Rattle.filing.specs.Reaches.{reachOf};
-ghost use Rattle.filing.specs.Seen.{foundOf, tagEndOf, textFound, declarationAt, tagName, nameFrom, nameTo, foundEnd, declares, isGot};
+ghost use Rattle.filing.specs.Code.Reaches.{reachOf};
+ghost use Rattle.filing.specs.Seen.{foundOf, nameFrom, nameTo, foundEnd, declares, isGot};
+ghost use Rattle.filing.specs.Code.Seen.{tagEndOf, textFound, declarationAt};
+ghost use Rattle.filing.specs.NamePart.{NamePart};
 
 // What begins at an offset: nothing that can be read, or a token with its end. Of a tag also where its name begins and ends, of a text
 // whether it is blank.
@@ -259,11 +262,18 @@ pub fn name_span(f: Found) -> Span
     }
 }
 
-// The name of the tag at an offset of any bytes, as a part of those bytes; empty where no whole tag begins there.
-pub fn tag_name(s: &[u8], at: usize) -> &[u8]
-    ensures { λ r. ⌜ now r ≡ tagName (readToken (drop at (now (s .entry)))) ⌝ }
+// Where the name of the tag at an offset of any bytes stands; 0 to 0 where no whole tag begins there.
+pub fn tag_span(s: &[u8], at: usize) -> Span
+    ensures { λ r. ⌜ TagAt (now (s .entry)) at (r .from) (r .to) ⌝ }
 {
-    let p = name_span(token_at(s, at));
+    name_span(token_at(s, at))
+}
+
+// The name of that tag, as the part of those bytes between the two offsets.
+pub fn tag_name(s: &[u8], at: usize) -> &[u8]
+    ensures { λ r. ⌜ NamePart (s .entry) at r ⌝ }
+{
+    let p = tag_span(s, at);
     let from = p.from;
     let to = p.to;
     &s[from..to]

@@ -19,8 +19,9 @@ pub fn write_set(automaton: &[u8], out: &mut [u8]) -> Written
         return Written::Refused(1);
     }
     if automaton_shaped(automaton) {
-        copy(out, 0, reads::text(automaton));
-        return Written::Bytes(reads::text_len(automaton));
+        let text = reads::text(automaton);
+        copy(out, 0, text);
+        return Written::Bytes(text.len());
     }
     Written::Refused(14)
 }

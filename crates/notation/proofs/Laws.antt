@@ -1,4 +1,5 @@
 pub mod Tests
+pub mod Said
 pub mod Bytes
 pub mod Meaning
 pub mod Form

@@ -9,7 +9,7 @@ use Rattle.notation.specs.Limits.{maxNumber, maxSteps, maxPaths, maxLabe
 use Rattle.notation.specs.Names.{nameForm, tooLong, within}
 use Rattle.notation.specs.Sets.{Test, label, star, Step, Path, Folder, folder, FolderSet, testOf, folderPaths}
 use Rattle.notation.specs.Print.{print}
-use Rattle.notation.specs.Refusals.{Refusal, outOfTurn, longName, longPath, numberOf}
+use Rattle.notation.specs.Refusals.{Refusal, outOfTurn, longName, longPath}
 
 -- the test holds of every element
 unfoldable pub every {ℓ} : {A : Type ℓ} → (A → Bool) → List A → Bool
@@ -95,11 +95,6 @@ faultsAfter last (folder n ps ∷ fs) = cond (leb n last) (outOfTurn ∷ []) [] 
 
 abbrev pub faults : FolderSet → List Refusal
 faults s = faultsAfter 0 s
-
--- the refusal of a list of faults: the number of the first, 0 for none
-abbrev pub firstOf : List Refusal → ℕ
-firstOf [] = 0
-firstOf (r ∷ rs) = numberOf r
 
 -- the conditions of 4, 5 and 6 by themselves, whatever stands before in the text
 

@@ -1,4 +1,5 @@
 -- Where the parts of a read set stand in its buffer, and which bytes they are. Numbers take two bytes, the lower first; spare bytes are 0.
+-- The layout is the program's choice; what every choice has in common is that the reading calls (Reads) give the set and its text back.
 use Prim.Native.Nat.{ℕ, suc, _+_, _-_, _*_, _/_, _%_}
 use mathlib.Core.List.{List, [], _∷_, _++_, map}
 use lib.ListN.{length, replicate}

@@ -6,14 +6,13 @@ pub mod Sets
 pub mod Print
 pub mod Form
 pub mod Accepted
-pub mod Scan
-pub mod Safe
+pub mod Judged
 pub mod Layout
 pub mod Reads
-pub mod Emit
-pub mod Put
 pub mod ReadSet
+pub mod Answers
 pub mod WriteText
 pub mod Fit
 pub mod Activity
 pub mod FitTable
+pub mod Code

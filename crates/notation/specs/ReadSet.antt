@@ -1,22 +1,19 @@
 -- What the call that reads a set promises.
-use Prim.Native.Nat.{ℕ}
+use Prim.Native.Nat.{ℕ, _≤_, _<_}
 use mathlib.Core.Path.{_≡_}
-use mathlib.Core.Bool.{cond}
 use mathlib.Core.List.{List, _++_}
-use lib.Dec.{ltb, eqb}
 use lib.ListN.{length, drop}
-use Rattle.notation.specs.Layout.{setSize}
-use Rattle.notation.specs.Scan.{refusalOf}
-use Rattle.notation.specs.Emit.{partRead}
-
--- 1 for a buffer of fewer bytes than a read set takes, else the text's refusal; 0 for an accepted set
-unfoldable pub readAnswer : ℕ → List ℕ → ℕ
-readAnswer size text = cond (ltb size setSize) 1 (refusalOf text)
+use Rattle.notation.specs.Refusals.{shortBuffer, numberOf}
+use Rattle.notation.specs.Layout.{setSize, setPart}
+use Rattle.notation.specs.Judged.{Verdict, refuses, accepts, Judged, verdictNumber}
 
 -- an accepted set takes the first bytes of the buffer; a refusal changes nothing
-unfoldable pub readBuffer : List ℕ → List ℕ → List ℕ
-readBuffer text before = cond (eqb (readAnswer (length before) text) 0) (partRead text ++ drop setSize before) before
+abbrev pub readInto : Verdict → List ℕ → List ℕ
+readInto (refuses r) before = before
+readInto (accepts s) before = setPart s ++ drop setSize before
 
 pub record ReadSet (text before : List ℕ) (answer : ℕ) (after : List ℕ) : Type 0 where
-  pub answers : answer ≡ readAnswer (length before) text
-  pub leaves : after ≡ readBuffer text before
+  -- a buffer of fewer bytes than a read set takes
+  pub short : length before < setSize → (answer ≡ numberOf shortBuffer) × (after ≡ before)
+  -- any other: by the text's verdict
+  pub judged : setSize ≤ length before → (v : Verdict) → Judged text v → (answer ≡ verdictNumber v) × (after ≡ readInto v before)

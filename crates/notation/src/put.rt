@@ -21,8 +21,8 @@ ghost use lib.ListN.{length};
 ghost use Rattle.notation.specs.Names.{inName};
 ghost use Rattle.notation.specs.Limits.{maxPaths, maxSteps, maxLabels};
 ghost use Rattle.notation.specs.Layout.{setSize};
-ghost use Rattle.notation.specs.Put.{putFolder, putStep, putPath, putTest, putLabel, put, Within};
-ghost use Rattle.notation.specs.Scan.{folderRead, pathRead, labelRead, starRead, counted};
+ghost use Rattle.notation.specs.Code.Put.{putFolder, putStep, putPath, putTest, putLabel, put, Within};
+ghost use Rattle.notation.specs.Code.Scan.{folderRead, pathRead, labelRead, starRead, counted};
 
 fn put_folder(part: &mut [u8], t: Tally, number: usize)
     requires { ⌜ (t .folders < maxPaths) × (setSize ≤ length (now part)) ⌝ }

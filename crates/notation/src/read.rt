@@ -13,9 +13,9 @@ ghost use lib.ListN.{length, drop, replicate};
 ghost use lib.Seq.{sets};
 ghost use Rattle.notation.specs.Limits.{maxSetBytes};
 ghost use Rattle.notation.specs.Layout.{setSize};
-ghost use Rattle.notation.specs.Scan.{scan, start};
-ghost use Rattle.notation.specs.Emit.{partRead};
-ghost use Rattle.notation.specs.Put.{putAll, tallied, Within};
+ghost use Rattle.notation.specs.Code.Scan.{scan, start};
+ghost use Rattle.notation.specs.Code.Emit.{partRead};
+ghost use Rattle.notation.specs.Code.Put.{putAll, tallied, Within};
 ghost use Rattle.notation.specs.ReadSet.{ReadSet};
 
 // The tables of a text, by one pass over it.

@@ -5,8 +5,8 @@ use crate::limits::MAX_SET_BYTES;
 ghost use mathlib.Core.Path.{_≡_};
 ghost use Prim.Native.Nat.{_+_, _≤_, _<_};
 ghost use lib.ListN.{length};
-ghost use Rattle.notation.specs.Scan.{isDone, ticked, scanned, scan, start, ended, refusalOf};
-ghost use Rattle.notation.specs.Safe.{Safe};
+ghost use Rattle.notation.specs.Code.Scan.{isDone, ticked, scanned, scan, start, ended, refusalOf};
+ghost use Rattle.notation.specs.Code.Safe.{Safe};
 
 mod counting;
 mod modes;

@@ -1,24 +1,23 @@
--- What the asking calls answer, of any automaton and run, by what is stored. They change nothing.
-use Prim.Native.Nat.{ℕ, zero, suc, _+_, _-_}
+-- What the asking calls say, of any automaton and run, by what is stored: the refusal's number, or the answer. They change nothing.
+use Prim.Native.Nat.{ℕ, _+_, _-_}
 use mathlib.Core.Bool.{Bool, true, false, not, _&&_, cond}
 use mathlib.Core.List.{List, [], _∷_}
 use lib.Dec.{eqb}
 use Rattle.notation.specs.Names.{Name, within}
 use Rattle.notation.specs.Reads.{pathAt, folderAt, folderOf}
+use Rattle.notation.specs.Answers.{Answer, said}
 use Rattle.notation.specs.Refusals.{shortBuffer, strangeShape, noSuchPlace}
 use Rattle.notation.specs.declared.PathPlace.{PathPlace}
 use Rattle.notation.specs.declared.FolderNumber.{FolderNumber}
 use Rattle.notation.specs.declared.reads.PathAt.{PathAt}
 use Rattle.notation.specs.declared.reads.FolderAt.{FolderAt}
 use Rattle.notation.specs.declared.reads.FolderIndex.{FolderIndex}
-use Rattle.theory.specs.Words.{any}
+use Rattle.notation.specs.Form.{any}
 use Rattle.theory.specs.Folders.{countFrom}
-use Rattle.theory.specs.Order.{Condition, gives}
+use Rattle.theory.specs.Order.{Condition, gives, given}
 use Rattle.stored.specs.Tables.{sizeOf}
 use Rattle.stored.specs.Shape.{automatonShaped}
-use Rattle.stored.specs.RunCalls.{depthOf, storedName, stateAt, activeAt, matchedAt, runShaped, tooShort, given}
-use Rattle.stored.specs.declared.answers.Asked.{Asked}
-use Rattle.stored.specs.declared.answers.Length.{Length}
+use Rattle.stored.specs.RunCalls.{depthOf, storedName, stateAt, activeAt, matchedAt, runShaped, tooShort}
 
 -- 1, 14 (automaton and run), then 13 where what is asked of is not there
 abbrev pub askConditions : List ℕ → List ℕ → Bool → List Condition
@@ -30,15 +29,6 @@ askConditions a run there =
 
 unfoldable pub askRefusal : List ℕ → List ℕ → Bool → ℕ
 askRefusal a run there = given (askConditions a run there)
-
-abbrev pub yesNo : Bool → Asked
-yesNo true = Asked.Yes
-yesNo false = Asked.No
-
--- the refusal's number, or the answer
-abbrev pub answered : ℕ → Bool → Asked
-answered zero b = yesNo b
-answered (suc n) b = Asked.Refused (suc n)
 
 abbrev pub hasPath : PathAt → Bool
 hasPath (PathAt.Path first steps at size) = true
@@ -52,8 +42,8 @@ lastMatched run PathAt.Missing = false
 abbrev pub placeMatched : List ℕ → List ℕ → ℕ → Bool
 placeMatched a run place = lastMatched run (pathAt a (record { 0 = place }))
 
-unfoldable pub askPath : List ℕ → List ℕ → PathPlace → Asked
-askPath a run place = answered (askRefusal a run (hasPath (pathAt a place))) (placeMatched a run (place .0))
+unfoldable pub askPath : List ℕ → List ℕ → PathPlace → Answer Bool
+askPath a run place = said (askRefusal a run (hasPath (pathAt a place))) (placeMatched a run (place .0))
 
 -- a folder is matched when one of its paths is
 abbrev pub hasFolder : FolderIndex → Bool
@@ -68,9 +58,9 @@ abbrev pub indexPaths : List ℕ → FolderIndex → List ℕ
 indexPaths a (FolderIndex.At i) = pathsOfFolder (folderAt a i)
 indexPaths a FolderIndex.Missing = []
 
-unfoldable pub askFolder : List ℕ → List ℕ → FolderNumber → Asked
+unfoldable pub askFolder : List ℕ → List ℕ → FolderNumber → Answer Bool
 askFolder a run number =
-    answered (askRefusal a run (hasFolder (folderOf a number))) (any (placeMatched a run) (indexPaths a (folderOf a number)))
+    said (askRefusal a run (hasFolder (folderOf a number))) (any (placeMatched a run) (indexPaths a (folderOf a number)))
 
 -- step s (from 1) of a path is active on the innermost element
 abbrev pub hasStep : PathAt → ℕ → Bool
@@ -81,16 +71,12 @@ abbrev pub stepActive : List ℕ → PathAt → ℕ → Bool
 stepActive run (PathAt.Path first steps at size) s = activeAt run (depthOf run) (first + s - 1)
 stepActive run PathAt.Missing s = false
 
-unfoldable pub askStep : List ℕ → List ℕ → PathPlace → ℕ → Asked
-askStep a run place s = answered (askRefusal a run (hasStep (pathAt a place) s)) (stepActive run (pathAt a place) s)
+unfoldable pub askStep : List ℕ → List ℕ → PathPlace → ℕ → Answer Bool
+askStep a run place s = said (askRefusal a run (hasStep (pathAt a place) s)) (stepActive run (pathAt a place) s)
 
 -- the length of the current prefix
-abbrev pub measured : ℕ → ℕ → Length
-measured zero n = Length.Symbols n
-measured (suc r) n = Length.Refused (suc r)
-
-unfoldable pub askPrefix : List ℕ → List ℕ → Length
-askPrefix a run = measured (askRefusal a run true) (sizeOf a (stateAt run (depthOf run)))
+unfoldable pub askPrefix : List ℕ → List ℕ → Answer ℕ
+askPrefix a run = said (askRefusal a run true) (sizeOf a (stateAt run (depthOf run)))
 
 -- the open name at a depth (from 1), empty where it is refused, and the refusal
 abbrev pub hasDepth : List ℕ → ℕ → Bool

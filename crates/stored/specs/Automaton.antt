@@ -1,5 +1,7 @@
 -- The automaton (paper 01: the board): a set's bytes as the notation keeps them, and the shared machine's tables after them. What is stored
 -- is the definitions written down; numbers take two bytes, the lower first, and spare bytes are 0.
+-- The layout is the program's choice: which tables there are, where they stand and which number a word has. What every choice has in common:
+-- its tables mean the shared machine (Compiled), the set's text is written back from it, and its runs meet demand 3 (Demand3).
 use Prim.Native.Nat.{ℕ, zero, suc, _+_, _*_, _%_}
 use mathlib.Core.Bool.{Bool, true, false, not, _&&_, cond}
 use mathlib.Core.List.{List, [], _∷_, _++_, map}
@@ -78,7 +80,8 @@ sameWord [] (t ∷ v) = false
 sameWord (s ∷ w) [] = false
 sameWord (s ∷ w) (t ∷ v) = sameSymbol s t && sameWord w v
 
--- states: 0 is the empty word, 1 is `#`, and a word that ends with a label is 2 more than the place of the first label that ends it
+-- states: 0 is the empty word, 1 is `#`, and a word that ends with a label is 2 more than the place of the first label that ends it. Which
+-- label stands for a word is a choice; that no two words share a number is what matters (Compiled.one)
 unfoldable pub stateIn : List Word → Word → ℕ
 stateIn words [] = 0
 stateIn words (document ∷ []) = 1

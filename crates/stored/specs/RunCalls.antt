@@ -1,6 +1,6 @@
 -- What the calls on a run answer and leave, of any automaton, run and counters, by what is stored: the equations of their contracts.
 use Prim.Native.Nat.{ℕ, zero, suc, _+_, _*_, _/_, pred}
-use mathlib.Core.Bool.{Bool, false, not, _&&_, _||_, cond}
+use mathlib.Core.Bool.{Bool, false, not, _&&_, _||_}
 use mathlib.Core.List.{List, [], _∷_, _++_}
 use lib.Dec.{leb, ltb, eqb}
 use lib.ListN.{length, getD, take, drop, replicate}
@@ -19,9 +19,9 @@ use Rattle.stored.specs.Shape.{automatonShaped, allBelow}
 use Rattle.stored.specs.Run.{matchesAt, nameIn, stateIn, activeIn, seenIn, rowAt, rowSize, runSize}
 use Rattle.stored.specs.declared.counters.Counters.{Counters}
 use Rattle.stored.specs.declared.walk.Walk.{Walk}
-use Rattle.notation.specs.Refusals.{numberOf, shortBuffer, strangeShape, torn, longName, looseEnd, tooDeep, full, crossed}
-use Rattle.theory.specs.Words.{any}
-use Rattle.theory.specs.Order.{Condition, gives}
+use Rattle.notation.specs.Refusals.{shortBuffer, strangeShape, torn, longName, looseEnd, tooDeep, full, crossed}
+use Rattle.notation.specs.Form.{any}
+use Rattle.theory.specs.Order.{Condition, gives, given}
 
 -- what is stored of a run
 
@@ -65,11 +65,7 @@ countersShaped run c =
 unfoldable pub shaped : List ℕ → List ℕ → Counters → Bool
 shaped a run c = automatonShaped a && (runShaped a run && countersShaped run c)
 
--- refusals: the number of the first condition that holds, 0 for none
-
-unfoldable pub given : List Condition → ℕ
-given [] = 0
-given (gives b r ∷ later) = cond b (numberOf r) (given later)
+-- refusals: each call's order of conditions
 
 abbrev pub tooShort : List ℕ → List ℕ → Bool
 tooShort a run = ltb (length a) automatonSize || ltb (length run) runSize
@@ -91,26 +87,18 @@ nameConditions e = gives (not (nameForm e)) torn ∷ gives (tooLong e) longName 
 -- all others of an open, and of a close
 abbrev pub openOthers : List ℕ → Counters → Name → List Condition
 openOthers run c e =
-    gives (not (nameForm e)) torn
-    ∷ gives (tooLong e) longName
-    ∷ gives (rootShut run c) looseEnd
-    ∷ gives (leb maxDepth (depthOf run)) tooDeep
-    ∷ gives (leb maxOpens (c .opens)) full
-    ∷ []
+    nameConditions e
+    ++ (gives (rootShut run c) looseEnd ∷ gives (leb maxDepth (depthOf run)) tooDeep ∷ gives (leb maxOpens (c .opens)) full ∷ [])
 
 abbrev pub closeOthers : List ℕ → Name → List Condition
 closeOthers run e =
-    gives (not (nameForm e)) torn
-    ∷ gives (tooLong e) longName
-    ∷ gives (eqb (depthOf run) 0) looseEnd
-    ∷ gives (not (sameName (storedName run (depthOf run)) e)) crossed
-    ∷ []
+    nameConditions e ++ (gives (eqb (depthOf run) 0) looseEnd ∷ gives (not (sameName (storedName run (depthOf run)) e)) crossed ∷ [])
 
 abbrev pub openConditions : List ℕ → List ℕ → Counters → Name → List Condition
-openConditions a run c e = gives (tooShort a run) shortBuffer ∷ gives (not (shaped a run c)) strangeShape ∷ openOthers run c e
+openConditions a run c e = lentConditions a run c ++ openOthers run c e
 
 abbrev pub closeConditions : List ℕ → List ℕ → Counters → Name → List Condition
-closeConditions a run c e = gives (tooShort a run) shortBuffer ∷ gives (not (shaped a run c)) strangeShape ∷ closeOthers run e
+closeConditions a run c e = lentConditions a run c ++ closeOthers run e
 
 unfoldable pub startRefusal : List ℕ → List ℕ → ℕ
 startRefusal a run = given (startConditions a run)

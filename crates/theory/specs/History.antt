@@ -35,9 +35,13 @@ unclosed taken (closeCall l e ∷ earlier) = unclosed (suc taken) earlier
 unclosed zero (openCall l e ∷ earlier) = e ∷ unclosed zero earlier
 unclosed (suc taken) (openCall l e ∷ earlier) = unclosed taken earlier
 
--- the names opened and not yet closed, in order
+-- the same in order, outermost first
+abbrev pub namesLeft : List Call → List Name
+namesLeft earlier = reverse (unclosed 0 earlier)
+
+-- the names that a list of calls opened and did not yet close, in order
 abbrev pub stillOpen : FolderSet → List Call → List Name
-stillOpen set calls = reverse (unclosed 0 (acceptedCalls set calls))
+stillOpen set calls = namesLeft (acceptedCalls set calls)
 
 -- the path of this place fitted right after some accepted open of the list
 pub record FittedAfterOpen (set : FolderSet) (calls : List Call) (place : ℕ) : Type 0 where

@@ -4,7 +4,8 @@ pub mod Walk
 pub mod Order
 pub mod Calls
 pub mod History
+pub mod Moves
 pub mod Elements
 pub mod Folders
-pub mod Examples
+pub mod Whole
 pub mod Limits

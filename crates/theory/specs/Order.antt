@@ -2,6 +2,7 @@
 use Prim.Native.Nat.{ℕ}
 use mathlib.Core.Path.{_≡_}
 use mathlib.Core.Bool.{Bool, true, false, cond}
+use mathlib.Core.Logic.{_↔_}
 use mathlib.Core.Option.{Option, none, some}
 use mathlib.Core.List.{List, [], _∷_, _++_, List·Memᴰ}
 use Rattle.notation.specs.Refusals.{Refusal, numberOf}
@@ -36,3 +37,12 @@ isNone (some r) = false
 abbrev pub numberIn : Option Refusal → ℕ
 numberIn none = 0
 numberIn (some r) = numberOf r
+
+-- the number that an order gives: that of its first refusal whose condition holds, 0 for none
+unfoldable pub given : List Condition → ℕ
+given order = numberIn (first order)
+
+-- a number given by an order: a refusal's exactly if it is the first whose condition holds, 0 exactly if no condition holds
+pub record GivenBy (order : List Condition) (number : ℕ) : Type 0 where
+  pub refused : (r : Refusal) → (number ≡ numberOf r) ↔ FirstOf order r
+  pub accepted : (number ≡ 0) ↔ ((c : Condition) → List·Memᴰ c order → holds c ≡ false)

@@ -1,10 +1,10 @@
 -- Words over the document node and names; the keywords of a path (paper 01: The shared machine).
 use mathlib.Core.Path.{_≡_}
-use mathlib.Core.Bool.{Bool, true, false, _&&_, _||_}
+use mathlib.Core.Bool.{Bool, true, false, _&&_}
 use mathlib.Core.List.{List, [], _∷_, _++_, List·Memᴰ}
 use Rattle.notation.specs.Names.{Name}
 use Rattle.notation.specs.Sets.{child, descendant, label, star, step, Path, FolderSet}
-use Rattle.notation.specs.Form.{pathsOf}
+use Rattle.notation.specs.Form.{pathsOf, any}
 use Rattle.notation.specs.Activity.{sameName}
 
 -- the document node `#`, and names
@@ -66,10 +66,6 @@ unfoldable pub startsWith : Word → Word → Bool
 startsWith w [] = true
 startsWith [] (s ∷ v) = false
 startsWith (t ∷ w) (s ∷ v) = sameSymbol t s && startsWith w v
-
-unfoldable pub any {ℓ} : {A : Type ℓ} → (A → Bool) → List A → Bool
-any f [] = false
-any f (a ∷ l) = f a || any f l
 
 unfoldable pub begins : FolderSet → Word → Bool
 begins set word = any (λ p. any (λ k. startsWith k word) (keywords p)) (pathsOf set)

@@ -3,3 +3,4 @@ pub mod PartsBack
 pub mod ReadBack
 pub mod OneRun
 pub mod AllListed
+pub mod TagAt

@@ -4,5 +4,4 @@ pub mod OneDocument
 pub mod Passed
 pub mod Places
 pub mod Select
-pub mod SelectTable
 pub mod Steps

@@ -12,14 +12,13 @@ use Rattle.stored.specs.Automaton.{automatonSize}
 use Rattle.stored.specs.Run.{runSize}
 use Rattle.stored.specs.declared.answers.Written.{Written}
 use Rattle.filing.specs.Limits.{listingSize}
-use Rattle.filing.specs.Listing.{refusedLine}
 use Rattle.filing.specs.Filer.{tooSmall, PrintsText, Prints}
 use Rattle.filing.proofs.Laws.Listing.Printing.{some-printed}
 use Rattle.filer.specs.Shows.{sizeOf, Shows}
 
-shown : (text before after : List ℕ) (answer : Written) → PrintsText text before answer after
+on-page : (text before after : List ℕ) (answer : Written) → PrintsText text before answer after
     → (Counts (sizeOf answer) after) × (take (sizeOf answer) after ≡ text)
-shown text before after answer p =
+on-page text before after answer p =
     let within : length text ≤ length after = omega (arith, length-append text (drop (length text) before), ap length (p .leaves)) in
     rw (p .answers) ((within, sym (length-take-le (length text) after within)), ap (take (length text)) (p .leaves) ∙ take-append-seam text _)
 
@@ -28,9 +27,8 @@ module _ (set report a run page : List ℕ) (answer : Written) (a' run' page' : 
       → Shows set report (sizeOf answer) page'
   unfolding tooSmall
   shows h k l p = record {
-    counts = shown (printed .0) page page' answer (printed .1) .0;
-    refused = λ n e. shown _ page page' answer (p .refusedSet enough (λ z. absurd (omega (arith, e, z))) .0) .1 ∙ ap refusedLine e;
-    filed = λ s acc. shown _ page page' answer (p .filedSet enough s acc .0) .1;
+    counts = on-page (printed .0) page page' answer (printed .1) .0;
+    shown = λ v j. on-page _ page page' answer (p .judged enough v j .0) .1;
   }
     where
       enough : tooSmall a run page ≡ false

@@ -1,8 +1,10 @@
-pub mod FilingOrder
+pub mod FilingParts
 pub mod FilingTokens
+pub mod FilingOrder
 pub mod FilingRun
 pub mod FilingAdded
 pub mod FilingChildless
+pub mod FilingMoves
 pub mod Demand2
 pub mod Taking
 pub mod FilingStored

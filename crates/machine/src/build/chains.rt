@@ -12,7 +12,7 @@ ghost use lib.ListN.{length};
 ghost use Rattle.notation.specs.Limits.{maxLabels};
 ghost use Rattle.notation.specs.Reads.{labelCount};
 ghost use Rattle.stored.specs.Automaton.{automatonSize};
-ghost use Rattle.stored.specs.Chains.{linked, chained};
+ghost use Rattle.stored.specs.Code.Chains.{linked, chained};
 
 // Label l becomes the first of its chain.
 fn link_label(part: &mut [u8], l: usize)

@@ -3,7 +3,7 @@ ghost use mathlib.Core.Path.{_≡_};
 ghost use Prim.Native.Nat.{suc, _<_};
 ghost use Rattle.notation.specs.Limits.{maxSteps};
 ghost use Rattle.notation.specs.Reads.{labelCount};
-ghost use Rattle.stored.specs.Fails.{failTo, failedIf, failedBelow, failedTo, Growing};
+ghost use Rattle.stored.specs.Code.Fails.{failTo, failedIf, failedBelow, failedTo, Growing};
 use crate::hash::hash_of;
 use crate::layout::LINK_SIZE;
 use crate::layout::LINKS_AT;

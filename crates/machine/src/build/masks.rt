@@ -15,7 +15,7 @@ ghost use mathlib.Core.Bool.{true};
 ghost use Prim.Native.Nat.{_+_, _*_, _≤_, _<_};
 ghost use lib.ListN.{length};
 ghost use Rattle.stored.specs.Automaton.{automatonSize, maskSize, bit};
-ghost use Rattle.stored.specs.Masks.{marked, axisMask, markRole, markStep, markSteps, markPath, withMasks, childAt, rooted, anyRooted, withStart};
+ghost use Rattle.stored.specs.Code.Masks.{marked, axisMask, markRole, markStep, markSteps, markPath, withMasks, childAt, rooted, anyRooted, withStart};
 ghost use Rattle.notation.specs.Reads.{stepAt, pathCount};
 
 const STEP_BITS: usize = 8 * MASK_SIZE;

@@ -19,7 +19,7 @@ ghost use Rattle.notation.specs.Reads.{pathAt, stepCount, labelCount, labelName
 ghost use Rattle.stored.specs.Automaton.{automatonSize};
 ghost use Rattle.stored.specs.Tables.{goto};
 ghost use Rattle.stored.specs.Walkable.{Searchable};
-ghost use Rattle.stored.specs.Parents.{startsAt, entered, wordStored, labelled, passed, parented, outset, Sound};
+ghost use Rattle.stored.specs.Code.Parents.{startsAt, entered, wordStored, labelled, passed, parented, outset, Sound};
 
 // Whether path `p` begins with step `i`.
 fn starts_path(part: &[u8], p: usize, i: usize) -> bool

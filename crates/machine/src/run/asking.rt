@@ -19,15 +19,17 @@ use stored::answers::Length;
 ghost use mathlib.Core.Path.{_≡_};
 ghost use Prim.Native.Nat.{_+_, _-_, _≤_};
 ghost use Rattle.notation.specs.Names.{within};
-ghost use Rattle.theory.specs.Words.{any};
+ghost use Rattle.notation.specs.Answers.{said};
 ghost use Rattle.theory.specs.Folders.{countFrom};
 ghost use Rattle.notation.specs.Reads.{pathAt, folderAt};
+ghost use Rattle.notation.specs.Form.{any};
+ghost use Rattle.stored.specs.Answers.{askedSays, lengthSays};
 ghost use Rattle.stored.specs.Openable.{Ready};
 ghost use Rattle.stored.specs.RunCalls.{depthOf, activeAt};
-ghost use Rattle.stored.specs.Asking.{answered, hasPath, placeMatched, pathsOfFolder, askRefusal, askPath, askFolder, askStep, askPrefix, askName, nameRefusal};
+ghost use Rattle.stored.specs.Asking.{hasPath, placeMatched, pathsOfFolder, askRefusal, askPath, askFolder, askStep, askPrefix, askName, nameRefusal};
 
 fn answer(refused: u8, yes: bool) -> Asked
-    ensures { λ r. ⌜ r ≡ answered refused yes ⌝ }
+    ensures { λ r. ⌜ askedSays r ≡ said refused yes ⌝ }
 {
     if refused != 0 {
         return Asked::Refused(refused);
@@ -69,7 +71,7 @@ fn has_path(a: &[u8], place: PathPlace) -> bool
 
 // Is a path matched?
 pub fn path_matched(a: &[u8], run: &[u8], place: PathPlace) -> Asked
-    ensures { λ r. ⌜ r ≡ askPath (now (a .entry)) (now (run .entry)) place ⌝ }
+    ensures { λ r. ⌜ askedSays r ≡ askPath (now (a .entry)) (now (run .entry)) place ⌝ }
 {
     let refused = refusals::ask_refusal(a, run, has_path(a, place));
     answer(refused, place_matched(a, run, place.0))
@@ -106,7 +108,7 @@ pub fn folder_paths_matched(a: &[u8], run: &[u8], i: usize) -> bool
 
 // Is a folder, by its number, matched?
 pub fn folder_matched(a: &[u8], run: &[u8], number: FolderNumber) -> Asked
-    ensures { λ r. ⌜ r ≡ askFolder (now (a .entry)) (now (run .entry)) number ⌝ }
+    ensures { λ r. ⌜ askedSays r ≡ askFolder (now (a .entry)) (now (run .entry)) number ⌝ }
 {
     match reads::folder_of(a, number) {
         FolderIndex::At(i) => answer(
@@ -128,7 +130,7 @@ fn bit_active(a: &[u8], run: &[u8], first: usize, s: usize) -> bool
 
 fn ask_step(a: &[u8], run: &[u8], first: usize, steps: usize, s: usize) -> Asked
     requires { ⌜ (first ≤ 65536) × (steps ≤ 65536) ⌝ }
-    ensures { λ r. ⌜ r ≡ answered (askRefusal (now (a .entry)) (now (run .entry)) (within 1 steps s)) (activeAt (now (run .entry)) (depthOf (now (run .entry))) (first + s - 1)) ⌝ }
+    ensures { λ r. ⌜ askedSays r ≡ said (askRefusal (now (a .entry)) (now (run .entry)) (within 1 steps s)) (activeAt (now (run .entry)) (depthOf (now (run .entry))) (first + s - 1)) ⌝ }
 {
     let refused = refusals::ask_refusal(a, run, between(1, steps, s));
     if refused != 0 {
@@ -139,7 +141,7 @@ fn ask_step(a: &[u8], run: &[u8], first: usize, steps: usize, s: usize) -> Asked
 
 // Is step s, from 1, of a path active on the innermost element?
 pub fn step_active(a: &[u8], run: &[u8], place: PathPlace, s: usize) -> Asked
-    ensures { λ r. ⌜ r ≡ askStep (now (a .entry)) (now (run .entry)) place s ⌝ }
+    ensures { λ r. ⌜ askedSays r ≡ askStep (now (a .entry)) (now (run .entry)) place s ⌝ }
 {
     match reads::path_at(a, place) {
         PathAt::Path {
@@ -154,7 +156,7 @@ pub fn step_active(a: &[u8], run: &[u8], place: PathPlace, s: usize) -> Asked
 
 // The length of the current prefix (paper 01: the held word).
 pub fn prefix_length(a: &[u8], run: &[u8]) -> Length
-    ensures { λ r. ⌜ r ≡ askPrefix (now (a .entry)) (now (run .entry)) ⌝ }
+    ensures { λ r. ⌜ lengthSays r ≡ askPrefix (now (a .entry)) (now (run .entry)) ⌝ }
 {
     let refused = refusals::ask_refusal(a, run, true);
     if refused != 0 {

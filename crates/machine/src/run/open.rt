@@ -24,7 +24,7 @@ ghost use Rattle.stored.specs.RunContracts.{Opens, OpensBy};
 ghost use Rattle.stored.specs.Openable.{Openable, Ready, Usable};
 ghost use Rattle.stored.specs.Run.{runSize};
 ghost use Rattle.stored.specs.RunCalls.{depthOf, usedBits, nowActive, nowSeen, nowMatched, openRun, openWalk};
-ghost use Rattle.stored.specs.OpenSteps.{storedBits, nameStored};
+ghost use Rattle.stored.specs.Code.OpenSteps.{storedBits, nameStored};
 
 // The bits of the new element, in its row and in the matches. `h` is the hash of its name, and d the depth before.
 fn mark(a: &[u8], run: &mut [u8], e: &[u8], h: usize, d: usize)

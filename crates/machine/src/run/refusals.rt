@@ -13,7 +13,8 @@ ghost use mathlib.Core.Path.{_≡_};
 ghost use mathlib.Core.Bool.{_&&_};
 ghost use Prim.Native.Nat.{_≤_};
 ghost use Rattle.stored.specs.Shape.{automatonShaped};
-ghost use Rattle.stored.specs.RunCalls.{depthOf, storedName, runShaped, shaped, rootShut, given, lentConditions, nameConditions, openOthers, closeOthers};
+ghost use Rattle.theory.specs.Order.{given};
+ghost use Rattle.stored.specs.RunCalls.{depthOf, storedName, runShaped, shaped, rootShut, lentConditions, nameConditions, openOthers, closeOthers};
 ghost use Rattle.stored.specs.Asking.{askRefusal};
 ghost use Rattle.stored.specs.Openable.{Ready};
 

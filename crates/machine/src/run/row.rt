@@ -18,7 +18,7 @@ ghost use Rattle.notation.specs.Reads.{stepCount};
 ghost use Rattle.stored.specs.Automaton.{maskSize};
 ghost use Rattle.stored.specs.Run.{activeIn, seenIn, rowSize};
 ghost use Rattle.stored.specs.RunCalls.{usedBytes, rowCleared};
-ghost use Rattle.stored.specs.OpenSteps.{rowNamed};
+ghost use Rattle.stored.specs.Code.OpenSteps.{rowNamed};
 
 // Bytes of a row of bits that the automaton's steps use.
 pub fn used_bytes(a: &[u8]) -> usize

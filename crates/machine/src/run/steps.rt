@@ -18,7 +18,7 @@ ghost use Rattle.stored.specs.Automaton.{maskSize, automatonSize};
 ghost use Rattle.stored.specs.Bits.{bitOf, bitIn, bitAt};
 ghost use Rattle.stored.specs.Run.{runSize, rowAt, activeIn, seenIn, matchesAt};
 ghost use Rattle.stored.specs.RunCalls.{maskBit, shifted, permitted, seenAt, matchedAt};
-ghost use Rattle.stored.specs.OpenSteps.{byteMarked, bitsMarked};
+ghost use Rattle.stored.specs.Code.OpenSteps.{byteMarked, bitsMarked};
 
 fn narrow(b: usize) -> u8
     requires { ⌜ b < 256 ⌝ }

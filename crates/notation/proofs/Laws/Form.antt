@@ -8,4 +8,3 @@ pub mod Number
 pub mod SameStep
 pub mod SamePath
 pub mod SameSet
-pub mod OneSet

@@ -1,8 +1,10 @@
-pub mod Verdict
+pub mod Numbers
 pub mod Within
 pub mod WithinLimits
 pub mod Fitting
 pub mod Refusals
 pub mod AcceptedSet
+pub mod Judging
+pub mod Answers
 pub mod ReadAnswer
 pub mod WriteBack

@@ -10,8 +10,8 @@ ghost use mathlib.Core.Bool.{cond};
 ghost use Prim.Native.Nat.{_<_};
 ghost use lib.Dec.{eqb};
 ghost use Rattle.notation.specs.Names.{inName};
-ghost use Rattle.notation.specs.Scan.{orElse, folderRead, pathBegun, deepened, labelBegun, labelRead, starRead, stepRead, pathRead, counted};
-ghost use Rattle.notation.specs.Safe.{Small};
+ghost use Rattle.notation.specs.Code.Scan.{orElse, folderRead, pathBegun, deepened, labelBegun, labelRead, starRead, stepRead, pathRead, counted};
+ghost use Rattle.notation.specs.Code.Safe.{Small};
 
 // The first of two faults; 0 is none.
 fn or_else(a: u8, b: u8) -> u8

@@ -7,8 +7,8 @@ ghost use Prim.Native.Nat.{_+_, _≤_};
 ghost use lib.Dec.{eqb};
 ghost use Rattle.notation.specs.Names.{inName};
 ghost use Rattle.notation.specs.Print.{header, folderWord};
-ghost use Rattle.notation.specs.Scan.{next, testStart, testEnd, inWord, inNumber, lineStart, numberStart, pathEnd};
-ghost use Rattle.notation.specs.Safe.{SmallMode};
+ghost use Rattle.notation.specs.Code.Scan.{next, testStart, testEnd, inWord, inNumber, lineStart, numberStart, pathEnd};
+ghost use Rattle.notation.specs.Code.Safe.{SmallMode};
 ghost use Rattle.notation.specs.declared.scan.Mode.the-variants.{Header, Word, LineStart, NumberStart, Slashes, Label, Bent};
 
 // "(folders" and the line end; "(folder ".

@@ -8,7 +8,7 @@ pub mod Folders
 pub mod Answers
 pub mod Childless
 pub mod Moves
+pub mod MovesTold
 pub mod Adding
 pub mod Alike
-pub mod Examples
 pub mod Whole

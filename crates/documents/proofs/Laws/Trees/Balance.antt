@@ -12,7 +12,8 @@ use Rattle.notation.specs.Activity.{sameName}
 use Rattle.notation.proofs.Laws.Meaning.Fit.{sameName-is}
 use Rattle.documents.specs.Tree.{Node, element, text, comment, Nodes, none, _then_}
 use Rattle.documents.specs.Tokens.{Token, blank}
-use Rattle.documents.specs.Document.{Event, opening, closing, textHere, commentHere, eventsOf, eventsAt, eventsIn, elementsAmong, blankAmong, TreeOf, balanced}
+use Rattle.documents.specs.Document.{Event, opening, closing, textHere, commentHere, eventsOf, eventsAt, eventsIn, elementsAmong, blankAmong, TreeOf}
+use Rattle.documents.specs.Code.Events.{balanced}
 use Rattle.documents.proofs.Laws.Read.Bytes.{left, right, join}
 
 -- the events of siblings inside an element leave the balance as it is

@@ -8,7 +8,8 @@ use Rattle.notation.specs.Sets.{Path}
 use Rattle.notation.specs.Fit.{Fits}
 use Rattle.documents.specs.Tree.{Place, kindAt}
 use Rattle.documents.specs.XPath.{IsElement, selected}
-use Rattle.documents.specs.Document.{documentOf, Report, documentIn, passedIn}
+use Rattle.documents.specs.Document.{documentOf, Report, documentIn}
+use Rattle.documents.specs.Code.Events.{passedIn}
 use Rattle.documents.proofs.Laws.Printed.OneRun.{one-run}
 use Rattle.documents.proofs.Laws.Trees.Balance.{one-tree}
 use Rattle.documents.proofs.Laws.Trees.Passed.{selects-passed}

@@ -9,7 +9,8 @@ use Rattle.documents.specs.Tree.{Node, element, text, comment, Nodes, no
 use Rattle.documents.specs.XPath.{IsElement, selected}
 use Rattle.documents.specs.Tokens.{Token}
 use Rattle.documents.specs.NameList.{namesTo, listsOf, listsIn, nameLists}
-use Rattle.documents.specs.Document.{Event, closing, eventsOf, eventsAt, eventsIn, TreeOf, keep, documentOf, passed}
+use Rattle.documents.specs.Document.{Event, closing, eventsOf, eventsAt, eventsIn, TreeOf, keep, documentOf}
+use Rattle.documents.specs.Code.Events.{passed}
 use Rattle.documents.proofs.Laws.Trees.Select.{selects-some}
 use Rattle.documents.proofs.Laws.Trees.Listed.{listed-is}
 

@@ -68,15 +68,15 @@ module _ (d : Document) where
   descendant-from (i ∷ y) zero h l = aChild (i, refl, h)
   descendant-from (i ∷ y) (suc k) h l = aChildOf (descendant-from y k (parent-node y i h) (omega arith)) (i, refl, h)
 
+  pub self-or-above-from : (y : Place) (k : ℕ) → isNode (kindAt d y) ≡ true → k ≤ length y → OnAxis d descendant-or-self (drop k y) y
+  self-or-above-from y zero h l = inl refl
+  self-or-above-from y (suc k) h l = inr (descendant-from y k h l)
+
   pub self-or-above-to : (x y : Place) → OnAxis d descendant-or-self x y → (k : ℕ) × (k ≤ length y) × (x ≡ drop k y)
   self-or-above-to x y (inl e) = (0, omega arith, sym e)
   self-or-above-to x y (inr h) =
       let (k, l, e) = descendant-to x y h in
       (suc k, l, e)
-
-  pub self-or-above-from : (y : Place) (k : ℕ) → isNode (kindAt d y) ≡ true → k ≤ length y → OnAxis d descendant-or-self (drop k y) y
-  self-or-above-from y zero h l = inl refl
-  self-or-above-from y (suc k) h l = inr (descendant-from y k h l)
 
   -- the name list has a name for each element down to the node
   pub names-length : (x : Place) → length (namesTo d x) ≡ length x

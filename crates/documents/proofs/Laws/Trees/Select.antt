@@ -11,7 +11,7 @@ use Rattle.notation.specs.Names.{Name}
 use Rattle.notation.specs.Sets.{Test, label, star, Step, step, Path, axisOf, testOf, child as slash, descendant as doubleSlash}
 use Rattle.notation.specs.Fit.{Takes, stepAt, Fits}
 use Rattle.documents.specs.Tree.{Document, Place, Kind, elementNode, kindAt, isNode}
-use Rattle.documents.specs.XPath.{LocationPath, start, IsElement, Passes, nodeTest, selects, withStep, spelled, selected}
+use Rattle.documents.specs.XPath.{Child, LocationPath, start, IsElement, Passes, nodeTest, selects, withStep, spelled, selected}
 use Rattle.documents.specs.NameList.{namesTo}
 use Rattle.documents.proofs.Laws.Trees.Places.{no-element, parent-node, above-or-self, self-or-above-to, self-or-above-from, names-length, names-at}
 use Rattle.documents.proofs.Laws.Read.Chain.{Link, Chain, nothing-yet, one-more, one-less, fits-chain, chain-fits}
@@ -19,7 +19,9 @@ use Rattle.documents.proofs.Laws.Read.Chain.{Link, Chain, nothing-yet, 
 -- a node passes a step's test exactly when it is an element whose name the test takes
 passes-to : (t : Test) (k : Kind) → Passes (nodeTest t) k → (n : Name) × (k ≡ elementNode n) × Takes t n
 passes-to (label l) k e = (l, e, refl)
-passes-to star k e = (e .0, e .1, tt)
+passes-to star k e =
+    let is : IsElement k = e in
+    (is .0, is .1, tt)
 
 passes-from : (t : Test) (k : Kind) (n : Name) → k ≡ elementNode n → Takes t n → Passes (nodeTest t) k
 passes-from (label l) k n e h = cc
@@ -60,7 +62,10 @@ module _ (d : Document) where
   step-to before (step slash t) z (y, sel, ((i, e, there), pass)) =
       let (n, kind, takes) = passes-to t (kindAt d z) pass in
       (y, sel, record { k = 0; inside = rw e (omega arith); from = rw e refl; near = λ a. refl; name = n; kind = kind; takes = takes })
-  step-to before (step doubleSlash t) z (x, (y, sel, (axis, any)), ((i, e, there), pass)) =
+  step-to before (step doubleSlash t) z (x, above, (reached, pass)) =
+      let below : Child d x z = reached in
+      let (i, e, there) = below in
+      let (y, sel, (axis, any)) = above in
       let (n, kind, takes) = passes-to t (kindAt d z) pass in
       let (k, l, up) = self-or-above-to d y x axis in (
         y,

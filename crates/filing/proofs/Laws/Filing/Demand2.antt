@@ -8,11 +8,10 @@ use lib.Dec.{eqb}
 use lib.ListN.{length}
 use native.Mathlib.Omega.{arith}
 use Rattle.notation.specs.Names.{Name}
-use Rattle.notation.specs.Form.{nonEmpty}
+use Rattle.notation.specs.Form.{nonEmpty, any}
 use Rattle.notation.specs.Sets.{FolderSet}
 use Rattle.notation.specs.Activity.{fits}
 use Rattle.notation.proofs.Laws.Meaning.Fit.{fits-is}
-use Rattle.theory.specs.Words.{any}
 use Rattle.theory.specs.Calls.{Call, Level, State, openNames, pathAt, fresh, run}
 use Rattle.theory.specs.Folders.{folderMatched}
 use Rattle.theory.specs.Elements.{elementsOf, childlessDepths}
@@ -21,7 +20,8 @@ use Rattle.theory.proofs.Laws.Basics.{any-is, is-any}
 use Rattle.theory.proofs.Laws.Machine.Folders.{folder-matched}
 use Rattle.theory.proofs.Laws.Machine.Sound.{Sound, sound}
 use Rattle.theory.proofs.Laws.Machine.Whole.{whole}
-use Rattle.documents.specs.Document.{Event, eventsOf, TreeOf, passed, Report, documentIn, passedIn}
+use Rattle.documents.specs.Document.{Event, eventsOf, TreeOf, Report, documentIn}
+use Rattle.documents.specs.Code.Events.{passed, passedIn}
 use Rattle.documents.specs.NameList.{nameLists}
 use Rattle.filing.specs.Filing.{filed, fileEvents, callsIn, allAccepted, FiledWith}
 use Rattle.filing.specs.Demand2.{countIn, childlessIn, SelectsElement, FolderSelects, OfDocument, Demand2}

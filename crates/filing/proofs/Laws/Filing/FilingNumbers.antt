@@ -7,20 +7,15 @@ use mathlib.Core.List.{List, [], _∷_, List·Memᴰ}
 use lib.Dec.{eqb}
 use borrow.Author.Tests.{eqb-true}
 use Rattle.notation.specs.Names.{Name}
-use Rattle.notation.specs.Form.{every}
-use Rattle.notation.specs.Sets.{FolderSet}
+use Rattle.notation.specs.Form.{every, any}
 use Rattle.notation.specs.Refusals.{Refusal, numberOf}
-use Rattle.theory.specs.Words.{any}
 use Rattle.theory.specs.Order.{Condition, gives, holds, refusalOf, FirstOf, first}
 use Rattle.theory.specs.Calls.{State, opensSpent, openOrder, closeOrder}
 use Rattle.theory.proofs.Laws.Basics.{any-is, both}
 use Rattle.theory.proofs.Laws.Machine.Order.{first-is}
 use Rattle.documents.specs.Tokens.{Token, declaration, comment, startTag, emptyTag, endTag, text}
-use Rattle.documents.specs.Document.{eventsOfToken}
-use Rattle.filing.specs.Filing.{refused, fileEvents}
+use Rattle.filing.specs.Filing.{Stops}
 use Rattle.filing.specs.FiledReport.{reportNumbers}
-use Rattle.filing.proofs.Laws.Filing.FilingOrder.{clash}
-use Rattle.filing.proofs.Laws.Filing.FilingTokens.{start-refused, end-refused, empty-refused, text-refused}
 
 abbrev pub among : ℕ → Bool
 among n = any (λ k. eqb k n) reportNumbers
@@ -50,11 +45,11 @@ close-among : (m : State) (n : Name) (r : Refusal) → FirstOf (closeOrder m n) 
 unfolding every any
 close-among m n r f = first-among (closeOrder m n) r refl (first-is (closeOrder m n) r .1 f)
 
-pub token-among : (set : FolderSet) (t : Token) (m : State) (r : Refusal) → opensSpent m ≡ false → fileEvents set m (eventsOfToken t) ≡ refused r → among (numberOf r) ≡ true
-unfolding fileEvents any
-token-among set declaration m r left h = clash (cc)
-token-among set (comment c) m r left h = clash (cc)
-token-among set (startTag n l s) m r left h = open-among m n r left (start-refused set m n l s r .0 h)
-token-among set (emptyTag n l s) m r left h = open-among m n r left (empty-refused set m n l s r .0 h)
-token-among set (endTag n s) m r left h = close-among m n r (end-refused set m n s r .0 h)
-token-among set (text ps) m r left h = ap (λ (x : Refusal). among (numberOf x)) (text-refused set m ps r .0 h .0)
+pub token-among : (t : Token) (m : State) (r : Refusal) → opensSpent m ≡ false → Stops m t r → among (numberOf r) ≡ true
+unfolding any
+token-among declaration m r left h = absurd h
+token-among (comment c) m r left h = absurd h
+token-among (startTag n l s) m r left h = open-among m n r left h
+token-among (emptyTag n l s) m r left h = open-among m n r left h
+token-among (endTag n s) m r left h = close-among m n r h
+token-among (text ps) m r left h = ap (λ (x : Refusal). among (numberOf x)) (h .0)

@@ -10,12 +10,13 @@ use native.Mathlib.Omega.{arith}
 use Rattle.notation.specs.Names.{Name}
 use Rattle.notation.specs.Sets.{FolderSet}
 use Rattle.notation.specs.Refusals.{Refusal, full, numberOf}
+use Rattle.notation.specs.Form.{any}
 use Rattle.theory.specs.Limits.{maxOpens}
-use Rattle.theory.specs.Words.{any}
 use Rattle.theory.specs.Calls.{State, openNames, opensSpent, fresh}
 use Rattle.theory.proofs.Laws.Basics.{clash}
 use Rattle.documents.specs.Tokens.{Token, declaration, comment, startTag, emptyTag, endTag, text, printAttributes, printToken, printTokens, RunOfTokens}
-use Rattle.documents.specs.Document.{eventsOf, passed}
+use Rattle.documents.specs.Document.{eventsOf}
+use Rattle.documents.specs.Code.Events.{passed}
 use Rattle.filing.specs.Limits.{maxReportBytes}
 use Rattle.filing.specs.Filing.{Filed, refused, filed, numberGiven, fileTokens, fileReport, Refused, tooMany, notListed, noRun, atToken, atEnd}
 use Rattle.filing.specs.FiledReport.{reportNumbers}
@@ -69,7 +70,7 @@ module _ (set : FolderSet) (bytes : List ℕ) where
   refused-among r (notListed e h l) = ap (λ (x : Refusal). among (numberOf x)) e
   refused-among r (noRun e h l n) = ap (λ (x : Refusal). among (numberOf x)) e
   refused-among r (atToken h l run stop) =
-      token-among set (stop .token) (stop .state) r (opens-left h run (stop .before) (stop .token ∷ stop .later) (stop .state) (stop .joined) (stop .taken)) (stop .stops)
+      token-among (stop .token) (stop .state) r (opens-left h run (stop .before) (stop .token ∷ stop .later) (stop .state) (stop .joined) (stop .taken)) (stop .stops)
   refused-among r (atEnd e h l run m taken u) = ap (λ (x : Refusal). among (numberOf x)) e
 
   pub never-full : Refused set bytes full → ⊥

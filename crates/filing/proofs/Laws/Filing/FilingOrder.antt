@@ -7,7 +7,6 @@ use mathlib.Core.List.{List, [], _∷_, _++_}
 use lib.Dec.{ltb}
 use lib.ListN.{length}
 use borrow.Author.Tests.{ltb-true, ltb-false, lt-ltb, le-ltb}
-use native.Mathlib.Omega.{arith}
 use Rattle.notation.specs.Form.{every}
 use Rattle.notation.specs.Sets.{FolderSet}
 use Rattle.notation.specs.Refusals.{Refusal, oversize, foreignByte, torn, looseEnd}
@@ -18,24 +17,13 @@ use Rattle.documents.specs.Tokens.{Token, listed, RunOfTokens}
 use Rattle.documents.specs.Reading.{Read, fail, got, readReport}
 use Rattle.documents.specs.Document.{eventsOfToken}
 use Rattle.filing.specs.Filing.{Filed, refused, filed, thenFile, fileEvents, fileTokens, unfinished, fileEnd, fileRun, fileReport, StopsAt, Refused, tooMany, notListed, noRun, atToken, atEnd, FiledWith}
+use Rattle.filing.proofs.Laws.Filing.FilingParts.{clash, first-refused, both-filed}
+use Rattle.filing.proofs.Laws.Filing.FilingTokens.{token-stops}
 use Rattle.documents.proofs.Laws.Read.ReadSound.{found-run, run-found, none-found}
 use Rattle.documents.proofs.Laws.Printed.AllListed.{run-listed}
 
-pub clash : {A : Type 0} → _≡_ {A = ℕ} 0 1 → A
-clash z = absurd (omega arith)
-
--- what a result of two parts comes from
-pub first-refused : (f : Filed) (k : State → Filed) (r : Refusal) (X : Type 0) → thenFile f k ≡ refused r
-    → (f ≡ refused r → X) → ((m : State) → f ≡ filed m → k m ≡ refused r → X) → X
-first-refused (refused q) k r X e x y = x e
-first-refused (filed m) k r X e x y = y m refl e
-
-pub both-filed : (f : Filed) (k : State → Filed) (n : State) → thenFile f k ≡ filed n → (m : State) × (f ≡ filed m) × (k m ≡ filed n)
-both-filed (refused q) k n e = clash (cc)
-both-filed (filed m) k n e = (m, refl, e)
-
 -- the first token that is refused, from any state
-record Stops (set : FolderSet) (s : State) (ts : List Token) (r : Refusal) : Type 0 where
+record StopsFrom (set : FolderSet) (s : State) (ts : List Token) (r : Refusal) : Type 0 where
   pub before : List Token
   pub token : Token
   pub later : List Token
@@ -44,11 +32,11 @@ record Stops (set : FolderSet) (s : State) (ts : List Token) (r : Refusal) : Typ
   pub taken : fileTokens set s before ≡ filed state
   pub stops : fileEvents set state (eventsOfToken token) ≡ refused r
 
-find-stop : (set : FolderSet) (ts : List Token) (s : State) (r : Refusal) → fileTokens set s ts ≡ refused r → Stops set s ts r
+find-stop : (set : FolderSet) (ts : List Token) (s : State) (r : Refusal) → fileTokens set s ts ≡ refused r → StopsFrom set s ts r
 unfolding fileTokens
 find-stop set [] s r e = clash (cc)
 find-stop set (t ∷ ts) s r e =
-    first-refused (fileEvents set s (eventsOfToken t)) (λ m. fileTokens set m ts) r (Stops set s (t ∷ ts) r) e
+    first-refused (fileEvents set s (eventsOfToken t)) (λ m. fileTokens set m ts) r (StopsFrom set s (t ∷ ts) r) e
     (λ h. record { before = []; token = t; later = ts; joined = refl; state = s; taken = refl; stops = h })
     (λ m h k.
     let f = find-stop set ts m r k in
@@ -77,8 +65,8 @@ pub stops-is : (set : FolderSet) (ts : List Token) (r : Refusal) → (fileTokens
 stops-is set ts r = (
   λ h.
       let f = find-stop set ts (fresh set) r h in
-      record { before = f .before; token = f .token; later = f .later; joined = f .joined; state = f .state; taken = f .taken; stops = f .stops },
-  λ f. ap (fileTokens set (fresh set)) (sym (f .joined)) ∙ stopped set (f .before) (f .token) (f .later) (fresh set) (f .state) r (f .taken) (f .stops),
+      record { before = f .before; token = f .token; later = f .later; joined = f .joined; state = f .state; taken = f .taken; stops = token-stops set (f .token) (f .state) r .0 (f .stops) },
+  λ f. ap (fileTokens set (fresh set)) (sym (f .joined)) ∙ stopped set (f .before) (f .token) (f .later) (fresh set) (f .state) r (f .taken) (token-stops set (f .token) (f .state) r .1 (f .stops)),
 )
 
 -- the end

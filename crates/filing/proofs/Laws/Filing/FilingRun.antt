@@ -9,22 +9,22 @@ use lib.ListN.{length}
 use borrow.Author.Tests.{lt-ltb, eqb-false, not-false}
 use native.Mathlib.Omega.{arith}
 use Rattle.notation.specs.Names.{Name}
-use Rattle.notation.specs.Form.{every, nonEmpty}
+use Rattle.notation.specs.Form.{every, nonEmpty, any}
 use Rattle.notation.specs.Sets.{FolderSet}
 use Rattle.notation.specs.Refusals.{Refusal, looseEnd}
 use Rattle.notation.specs.Activity.{fits}
 use Rattle.notation.proofs.Laws.Meaning.Fit.{sameName-is}
-use Rattle.theory.specs.Words.{any}
 use Rattle.theory.specs.Calls.{asLeft, openCall, closeCall, Level, level, nameOf, State, openNames, pathAt, fresh, opened, closedFrom, refusal, accepted, step, after}
 use Rattle.theory.proofs.Laws.Machine.Calls.{open-accepted, Closable, close-accepted}
 use Rattle.theory.proofs.Laws.Machine.Steps.{open-accepted-is, close-accepted-is, step-accepted, step-open-names, step-close-names}
 use Rattle.theory.proofs.Laws.Machine.Sound.{Sound, fresh-sound, open-sound, close-sound}
 use Rattle.documents.specs.Tokens.{Token, blank}
-use Rattle.documents.specs.Document.{Event, opening, closing, textHere, commentHere, eventsOfToken, eventsOf, balanced, passed}
+use Rattle.documents.specs.Document.{Event, opening, closing, textHere, commentHere, eventsOfToken, eventsOf}
+use Rattle.documents.specs.Code.Events.{balanced, passed}
 use Rattle.filing.specs.Filing.{Filed, refused, filed, thenFile, unless, fileCall, looseText, fileEvent, fileEvents, fileTokens, callsIn, allAccepted, unfinished}
 use Rattle.documents.proofs.Laws.Read.Bytes.{join, neither}
 use Rattle.documents.proofs.Laws.Trees.Passed.{last-off}
-use Rattle.filing.proofs.Laws.Filing.FilingOrder.{clash, both-filed}
+use Rattle.filing.proofs.Laws.Filing.FilingParts.{clash, both-filed}
 
 then-more : (f : Filed) (k k₂ g : State → Filed) → ((m : State) → k m ≡ thenFile (k₂ m) g) → thenFile f k ≡ thenFile (thenFile f k₂) g
 then-more (refused r) k k₂ g h = refl

@@ -13,14 +13,15 @@ use Rattle.notation.specs.Form.{every, nonEmpty}
 use Rattle.notation.specs.Sets.{FolderSet}
 use Rattle.notation.specs.Refusals.{Refusal, looseEnd, numberOf}
 use Rattle.theory.specs.Order.{numberIn}
-use Rattle.theory.specs.Calls.{asLeft, openCall, closeCall, Level, State, fresh, refusal, step, after}
+use Rattle.theory.specs.Calls.{asLeft, openCall, closeCall, Level, State, fresh, refusal, step}
 use Rattle.stored.specs.Run.{runSize}
 use Rattle.stored.specs.RunCalls.{openRefusal, openRun, openCounters, closeRefusal, closeRun, closeCounters}
-use Rattle.stored.specs.Demand3.{openAsLeft, closeAsLeft, Left, started, leftAfter}
+use Rattle.stored.specs.Demand3.{Left, started}
 use Rattle.theory.proofs.Laws.Basics.{cases}
 use Rattle.theory.proofs.Laws.Machine.Moves.{Few, fresh-few}
 use Rattle.stored.proofs.Laws.Running.Means.{Means}
-use Rattle.stored.proofs.Laws.Running.Following.{leftOf, few-after, number-none, one-leaves, left-by}
+use Rattle.theory.proofs.Laws.Machine.Order.{number-none}
+use Rattle.stored.proofs.Laws.Running.Following.{leftOf, few-after, one-leaves, start-left}
 use Rattle.stored.proofs.Laws.Shapes.Passing.{stored-depth, open-refused, close-refused}
 use Rattle.filing.specs.Limits.{maxReportBytes}
 use Rattle.documents.specs.Tokens.{Token, listed}
@@ -28,7 +29,7 @@ use Rattle.documents.specs.Reading.{Read, fail, got, readReport}
 use Rattle.documents.specs.Document.{Event, opening, closing, textHere, commentHere, eventsOfToken, eventsOf}
 use Rattle.filing.specs.Filing.{Filed, refused, filed, thenFile, unless, looseText, fileEvent, fileEvents, fileTokens, callsIn, unfinished, fileEnd, fileRun, fileReport}
 use Rattle.filing.specs.FileCall.{Outcome, refusedWith, leaving, thenGo, outcome, eventOutcome, eventsOutcome, tokensOutcome, endOutcome, runOutcome, reportOutcome}
-use Rattle.filing.proofs.Laws.Filing.FilingOrder.{clash}
+use Rattle.filing.proofs.Laws.Filing.FilingParts.{clash}
 use Rattle.filing.proofs.Laws.Filing.FilingRun.{taken-after, tokens-events}
 
 -- a result of filing as it is stored; `rest` are the bytes behind the run
@@ -84,12 +85,12 @@ module _ (s : FolderSet) (a : List ℕ) (means : Means s a) (rest : List ℕ) wh
       let t = leftOf s rest st in
       call-stored s rest (refusal st (openCall asLeft n)) (openRefusal a (t .bytes) (t .counters) n)
       (record { bytes = openRun a (t .bytes) n; counters = openCounters a (t .bytes) (t .counters) n })
-      t (step s st (openCall asLeft n)) (open-refused s a means st few rest asLeft n) (one-leaves s a means rest st few (openAsLeft n))
+      t (step s st (openCall asLeft n)) (open-refused s a means st few rest asLeft n) (one-leaves s a means rest st few (openCall asLeft n))
   event-stored (closing n) st few =
       let t = leftOf s rest st in
       call-stored s rest (refusal st (closeCall asLeft n)) (closeRefusal a (t .bytes) (t .counters) n)
       (record { bytes = closeRun a (t .bytes); counters = closeCounters (t .counters) })
-      t (step s st (closeCall asLeft n)) (close-refused s a means st few rest asLeft n) (one-leaves s a means rest st few (closeAsLeft n))
+      t (step s st (closeCall asLeft n)) (close-refused s a means st few rest asLeft n) (one-leaves s a means rest st few (closeCall asLeft n))
   event-stored (textHere b) st few = rw (stored-depth s a means st few rest, none-open (st .levels)) (test-stored s rest (looseText st b) st)
   event-stored (commentHere b) st few = refl
 
@@ -121,13 +122,8 @@ module _ (s : FolderSet) (a : List ℕ) (means : Means s a) (rest : List ℕ) wh
   unfolding reportOutcome fileReport
   fresh-stored bytes = cases (ltb maxReportBytes (length bytes)) (λ t. rw t) (λ t. cases (every listed bytes) (λ l. rw (t, l) (run-stored (readReport bytes))) (λ l. rw (t, l)))
 
--- what a start leaves is the fresh run
-pub start-stored : (s : FolderSet) (a : List ℕ) → Means s a → (buffer : List ℕ) → started a buffer ≡ leftOf s (drop runSize buffer) (fresh s)
-unfolding leftAfter after
-start-stored s a means buffer = left-by s a means buffer []
-
 -- a report from a fresh run on
 pub report-stored : (s : FolderSet) (a : List ℕ) → Means s a → (buffer bytes : List ℕ)
     → reportOutcome a (started a buffer) bytes ≡ storedOf s (drop runSize buffer) (fileReport s bytes)
 report-stored s a means buffer bytes =
-    ap (λ (t : Left). reportOutcome a t bytes) (start-stored s a means buffer) ∙ fresh-stored s a means (drop runSize buffer) bytes
+    ap (λ (t : Left). reportOutcome a t bytes) (start-left s a means buffer) ∙ fresh-stored s a means (drop runSize buffer) bytes

@@ -14,17 +14,17 @@ use Rattle.theory.specs.Order.{FirstOf, first}
 use Rattle.theory.specs.Calls.{asLeft, Call, openCall, closeCall, State, openOrder, closeOrder, opened, refusal, accepted, step}
 use Rattle.theory.proofs.Laws.Machine.Calls.{open-accepted}
 use Rattle.theory.proofs.Laws.Machine.Steps.{refusal-is, open-accepted-is, step-accepted}
-use Rattle.documents.specs.Tokens.{Part, Attribute, declaration, comment, startTag, emptyTag, endTag, text, printParts}
+use Rattle.documents.specs.Tokens.{Token, Part, Attribute, declaration, comment, startTag, emptyTag, endTag, text, printParts}
 use Rattle.documents.specs.Document.{eventsOfToken, closing}
-use Rattle.filing.specs.Filing.{refused, filed, thenFile, unless, fileCall, looseText, fileEvents}
-use Rattle.filing.proofs.Laws.Filing.FilingOrder.{clash, first-refused}
+use Rattle.filing.specs.Filing.{refused, filed, thenFile, unless, fileCall, looseText, fileEvents, Stops}
+use Rattle.filing.proofs.Laws.Filing.FilingParts.{clash, first-refused}
 use Rattle.filing.proofs.Laws.Filing.FilingRun.{unless-filed}
 
 call-refused : (o : Option Refusal) (s : State) (r : Refusal) → (thenFile (unless o s) (λ m. filed m) ≡ refused r) ↔ (o ≡ some r)
 call-refused none s r = (λ e. clash (cc), λ e. absurd (Option·none-ne-some r e))
 call-refused (some q) s r = (λ e. cc, λ e. cc)
 
-pub start-refused : (set : FolderSet) (m : State) (n : Name) (l : List Attribute) (s : List ℕ) (r : Refusal)
+start-refused : (set : FolderSet) (m : State) (n : Name) (l : List Attribute) (s : List ℕ) (r : Refusal)
     → (fileEvents set m (eventsOfToken (startTag n l s)) ≡ refused r) ↔ FirstOf (openOrder m n) r
 unfolding fileEvents
 start-refused set m n l s r =
@@ -32,7 +32,7 @@ start-refused set m n l s r =
     let c = call-refused (refusal m call) (step set m call) r in
     (λ h. refusal-is m call r .0 (c .0 h), λ f. c .1 (refusal-is m call r .1 f))
 
-pub end-refused : (set : FolderSet) (m : State) (n : Name) (s : List ℕ) (r : Refusal)
+end-refused : (set : FolderSet) (m : State) (n : Name) (s : List ℕ) (r : Refusal)
     → (fileEvents set m (eventsOfToken (endTag n s)) ≡ refused r) ↔ FirstOf (closeOrder m n) r
 unfolding fileEvents
 end-refused set m n s r =
@@ -47,7 +47,7 @@ closable set m n a =
     let o = open-accepted m n a in
     rw (o .form, o .short, sameName-is n n .1 refl)
 
-pub empty-refused : (set : FolderSet) (m : State) (n : Name) (l : List Attribute) (s : List ℕ) (r : Refusal)
+empty-refused : (set : FolderSet) (m : State) (n : Name) (l : List Attribute) (s : List ℕ) (r : Refusal)
     → (fileEvents set m (eventsOfToken (emptyTag n l s)) ≡ refused r) ↔ FirstOf (openOrder m n) r
 unfolding fileEvents
 empty-refused set m n l s r = (
@@ -74,15 +74,17 @@ text-cases : (b : Bool) (m : State) (r : Refusal) → (thenFile (cond b (refused
 text-cases true m r = (λ e. (cc, refl), λ h. ap refused (sym (h .0)))
 text-cases false m r = (λ e. clash (cc), λ h. clash (let z = h .1 in cc))
 
-pub text-refused : (set : FolderSet) (m : State) (ps : List Part) (r : Refusal)
+text-refused : (set : FolderSet) (m : State) (ps : List Part) (r : Refusal)
     → (fileEvents set m (eventsOfToken (text ps)) ≡ refused r) ↔ ((r ≡ looseEnd) × (looseText m (printParts ps) ≡ true))
 unfolding fileEvents
 text-refused set m ps r = text-cases (looseText m (printParts ps)) m r
 
-pub comment-taken : (set : FolderSet) (m : State) (c : List ℕ) → fileEvents set m (eventsOfToken (comment c)) ≡ filed m
+-- a token is refused exactly on what stops it
+pub token-stops : (set : FolderSet) (t : Token) (m : State) (r : Refusal) → (fileEvents set m (eventsOfToken t) ≡ refused r) ↔ Stops m t r
 unfolding fileEvents
-comment-taken set m c = refl
-
-pub declaration-taken : (set : FolderSet) (m : State) → fileEvents set m (eventsOfToken declaration) ≡ filed m
-unfolding fileEvents
-declaration-taken set m = refl
+token-stops set declaration m r = (λ e. clash (cc), λ e. absurd e)
+token-stops set (comment c) m r = (λ e. clash (cc), λ e. absurd e)
+token-stops set (startTag n l s) m r = start-refused set m n l s r
+token-stops set (emptyTag n l s) m r = empty-refused set m n l s r
+token-stops set (endTag n s) m r = end-refused set m n s r
+token-stops set (text ps) m r = text-refused set m ps r

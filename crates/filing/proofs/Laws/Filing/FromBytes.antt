@@ -1,38 +1,38 @@
 -- Demand 2 of the call itself: what it answers and leaves, and what is then asked, by the report's document.
 use Prim.Native.Nat.{ℕ, _≤_, _<_}
 use mathlib.Core.Path.{_≡_, refl, sym, ap, _∙_, subst}
-use mathlib.Core.Bool.{true, false}
+use mathlib.Core.Bool.{Bool, true, false}
 use mathlib.Core.Logic.{_↔_}
-use mathlib.Core.Option.{some}
 use mathlib.Core.List.{List, [], _∷_, _++_, List·Memᴰ}
 use lib.Dec.{eqb}
-use lib.ListN.{length, getD, drop}
-use borrow.Author.Tests.{eqb-false, eq-eqb}
+use lib.ListN.{length, drop}
+use borrow.Author.Tests.{eq-eqb}
 use Rattle.notation.specs.Sets.{Folder, FolderSet, folderNumber}
-use Rattle.notation.specs.Form.{pathsOf}
-use Rattle.notation.specs.Refusals.{Refusal, shortBuffer, oversize, bentForm, outOfTurn, longName, longPath, full, foreignByte, torn, looseEnd, tooDeep, crossed, noSuchPlace, strangeShape, numberOf}
+use Rattle.notation.specs.Form.{pathsOf, any}
+use Rattle.notation.specs.Refusals.{Refusal, numberOf}
+use Rattle.notation.specs.Answers.{Answer, value}
 use Rattle.notation.specs.Accepted.{Accepted}
+use Rattle.notation.proofs.Laws.Refused.Numbers.{one-refusal, some-number}
 use Rattle.notation.specs.declared.PathPlace.{PathPlace}
 use Rattle.notation.specs.declared.FolderNumber.{FolderNumber}
-use Rattle.theory.specs.Words.{any}
 use Rattle.theory.specs.Calls.{Call, State, pathAt, fresh, run}
 use Rattle.theory.specs.History.{FittedAfterOpen}
 use Rattle.theory.specs.Folders.{placesOf, folderMatched, HasFolders}
 use Rattle.stored.specs.Automaton.{automatonOf}
 use Rattle.stored.specs.Run.{runSize, runOf}
 use Rattle.stored.specs.RunCalls.{startRefusal, startRun, noCounters}
-use Rattle.stored.specs.Asking.{yesNo, askPath, askFolder}
+use Rattle.stored.specs.Asking.{askPath, askFolder}
 use Rattle.stored.specs.Demand3.{Left, started, Answers, HasFolder, HasMatchedPath}
 use Rattle.stored.specs.declared.counters.Counters.{Counters}
-use Rattle.stored.specs.declared.answers.Asked.{Asked}
+use Rattle.notation.proofs.Laws.Refused.Numbers.{one-refusal, some-number}
 use Rattle.theory.proofs.Laws.Basics.{is-any}
 use Rattle.theory.proofs.Laws.Machine.Matches.{run-matched}
 use Rattle.theory.proofs.Laws.Machine.Moves.{Few, fresh-few}
 use Rattle.stored.proofs.Laws.Running.Means.{Means, means}
 use Rattle.stored.proofs.Laws.Running.FolderPlaces.{hasNumber}
 use Rattle.stored.proofs.Laws.Running.Asking.{ask-folder}
-use Rattle.stored.proofs.Laws.Running.Following.{leftOf, number-none, few-run}
-use Rattle.stored.proofs.Laws.Running.Demand3.{path-answers, folder-answers, demand3-means}
+use Rattle.stored.proofs.Laws.Running.Following.{leftOf, few-run, start-left}
+use Rattle.stored.proofs.Laws.Running.Demand3.{path-answers, folder-answers, start-accepted}
 use Rattle.documents.specs.Document.{eventsOf, documentIn}
 use Rattle.filing.specs.Filing.{Filed, refused, filed, numberGiven, callsIn, fileReport}
 use Rattle.filing.specs.Demand2.{childlessIn, SelectsElement, FolderSelects, OfDocument}
@@ -42,36 +42,8 @@ use Rattle.filing.proofs.Laws.Filing.FilingOrder.{refused-is, filed-is}
 use Rattle.filing.proofs.Laws.Filing.FilingAdded.{added}
 use Rattle.filing.proofs.Laws.Filing.FilingAlike.{same-number}
 use Rattle.filing.proofs.Laws.Filing.FilingOpens.{given-among}
-use Rattle.filing.proofs.Laws.Filing.FilingStored.{storedOf, start-stored, report-stored}
+use Rattle.filing.proofs.Laws.Filing.FilingStored.{storedOf, report-stored}
 use Rattle.filing.proofs.Laws.Filing.Demand2.{of-document}
-
--- a number is that of one refusal only
-byNumber : List Refusal
-byNumber =
-    shortBuffer ∷ shortBuffer ∷ oversize ∷ bentForm ∷ outOfTurn ∷ longName ∷ longPath ∷ full ∷ foreignByte ∷ torn ∷ looseEnd ∷ tooDeep ∷ crossed ∷ noSuchPlace ∷ strangeShape ∷ []
-
-number-back : (r : Refusal) → getD byNumber (numberOf r) shortBuffer ≡ r
-unfolding byNumber
-number-back shortBuffer = refl
-number-back oversize = refl
-number-back bentForm = refl
-number-back outOfTurn = refl
-number-back longName = refl
-number-back longPath = refl
-number-back full = refl
-number-back foreignByte = refl
-number-back torn = refl
-number-back looseEnd = refl
-number-back tooDeep = refl
-number-back crossed = refl
-number-back noSuchPlace = refl
-number-back strangeShape = refl
-
-one-refusal : (q r : Refusal) → numberOf q ≡ numberOf r → q ≡ r
-one-refusal q r e = sym (number-back q) ∙ ap (λ (n : ℕ). getD byNumber n shortBuffer) e ∙ number-back r
-
-pub some-number : (r : Refusal) → numberOf r ≡ 0 → ⊥
-some-number r = eqb-false (numberOf r) 0 (number-none (some r))
 
 given-refused : (x : Filed) (r : Refusal) → numberGiven x ≡ numberOf r → x ≡ refused r
 given-refused (refused q) r e = ap refused (one-refusal q r e)
@@ -86,7 +58,7 @@ stored-number s rest (refused r) = refl
 stored-number s rest (filed m) = refl
 
 -- where one holds exactly if the other does, the answer is to both
-same-answers : {there one other : Type 0} {answer : Asked} → one ↔ other → Answers there one answer → Answers there other answer
+same-answers : {there one other : Type 0} {answer : Answer Bool} → one ↔ other → Answers there one answer → Answers there other answer
 same-answers i h = record {
   yes = (λ e. i .0 (h .yes .0 e), λ o. h .yes .1 (i .1 o));
   no = (λ e. let n = h .no .0 e in (n .0, λ o. n .1 (i .1 o)), λ n. h .no .1 (n .0, λ o. n .1 (i .0 o)));
@@ -134,7 +106,7 @@ module _ (s : FolderSet) (a : List ℕ) (w : Means s a) (lent : List ℕ) (long 
   rest = drop runSize lent
 
   starts : startRefusal a lent ≡ 0
-  starts = demand3-means s a w lent long [] .starts
+  starts = start-accepted s a w lent long
 
   pub answer-is : answer ≡ numberGiven (fileReport s report)
   answer-is = f .answers ∙ rw (starts, report-stored s a w lent report) (stored-number s rest (fileReport s report))
@@ -179,7 +151,7 @@ module _ (s : FolderSet) (a : List ℕ) (w : Means s a) (lent : List ℕ) (long 
 
   -- the run left is that of the machine at the end
   run-end : (x : Filed) → fileReport s report ≡ x → run' ≡ runOf s (endOf s x) ++ rest
-  run-end (refused r) e = run-left (leftOf s rest (fresh s)) (left-refused r e ∙ start-stored s a w lent)
+  run-end (refused r) e = run-left (leftOf s rest (fresh s)) (left-refused r e ∙ start-left s a w lent)
   run-end (filed m) e = run-left (leftOf s rest m) (left-filed m e)
 
   pub few-end : (x : Filed) → fileReport s report ≡ x → Few s (endOf s x) []
@@ -189,7 +161,7 @@ module _ (s : FolderSet) (a : List ℕ) (w : Means s a) (lent : List ℕ) (long 
       subst (λ (x : State). Few s x []) (d .machine) (few-run s (callsIn (eventsOf (d .report .run .tokens))))
 
   -- a folder of the set is answered by its matches
-  folder-asked : (x : Folder) → List·Memᴰ x s → askFolder a run' (record { 0 = folderNumber x }) ≡ yesNo (folderMatched s (endOf s (fileReport s report)) (folderNumber x))
+  folder-asked : (x : Folder) → List·Memᴰ x s → askFolder a run' (record { 0 = folderNumber x }) ≡ value (folderMatched s (endOf s (fileReport s report)) (folderNumber x))
   folder-asked x i =
       let n = folderNumber x in
       let there : hasNumber s n ≡ true = is-any (λ y. eqb (folderNumber y) n) s i (eq-eqb n n refl) in
@@ -240,7 +212,7 @@ demand2-bytes text s acc behind lent long c report answer run' c' f =
             answers = answer-is larger b v lent₂ long₂ c₂ report other run₂ c₃ g ∙ same-number larger s report ∙ sym is;
             folders = λ x i.
                 folder-asked larger b v lent₂ long₂ c₂ report other run₂ c₃ g x (has x i)
-                ∙ ap yesNo (same-matched s larger text₂ report acc₂ has x i (fileReport s report) refl)
+                ∙ ap value (same-matched s larger text₂ report acc₂ has x i (fileReport s report) refl)
                 ∙ sym (folder-asked s a w lent long c report answer run' c' f x i);
           };
     }

@@ -10,8 +10,11 @@ use borrow.Author.Tests.{eq-eqb, ne-eqb, leb-false, lt-leb, lt-ltb, le-ltb}
 use Rattle.notation.specs.Names.{Name}
 use Rattle.notation.specs.Refusals.{torn, numberOf}
 use Rattle.notation.specs.Form.{every}
-use Rattle.stored.specs.RunCalls.{depthOf, startRefusal, startRun, openRefusal, openRun, openCounters, closeRefusal, closeRun, closeCounters, noCounters}
-use Rattle.stored.specs.RunContracts.{openAnswer, Starts, Opens, Closes}
+use Rattle.notation.specs.Answers.{numberSaid}
+use Rattle.notation.proofs.Laws.Said.{said-number}
+use Rattle.stored.specs.Answers.{openedSays}
+use Rattle.stored.specs.RunCalls.{depthOf, startRefusal, startRun, openRefusal, openWalk, openRun, openCounters, closeRefusal, closeRun, closeCounters, noCounters}
+use Rattle.stored.specs.RunContracts.{Starts, Opens, Closes}
 use Rattle.stored.specs.Openable.{Usable}
 use Rattle.stored.specs.Demand3.{Left, started}
 use Rattle.stored.specs.declared.counters.Counters.{Counters}
@@ -24,9 +27,10 @@ use Rattle.filing.specs.declared.tokens.Found.the-variants.{Nothing, Dec
 use Rattle.documents.specs.Tokens.{Token, declaration, comment, startTag, emptyTag, endTag, text, listed, isDeclaration}
 use Rattle.documents.specs.Reading.{Read, fail, got, thenRead, readToken, readReport}
 use Rattle.documents.specs.Document.{eventsOfToken}
-use Rattle.filing.specs.Seen.{shown, foundOf, foundEnd, declares, tagName, nameOfToken}
+use Rattle.filing.specs.Seen.{shown, foundOf, foundEnd, declares}
+use Rattle.filing.specs.Code.Seen.{tagName, nameOfToken}
 use Rattle.filing.specs.FileCall.{Outcome, refusedWith, leaving, thenGo, openOutcome, closeOutcome, textOutcome, eventsOutcome, tokensOutcome, endOutcome, runOutcome, reportOutcome, Files}
-use Rattle.filing.specs.Taking.{openNumber, so, Takes, Leaves, foundOutcome, tornAt, runFrom}
+use Rattle.filing.specs.Code.Taking.{so, Takes, Leaves, foundOutcome, tornAt, runFrom}
 use Rattle.filing.proofs.Laws.Read.Next.{tokensFrom, token-next, from-end, from-torn, from-late, from-next}
 use Rattle.filing.proofs.Laws.Read.RunAt.{shown-end, shown-declares}
 
@@ -59,14 +63,10 @@ restarted : (a : List ℕ) (n : ℕ) (run' run₁ run₀ : List ℕ) → run' �
 restarted a zero run' run₁ run₀ h k = ap (startRun a) h ∙ k refl
 restarted a (suc n) run' run₁ run₀ h k = ap (startRun a) (rw (ne-eqb (suc n) 0 (λ z. omega arith)) at h)
 
-number-answered : (n moves : ℕ) → openNumber (openAnswer n moves) ≡ n
-number-answered zero moves = refl
-number-answered (suc n) moves = refl
-
-pub open-taken : (a run : List ℕ) (c : Counters) (e : Name) (answer : Opened) (run' : List ℕ) (c' : Counters) (n : ℕ) → n ≡ openNumber answer → Opens a run c e answer run' c'
+pub open-taken : (a run : List ℕ) (c : Counters) (e : Name) (answer : Opened) (run' : List ℕ) (c' : Counters) (n : ℕ) → n ≡ numberSaid (openedSays answer) → Opens a run c e answer run' c'
     → Takes a run (openOutcome a (record { bytes = run; counters = c }) e) n run' c'
 open-taken a run c e answer run' c' n is o =
-    let same : n ≡ openRefusal a run c e = is ∙ ap openNumber (o .answers) ∙ number-answered _ _ in
+    let same : n ≡ openRefusal a run c e = is ∙ ap numberSaid (o .answers) ∙ said-number (openRefusal a run c e) (openWalk a run e .moves) in
     record {
       outcomes = ap (λ (m : ℕ). so m run' c') same ∙ settled (openRefusal a run c e) run' (openRun a run e) run c' (openCounters a run c e) c (o .runAfter) (o .countersAfter);
       restarts = restarted a (openRefusal a run c e) run' (openRun a run e) run (o .runAfter) (open-restart a run c e);
@@ -116,7 +116,7 @@ after a o x fail = refl
 after a (refusedWith n) x (got ts r) = refl
 after a (leaving t) x (got ts r) = refl
 
-go-same : (o : Outcome) (k l : Left → Outcome) → ((t : Left) → k t ≡ l t) → thenGo o k ≡ thenGo o l
+pub go-same : (o : Outcome) (k l : Left → Outcome) → ((t : Left) → k t ≡ l t) → thenGo o k ≡ thenGo o l
 go-same (refusedWith n) k l h = refl
 go-same (leaving t) k l h = h t
 

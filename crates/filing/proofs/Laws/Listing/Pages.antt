@@ -12,7 +12,7 @@ use lib.Seq.{sets, sets-eq, length-sets, take-at, length-take-le}
 use borrow.Author.Tests.{le-leb, lt-leb, leb-false}
 use Rattle.theory.proofs.Laws.Basics.{cases}
 use Rattle.filing.specs.declared.page.Pen.{Pen}
-use Rattle.filing.specs.Page.{soFar, addTo, On, Adds, Holds}
+use Rattle.filing.specs.Code.Page.{soFar, addTo, On, Adds, Holds}
 
 add-both : (size : ℕ) (x : Option (List ℕ)) (p q : List ℕ) → addTo size (addTo size x p) q ≡ addTo size x (p ++ q)
 add-both size none p q = refl

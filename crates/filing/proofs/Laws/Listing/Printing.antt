@@ -3,26 +3,28 @@ use Prim.Native.Nat.{ℕ, zero, suc, _≤_, _<_}
 use mathlib.Core.Path.{_≡_, refl, sym, ap, _∙_, subst}
 use mathlib.Core.Bool.{Bool, true, false, _||_, true≢false}
 use mathlib.Core.List.{List, _++_}
-use lib.Dec.{eqb, ltb}
+use lib.Dec.{ltb}
 use lib.ListN.{length, drop}
 use lib.Seq.{sets-eq}
-use borrow.Author.Tests.{eqb-true, eqb-false, le-ltb, ltb-false}
+use borrow.Author.Tests.{le-ltb, ltb-false}
 use native.Mathlib.Nat.{zero-add}
 use native.Mathlib.Omega.{arith}
 use Rattle.notation.specs.Sets.{FolderSet}
-use Rattle.notation.specs.Scan.{refusalOf}
-use Rattle.notation.specs.Refusals.{Refusal, shortBuffer, oversize, bentForm, outOfTurn, longName, longPath, full, foreignByte, torn, looseEnd, tooDeep, crossed, noSuchPlace, strangeShape, numberOf}
+use Rattle.notation.specs.Refusals.{Refusal, numberOf}
 use Rattle.notation.specs.Accepted.{Accepted}
-use Rattle.notation.proofs.Laws.Refused.AcceptedSet.{accepted-set, accepted-is}
-use Rattle.notation.proofs.Laws.Refused.Refusals.{refusal-low}
+use Rattle.notation.specs.Judged.{Verdict, refuses, accepts, Judged, verdictNumber}
+use Rattle.notation.proofs.Laws.Refused.Numbers.{number-within, some-number}
+use Rattle.notation.proofs.Laws.Refused.Judging.{some-verdict}
 use Rattle.stored.specs.Automaton.{automatonOf, automatonSize}
 use Rattle.stored.specs.Run.{runSize}
-use Rattle.stored.specs.RunCalls.{given, noCounters}
-use Rattle.stored.specs.Build.{buildAnswer, Built}
+use Rattle.theory.specs.Order.{first, given}
+use Rattle.stored.specs.RunCalls.{noCounters}
+use Rattle.stored.specs.Build.{Built, builtInto}
 use Rattle.stored.specs.Demand3.{Left}
+use Rattle.notation.specs.Answers.{value}
+use Rattle.stored.specs.Answers.{writtenSays}
 use Rattle.stored.specs.declared.answers.Written.{Written}
 use Rattle.stored.specs.declared.counters.Counters.{Counters}
-use Rattle.theory.proofs.Laws.Basics.{cases}
 use Rattle.stored.proofs.Laws.Running.Means.{Means, means}
 use Rattle.filing.specs.Limits.{listingSize}
 use Rattle.filing.specs.Filing.{Filed, refused, filed, numberGiven, fileReport}
@@ -30,8 +32,9 @@ use Rattle.filing.specs.FileCall.{fileAnswer, fileLeft, Files}
 use Rattle.filing.specs.FiledReport.{Demand2Bytes}
 use Rattle.filing.specs.Listing.{listing, refusedLine, printed, filerPrints}
 use Rattle.filing.specs.Listed.{Writes, ListingWritten, refusedRefusal, RefusedWritten}
-use Rattle.filing.specs.Filer.{tooSmall, PrintsText, Prints, OutcomeWritten, FiledAndListed}
-use Rattle.filing.proofs.Laws.Filing.FromBytes.{some-number, answer-is, left-filed, few-end, demand2-bytes}
+use Rattle.filing.specs.Filer.{tooSmall, PrintsText, Prints, printsFor, runFor}
+use Rattle.filing.specs.Code.Filer.{OutcomeWritten, FiledAndListed}
+use Rattle.filing.proofs.Laws.Filing.FromBytes.{answer-is, left-filed, few-end, demand2-bytes}
 use Rattle.filing.proofs.Laws.Listing.Whole.{listing-fits, listing-written}
 use Rattle.filing.proofs.Laws.Listing.Written.{refused-short}
 
@@ -46,9 +49,8 @@ module _ (a run out : List ℕ) (h : tooSmall a run out ≡ false) where
       go false true r e = absurd (true≢false e)
       go true q r e = absurd (true≢false e)
 
-  build-as-read : (text : List ℕ) → buildAnswer (length a) text ≡ refusalOf text
-  unfolding buildAnswer
-  build-as-read text = rw (none-small .0)
+  automaton-room : automatonSize ≤ length a
+  automaton-room = ltb-false (length a) automatonSize (none-small .0)
 
   run-room : runSize ≤ length run
   run-room = ltb-false (length run) runSize (none-small .1 .0)
@@ -56,38 +58,27 @@ module _ (a run out : List ℕ) (h : tooSmall a run out ≡ false) where
   out-room : listingSize ≤ length out
   out-room = ltb-false (length out) listingSize (none-small .1 .1)
 
+bytes-said : (answer : Written) (n : ℕ) → writtenSays answer ≡ value n → answer ≡ Written.Bytes n
+bytes-said (Written.Bytes k) n e = ap (λ (x : ℕ). Written.Bytes x) (cc)
+bytes-said (Written.Refused k) n e = absurd (let z : _≡_ {A = ℕ} 0 1 = cc in omega arith)
+
 -- a text no longer than a listing, in a buffer of a listing's size
 text-printed : (text out after : List ℕ) (answer : Written) → length text ≤ listingSize → listingSize ≤ length out → Writes 0 text out answer after
     → PrintsText text out answer after
 text-printed text out after answer fits room w = record {
   fits = fits;
-  answers = w .answers;
+  answers = bytes-said answer (length text) (w .answers);
   leaves = w .leaves ∙ (sets-eq text out 0 (omega arith) ∙ ap (λ (k : ℕ). text ++ drop k out) (zero-add (length text)));
 }
 
 -- a refusal's line
-line-printed : (n : ℕ) (out after : List ℕ) (answer : Written) → n < 256 → listingSize ≤ length out → RefusedWritten n out answer after
-    → PrintsText (refusedLine n) out answer after
-unfolding refusedRefusal given
-line-printed n out after answer h room w =
+line-printed : (r : Refusal) (out after : List ℕ) (answer : Written) → listingSize ≤ length out → RefusedWritten (numberOf r) out answer after
+    → PrintsText (refusedLine (numberOf r)) out answer after
+unfolding refusedRefusal given first
+line-printed r out after answer room w =
     let t : ltb (length out) listingSize ≡ false = le-ltb (length out) listingSize room in
-    text-printed (refusedLine n) out after answer (refused-short n h) room (rw t at w)
-
-number-byte : (r : Refusal) → numberOf r < 256
-number-byte shortBuffer = omega arith
-number-byte oversize = omega arith
-number-byte bentForm = omega arith
-number-byte outOfTurn = omega arith
-number-byte longName = omega arith
-number-byte longPath = omega arith
-number-byte full = omega arith
-number-byte foreignByte = omega arith
-number-byte torn = omega arith
-number-byte looseEnd = omega arith
-number-byte tooDeep = omega arith
-number-byte crossed = omega arith
-number-byte noSuchPlace = omega arith
-number-byte strangeShape = omega arith
+    let small : numberOf r < 256 = omega (arith, number-within r .1) in
+    text-printed (refusedLine (numberOf r)) out after answer (refused-short (numberOf r) small) room (rw t at w)
 
 outcome-line : (n : ℕ) (a run : List ℕ) (c : Counters) (out after : List ℕ) (answer : Written)
     → (n ≡ 0 → ⊥) → OutcomeWritten n a run c out answer after → RefusedWritten n out answer after
@@ -135,7 +126,7 @@ module _ (text : List ℕ) (s : FolderSet) (acc : Accepted text s) (behind run r
         → PrintsText (printed s x) out answer after
     outcome-printed (refused r) e h =
         let n : fileAnswer a run report ≡ numberOf r = number ∙ ap numberGiven e in
-        line-printed (numberOf r) out after answer (number-byte r) room
+        line-printed r out after answer room
         (outcome-line (numberOf r) a (left .bytes) (left .counters) out after answer (some-number r)
         (subst (λ (k : ℕ). OutcomeWritten k a (left .bytes) (left .counters) out answer after) n h))
     outcome-printed (filed m) e h =
@@ -156,55 +147,46 @@ module _ (text : List ℕ) (s : FolderSet) (acc : Accepted text s) (behind run r
 -- `print_set`, and then `print_filing`
 module _ (text report a run out : List ℕ) where
   pub too-small : tooSmall a run out ≡ true → Prints text report a run out (Written.Refused 1) a run out
-  too-small h = record {
-    short = λ _. (refl, (refl, (refl, refl)));
-    refusedSet = λ f _. absurd (true≢false (sym h ∙ f));
-    filedSet = λ f _ _. absurd (true≢false (sym h ∙ f));
-  }
+  too-small h = record { short = λ _. (refl, (refl, (refl, refl))); judged = λ f. absurd (true≢false (sym h ∙ f)) }
 
   module _ (a' : List ℕ) (n : ℕ) (answer : Written) (h : tooSmall a run out ≡ false) (b : Built text a n a') where
-    number-read : n ≡ refusalOf text
-    number-read = b .answers ∙ build-as-read a run out h text
+    built : (v : Verdict) → Judged text v → (n ≡ verdictNumber v) × (a' ≡ builtInto v a)
+    built = b .judged (automaton-room a run out h)
 
     pub set-refused : (n ≡ 0 → ⊥) → (after : List ℕ) → RefusedWritten n out answer after → Prints text report a run out answer a' run after
-    set-refused z after w = record {
-      short = λ t. absurd (true≢false (sym t ∙ h));
-      refusedSet = λ _ _. (
-        line-printed (refusalOf text) out after answer (omega (arith, refusal-low text)) (out-room a run out h)
-            (subst (λ (k : ℕ). RefusedWritten k out answer after) number-read w),
-        (b .keeps z, refl),
-      );
-      filedSet = λ _ s acc. absurd (z (number-read ∙ accepted-is text s acc));
-    }
+    set-refused some after w = record { short = λ t. absurd (true≢false (sym t ∙ h)); judged = λ _. go }
+      where
+        go : (v : Verdict) → Judged text v → (PrintsText (printsFor v report) out answer after) × ((a' ≡ builtInto v a) × (run ≡ runFor v a' run report))
+        go (refuses r) j =
+            let x = built (refuses r) j in (
+              line-printed r out after answer (out-room a run out h) (subst (λ (k : ℕ). RefusedWritten k out answer after) (x .0) w),
+              (x .1, refl),
+            )
+        go (accepts s) acc = absurd (some (built (accepts s) acc .0))
 
     pub set-filed : n ≡ 0 → (run' after : List ℕ) → FiledAndListed a' run report out answer run' after → Prints text report a run out answer a' run' after
-    set-filed z run' after f = record {
-      short = λ t. absurd (true≢false (sym t ∙ h));
-      refusedSet = λ _ r. absurd (r (sym number-read ∙ z));
-      filedSet = λ _ s acc.
-          let e = b .leaves z s acc in
-          let g = subst (λ (x : List ℕ). FiledAndListed x run report out answer run' after) e f in (
-            filing-printed text s acc (drop automatonSize a) run report (run-room a run out h) out after answer (out-room a run out h) run' g,
-            (e, f .runAfter),
-          );
-    }
+    set-filed z run' after f = record { short = λ t. absurd (true≢false (sym t ∙ h)); judged = λ _. go }
+      where
+        go : (v : Verdict) → Judged text v → (PrintsText (printsFor v report) out answer after) × ((a' ≡ builtInto v a) × (run' ≡ runFor v a' run report))
+        go (refuses r) j = absurd (some-number r (sym (built (refuses r) j .0) ∙ z))
+        go (accepts s) acc =
+            let e = built (accepts s) acc .1 in
+            let g = subst (λ (x : List ℕ). FiledAndListed x run report out answer run' after) e f in (
+              filing-printed text s acc (drop automatonSize a) run report (run-room a run out h) out after answer (out-room a run out h) run' g,
+              (e, f .runAfter),
+            )
 
-  -- the cases are all: in buffers of their sizes a text is printed
-  pub some-printed : (answer : Written) (a' run' out' : List ℕ) → Prints text report a run out answer a' run' out' → tooSmall a run out ≡ false
-      → (shown : List ℕ) × PrintsText shown out answer out'
-  some-printed answer a' run' out' p h =
-      cases (eqb (refusalOf text) 0)
-      (λ z.
-      let (s, acc) = accepted-set text (eqb-true (refusalOf text) 0 z) in
-      (filerPrints s report, p .filedSet h s acc .0))
-      (λ z. (refusedLine (refusalOf text), p .refusedSet h (eqb-false (refusalOf text) 0 z) .0))
+  module _ (answer : Written) (a' run' out' : List ℕ) (p : Prints text report a run out answer a' run' out') (h : tooSmall a run out ≡ false) where
+    -- in buffers of their sizes a text is printed
+    pub some-printed : (shown : List ℕ) × PrintsText shown out answer out'
+    some-printed = let (v, j) = some-verdict text in (printsFor v report, p .judged h v j .0)
 
-  -- an accepted set's printed call is demand 2's filing
-  pub demand2-printed : (answer : Written) (a' run' out' : List ℕ) → Prints text report a run out answer a' run' out' → tooSmall a run out ≡ false
-      → (s : FolderSet) → Accepted text s → Demand2Bytes s a' report run (fileAnswer a' run report) run' (fileLeft a' run noCounters report .counters)
-  demand2-printed answer a' run' out' p h s acc =
-      let q = p .filedSet h s acc in
-      let left = fileLeft (automatonOf s ++ drop automatonSize a) run noCounters report in
-      rw (q .1 .1, q .1 .0)
-      (demand2-bytes text s acc (drop automatonSize a) run (run-room a run out h) noCounters report _ (left .bytes) (left .counters)
-      (record { answers = refl; runAfter = refl; countersAfter = refl }))
+    -- an accepted set's printed call is demand 2's filing
+    pub demand2-printed : (s : FolderSet) → Accepted text s
+        → Demand2Bytes s a' report run (fileAnswer a' run report) run' (fileLeft a' run noCounters report .counters)
+    demand2-printed s acc =
+        let q = p .judged h (accepts s) acc in
+        let left = fileLeft (automatonOf s ++ drop automatonSize a) run noCounters report in
+        rw (q .1 .1, q .1 .0)
+        (demand2-bytes text s acc (drop automatonSize a) run (run-room a run out h) noCounters report _ (left .bytes) (left .counters)
+        (record { answers = refl; runAfter = refl; countersAfter = refl }))

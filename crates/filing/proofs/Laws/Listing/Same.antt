@@ -8,7 +8,7 @@ use mathlib.Core.List.{List, [], _∷_, _++_, append-assoc}
 use lib.ListN.{length, getD, take, length-append, List·getD-append}
 use lib.Seq.{getD-append-add}
 use Rattle.notation.specs.Sets.{Path, Folder, folder, FolderSet, folderNumber, folderPaths}
-use Rattle.notation.specs.Form.{nonEmpty, pathsOf}
+use Rattle.notation.specs.Form.{nonEmpty, pathsOf, any}
 use Rattle.notation.specs.Print.{printPath, printPaths, printFolder}
 use Rattle.notation.specs.Reads.{folderCount, folderAt, pathText}
 use Rattle.notation.specs.declared.reads.FolderAt.{FolderAt}
@@ -16,7 +16,6 @@ use Rattle.notation.proofs.Laws.Stored.FolderTable.{noFolder, pathsBefore, path
 use Rattle.notation.proofs.Laws.Stored.ReadPaths.{path-read}
 use Rattle.notation.proofs.Laws.Stored.ReadFolders.{folder-read}
 use Rattle.notation.proofs.Laws.Stored.Reads.{folders-read}
-use Rattle.theory.specs.Words.{any}
 use Rattle.theory.specs.Folders.{countFrom}
 use Rattle.theory.specs.Calls.{State}
 use Rattle.stored.specs.Run.{runOf}

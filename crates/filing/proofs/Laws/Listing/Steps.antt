@@ -5,10 +5,10 @@ use mathlib.Core.Path.{_≡_, refl, sym, _∙_, ap}
 use mathlib.Core.Bool.{Bool, true, false, cond}
 use mathlib.Core.List.{List, [], _∷_, _++_, append-assoc, append-nil}
 use Rattle.theory.specs.Folders.{countFrom}
-use Rattle.theory.specs.Words.{any}
 use Rattle.stored.specs.Asking.{placeMatched, pathsOfFolder}
 use Rattle.notation.specs.Print.{decimal, folderWord, footer}
 use Rattle.notation.specs.Reads.{folderAt}
+use Rattle.notation.specs.Form.{any}
 use Rattle.filing.specs.Listing.{movesWord, movesLine}
 use Rattle.filing.specs.Listed.{pathListed, ifMatched, pathsListed, lineListed, lineAt, folderListed, foldersListed}
 

@@ -10,7 +10,7 @@ use borrow.Author.Tests.{le-ltb}
 use Rattle.notation.specs.Sets.{FolderSet}
 use Rattle.theory.specs.Calls.{State}
 use Rattle.stored.specs.Run.{runOf}
-use Rattle.stored.specs.RunCalls.{given}
+use Rattle.theory.specs.Order.{first, given}
 use Rattle.stored.specs.declared.answers.Written.{Written}
 use Rattle.theory.proofs.Laws.Machine.Moves.{Few}
 use Rattle.stored.proofs.Laws.Running.Means.{Means}
@@ -33,13 +33,13 @@ module _ (s : FolderSet) (a : List ℕ) (m : Means s a) (st : State) (few : Few 
   listing-fits = listing-short s (m .fit) st (few .0 .few) (few .1)
 
   has-room : heldRefusal (listing s st) ≡ 0
-  unfolding heldRefusal given
+  unfolding heldRefusal given first
   has-room =
       let t : ltb listingSize (length (listing s st)) ≡ false = le-ltb listingSize (length (listing s st)) listing-fits in
       rw t
 
   lent : (out : List ℕ) → listingSize ≤ length out → given (lentConditions a run (countersOf st) (length out)) ≡ 0
-  unfolding given
+  unfolding given first
   lent out h = rw (long-enough s a m st few rest, le-ltb (length out) listingSize h, all-shaped s a m st few rest)
 
   pub not-refused : (out : List ℕ) → listingSize ≤ length out → listingRefusal a run (countersOf st) out ≡ 0

@@ -14,7 +14,7 @@ use Rattle.filing.specs.declared.tags.Reach.the-variants.{No, To}
 use Rattle.filing.specs.declared.tokens.Found.the-variants.{Nothing, Comment}
 use Rattle.documents.specs.Tokens.{listed, begins, comment}
 use Rattle.documents.specs.Reading.{Read, fail, got, thenRead, when, readWord, readContents, readComment}
-use Rattle.filing.specs.Reaches.{reachOf}
+use Rattle.filing.specs.Code.Reaches.{reachOf}
 use Rattle.filing.specs.Seen.{foundOf}
 use Rattle.filing.proofs.Laws.Read.Reaches.{word-fits, never}
 use Rattle.filing.proofs.Laws.Read.Values.{reach-map}

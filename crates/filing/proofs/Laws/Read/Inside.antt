@@ -12,7 +12,7 @@ use Rattle.notation.proofs.Laws.Tests.{cases}
 use Rattle.filing.specs.declared.tags.Reach.the-variants.{No, To}
 use Rattle.documents.specs.Tokens.{blank, inValue, quoteByte, Attribute, printAttribute, formedAttribute}
 use Rattle.documents.specs.Reading.{Read, fail, got, thenRead, front, back, readWord, readName, readQuote, readParts, readAttributeFrom, readAttribute, attributeAhead, readAttributes}
-use Rattle.filing.specs.Reaches.{reachOf, insideReach}
+use Rattle.filing.specs.Code.Reaches.{reachOf, insideReach}
 use Rattle.documents.proofs.Laws.Read.Bytes.{left, join}
 use Rattle.documents.proofs.Laws.Printed.AttributesBack.{attribute-length}
 use Rattle.documents.proofs.Laws.Read.Holds.{holds-map, holds-got}

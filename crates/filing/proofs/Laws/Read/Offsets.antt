@@ -12,7 +12,7 @@ use Rattle.notation.specs.Names.{beginsName, inName}
 use Rattle.filing.specs.declared.tags.Reach.the-variants.{No, To}
 use Rattle.documents.specs.Tokens.{Part, printParts, quoteByte, blank, inValue, attribute}
 use Rattle.documents.specs.Reading.{Read, fail, got, thenRead, front, back, readWord, readName, readQuote, readParts, readAttributeFrom}
-use Rattle.filing.specs.Reaches.{reachOf, quotedReach, valueReach}
+use Rattle.filing.specs.Code.Reaches.{reachOf, quotedReach, valueReach}
 use Rattle.documents.proofs.Laws.Read.Holds.{holds-map, front-back, name-sound, word-sound}
 use Rattle.documents.proofs.Laws.Read.PartsSound.{parts-sound}
 use Rattle.filing.proofs.Laws.Read.Reaches.{Suffix, reached}

@@ -12,7 +12,7 @@ use Rattle.filing.specs.declared.tags.Reach.{Reach}
 use Rattle.filing.specs.declared.tags.Reach.the-variants.{No, To}
 use Rattle.documents.specs.Tokens.{amp, lt, gt, quot, apos, begins}
 use Rattle.documents.specs.Reading.{Read, fail, got, readReference}
-use Rattle.filing.specs.Reaches.{reachOf}
+use Rattle.filing.specs.Code.Reaches.{reachOf}
 use Rattle.documents.proofs.Laws.Read.Bytes.{right}
 use Rattle.documents.proofs.Laws.Read.Holds.{Holds, holds-got}
 

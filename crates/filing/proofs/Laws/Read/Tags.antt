@@ -15,8 +15,9 @@ use Rattle.filing.specs.declared.tags.Reach.the-variants.{No, To}
 use Rattle.filing.specs.declared.tokens.Found.the-variants.{Nothing, Start, Empty, End}
 use Rattle.documents.specs.Tokens.{blank, Attribute, printAttributes, emptyTag}
 use Rattle.documents.specs.Reading.{Read, fail, got, thenRead, front, back, readWord, readName, readAttributes, readTagEnd, readTag, readEndTag}
-use Rattle.filing.specs.Reaches.{reachOf, insideReach}
-use Rattle.filing.specs.Seen.{foundOf, tagEndOf}
+use Rattle.filing.specs.Code.Reaches.{reachOf, insideReach}
+use Rattle.filing.specs.Seen.{foundOf}
+use Rattle.filing.specs.Code.Seen.{tagEndOf}
 use Rattle.documents.proofs.Laws.Read.Holds.{holds-got, then-holds, gotten, front-back, name-sound}
 use Rattle.documents.proofs.Laws.Read.PartsSound.{attributes-sound}
 use Rattle.filing.proofs.Laws.Read.Reaches.{Suffix, reached}

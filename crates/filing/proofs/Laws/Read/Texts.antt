@@ -17,7 +17,7 @@ use Rattle.filing.specs.declared.tokens.Found.{Found}
 use Rattle.filing.specs.declared.tokens.Found.the-variants.{Nothing, Text}
 use Rattle.documents.specs.Tokens.{Part, plain, reference, printPart, printParts, text, blank, listed, inText, isEntity, begins, occurs}
 use Rattle.documents.specs.Reading.{Read, fail, got, thenRead, when, readReference, readParts, textEnds, readText}
-use Rattle.filing.specs.Reaches.{reachOf}
+use Rattle.filing.specs.Code.Reaches.{reachOf}
 use Rattle.filing.specs.Seen.{foundOf}
 use Rattle.documents.proofs.Laws.Read.Bytes.{left, right, entity-cases}
 use Rattle.documents.proofs.Laws.Read.Holds.{Holds, holds-map, holds-got}

@@ -12,7 +12,8 @@ use Rattle.filing.specs.declared.tokens.Found.{Found}
 use Rattle.filing.specs.declared.tokens.Found.the-variants.{Nothing, Declaration}
 use Rattle.documents.specs.Tokens.{declarationBytes, begins}
 use Rattle.documents.specs.Reading.{readTag, readEndTag, readComment, readMarkup, readText, readToken}
-use Rattle.filing.specs.Seen.{foundOf, declarationAt}
+use Rattle.filing.specs.Seen.{foundOf}
+use Rattle.filing.specs.Code.Seen.{declarationAt}
 use Rattle.filing.proofs.Laws.Read.Reaches.{word-fits}
 use Rattle.filing.proofs.Laws.Read.Comments.{word-is}
 

@@ -13,7 +13,7 @@ use Rattle.filing.specs.declared.tags.Reach.{Reach}
 use Rattle.filing.specs.declared.tags.Reach.the-variants.{No, To}
 use Rattle.documents.specs.Tokens.{Part, plain, reference}
 use Rattle.documents.specs.Reading.{Read, fail, got, thenRead, readReference, readParts}
-use Rattle.filing.specs.Reaches.{reachOf}
+use Rattle.filing.specs.Code.Reaches.{reachOf}
 use Rattle.documents.proofs.Laws.Read.Holds.{Holds, failed, gotten, holds-map}
 use Rattle.documents.proofs.Laws.Read.PartsSound.{reference-sound}
 use Rattle.filing.proofs.Laws.Read.Reaches.{Suffix, never, reached}

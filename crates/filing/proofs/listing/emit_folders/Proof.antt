@@ -6,7 +6,7 @@ use mathlib.Core.Path.{_≡_, sym, _∙_, ap}
 use borrow.Author.Needs.{needs}
 use Rattle.notation.specs.Reads.{folderCount}
 use Rattle.theory.specs.Folders.{countFrom}
-use Rattle.filing.specs.Page.{Adds}
+use Rattle.filing.specs.Code.Page.{Adds}
 use Rattle.filing.specs.Listed.{foldersListed}
 use Rattle.filing.proofs.Laws.Listing.Pages.{nothing, and-then, told-as}
 use Rattle.filing.proofs.Laws.Listing.Steps.{folders-more}

@@ -4,7 +4,7 @@ use Prim.Native.Nat.{ℕ, _≤_, _-_}
 use native.Mathlib.Numerals.{add-one}
 use mathlib.Core.Path.{_≡_, sym, _∙_, ap}
 use Rattle.theory.specs.Folders.{countFrom}
-use Rattle.filing.specs.Page.{Adds}
+use Rattle.filing.specs.Code.Page.{Adds}
 use Rattle.filing.specs.Listed.{pathsListed}
 use Rattle.filing.proofs.Laws.Listing.Pages.{nothing, and-then, told-as}
 use Rattle.filing.proofs.Laws.Listing.Steps.{paths-more}

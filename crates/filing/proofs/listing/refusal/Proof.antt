@@ -4,22 +4,23 @@ use borrow.Author.Tests.{lt-ltb, le-ltb}
 use Rattle.notation.specs.Limits.{maxSetBytes}
 use Rattle.stored.specs.Automaton.{automatonSize}
 use Rattle.stored.specs.Run.{runSize}
-use Rattle.stored.specs.RunCalls.{given, shaped}
+use Rattle.theory.specs.Order.{first, given}
+use Rattle.stored.specs.RunCalls.{shaped}
 use Rattle.filing.specs.Limits.{maxMovesLine, listingSize}
 use borrow.Author.Needs.{needs}
 use Rattle.filing.proofs.listing.refusal.Statement.{statement}
 use Rattle.filing.proofs.listing.refusal.Tie as tie
 
 returns : tie.Need-returns
-unfolding given automatonSize runSize listingSize maxSetBytes maxMovesLine
+unfolding given first automatonSize runSize listingSize maxSetBytes maxMovesLine
 returns c = rw (lt-ltb _ _ (c .if1 .taken))
 
 returns-2 : tie.Need-returns-2
-unfolding given automatonSize runSize listingSize maxSetBytes maxMovesLine
+unfolding given first automatonSize runSize listingSize maxSetBytes maxMovesLine
 returns-2 c = rw (le-ltb _ _ (c .before .if1 .left), lt-ltb _ _ (c .if2 .taken))
 
 returns-3 : tie.Need-returns-3
-unfolding given automatonSize runSize listingSize maxSetBytes maxMovesLine
+unfolding given first automatonSize runSize listingSize maxSetBytes maxMovesLine
 returns-3 c = rw (le-ltb _ _ (c .before .before .if1 .left), le-ltb _ _ (c .before .if2 .left), lt-ltb _ _ (c .if3 .taken))
 
 automaton-shaped-requires : tie.Need-automaton-shaped-requires
@@ -32,19 +33,19 @@ counters-shaped-requires : tie.Need-counters-shaped-requires
 counters-shaped-requires c κs = search needs
 
 returns-4 : tie.Need-returns-4
-unfolding given automatonSize runSize listingSize maxSetBytes maxMovesLine shaped
+unfolding given first automatonSize runSize listingSize maxSetBytes maxMovesLine shaped
 returns-4 c = rw (le-ltb _ _ (c .before .before .before .before .before .before .before .before .if1 .left), le-ltb _ _ (c .before .before .before .before .before .before .before .if2 .left), le-ltb _ _ (c .before .before .before .before .before .before .if3 .left), sym (c .before .before .before .before .before .automaton-shaped .ensures) ∙ c .before .before .before .before .if4 .taken, sym (c .before .before .before .run-shaped .ensures) ∙ c .before .before .if5 .taken, sym (c .before .counters-shaped .ensures) ∙ c .if6 .taken)
 
 returns-5 : tie.Need-returns-5
-unfolding given automatonSize runSize listingSize maxSetBytes maxMovesLine shaped
+unfolding given first automatonSize runSize listingSize maxSetBytes maxMovesLine shaped
 returns-5 c = rw (le-ltb _ _ (c .before .before .before .before .before .before .before .before .if1 .left), le-ltb _ _ (c .before .before .before .before .before .before .before .if2 .left), le-ltb _ _ (c .before .before .before .before .before .before .if3 .left), sym (c .before .before .before .before .before .automaton-shaped .ensures) ∙ c .before .before .before .before .if4 .taken, sym (c .before .before .before .run-shaped .ensures) ∙ c .before .before .if5 .taken, sym (c .before .counters-shaped .ensures) ∙ c .if6 .left)
 
 returns-6 : tie.Need-returns-6
-unfolding given automatonSize runSize listingSize maxSetBytes maxMovesLine shaped
+unfolding given first automatonSize runSize listingSize maxSetBytes maxMovesLine shaped
 returns-6 c = rw (le-ltb _ _ (c .before .before .before .before .before .before .if1 .left), le-ltb _ _ (c .before .before .before .before .before .if2 .left), le-ltb _ _ (c .before .before .before .before .if3 .left), sym (c .before .before .before .automaton-shaped .ensures) ∙ c .before .before .if4 .taken, sym (c .before .run-shaped .ensures) ∙ c .if5 .left)
 
 returns-7 : tie.Need-returns-7
-unfolding given automatonSize runSize listingSize maxSetBytes maxMovesLine shaped
+unfolding given first automatonSize runSize listingSize maxSetBytes maxMovesLine shaped
 returns-7 c = rw (le-ltb _ _ (c .before .before .before .before .if1 .left), le-ltb _ _ (c .before .before .before .if2 .left), le-ltb _ _ (c .before .before .if3 .left), sym (c .before .automaton-shaped .ensures) ∙ c .if4 .left)
 
 pub refusal-spec : {M : Type 1} → statement M

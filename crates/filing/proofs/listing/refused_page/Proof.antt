@@ -1,5 +1,5 @@
 -- `listing::refused_page`: the page is composed and delivered.
-use Rattle.filing.specs.Page.{soFar}
+use Rattle.filing.specs.Code.Page.{soFar}
 use Rattle.filing.specs.Listing.{refusedLine}
 use Rattle.filing.proofs.Laws.Listing.Written.{from-page}
 use borrow.Author.Needs.{needs}

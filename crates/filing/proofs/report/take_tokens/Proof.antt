@@ -6,7 +6,7 @@ use lib.ListN.{length}
 use borrow.Author.Needs.{needs}
 use Rattle.stored.specs.RunCalls.{startRun, noCounters}
 use Rattle.documents.specs.Reading.{readReport}
-use Rattle.filing.specs.Taking.{so, runFrom}
+use Rattle.filing.specs.Code.Taking.{so, runFrom}
 use Rattle.filing.proofs.Laws.Filing.Taking.{RunAt, so-is, taken-torn, taken-end, Fit, fit-so, turn-past, turn-taken}
 use Rattle.filing.proofs.report.take_tokens.Statement.{statement}
 use Rattle.filing.proofs.report.take_tokens.Tie as tie

@@ -4,7 +4,7 @@ use mathlib.Core.Path.{_≡_, refl, sym, _∙_}
 use native.Mathlib.Omega.{arith}
 use borrow.Author.Tests.{not-true, not-false}
 use lib.ListN.{length}
-use Rattle.filing.specs.Reaches.{insideReach}
+use Rattle.filing.specs.Code.Reaches.{insideReach}
 use Rattle.filing.proofs.Laws.Read.Inside.{no-blanks, no-more, no-name, one-no, one-to}
 use borrow.Author.Needs.{needs}
 use Rattle.filing.proofs.tags.inside_end.Statement.{statement}

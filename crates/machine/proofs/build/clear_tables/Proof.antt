@@ -4,7 +4,7 @@ use mathlib.Core.List.{List, _++_}
 use lib.ListN.{take, drop, replicate}
 use Rattle.notation.specs.Layout.{setSize}
 use Rattle.stored.specs.Automaton.{automatonSize}
-use Rattle.stored.specs.Passes.{cleared}
+use Rattle.stored.specs.Code.Passes.{cleared}
 use native.Mathlib.Omega.{arith}
 use borrow.Author.Needs.{needs}
 use Rattle.machine.proofs.build.clear_tables.Statement.{statement}

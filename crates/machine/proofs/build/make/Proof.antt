@@ -1,4 +1,4 @@
-use Rattle.stored.specs.Passes.{made}
+use Rattle.stored.specs.Code.Passes.{made}
 use Rattle.stored.proofs.Laws.Building.Build.{chains-read-in, parents-read-in}
 use mathlib.Core.Path.{_∙_}
 use native.Mathlib.Omega.{arith}

@@ -7,7 +7,7 @@ use lib.ListN.{length, replicate, length-append, length-replicate, replicate-app
 use lib.Seq.{sets}
 use Rattle.notation.specs.Limits.{maxSetBytes, maxPaths, maxSteps, maxLabels}
 use Rattle.notation.specs.Layout.{folderSize, pathSize, labelSize, textAt, foldersAt, pathsAt, stepsAt, labelsAt, setSize, Tables, joined, padded, counts, layout}
-use Rattle.notation.specs.Emit.{noTables}
+use Rattle.notation.specs.Code.Emit.{noTables}
 use Rattle.notation.proofs.Laws.Fill.Padded.{sets-front, fill, length-padded, padded-none, joined-snoc, joined-none}
 
 -- the four tables, each filled up to its size

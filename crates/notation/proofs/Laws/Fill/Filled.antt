@@ -7,9 +7,9 @@ use lib.ListN.{length, replicate, set, length-set, length-replicate}
 use lib.Seq.{sets, set-append-left}
 use Rattle.notation.specs.Limits.{maxSetBytes}
 use Rattle.notation.specs.Layout.{Tables, counts, textAt, setSize}
-use Rattle.notation.specs.Scan.{scan, scanned, start}
-use Rattle.notation.specs.Emit.{emit, emitted, tablesRead, partRead, noTables}
-use Rattle.notation.specs.Put.{putAll, tallied, Within}
+use Rattle.notation.specs.Code.Scan.{scan, scanned, start}
+use Rattle.notation.specs.Code.Emit.{emit, emitted, tablesRead, partRead, noTables}
+use Rattle.notation.specs.Code.Put.{putAll, tallied, Within}
 use Rattle.notation.specs.declared.scan.Tally.{Tally}
 use Rattle.notation.specs.declared.scan.Scan.{Scan}
 use Rattle.notation.proofs.Laws.Fill.Assembled.{assembled, head-put, cleared-is}

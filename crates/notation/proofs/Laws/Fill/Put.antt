@@ -11,9 +11,9 @@ use lib.Seq.{sets}
 use Rattle.notation.specs.Limits.{maxSetBytes, maxPaths, maxSteps, maxLabels}
 use Rattle.notation.specs.Names.{inName}
 use Rattle.notation.specs.Layout.{folderSize, pathSize, labelSize, foldersAt, pathsAt, stepsAt, labelsAt, folderEntry, pathEntry, labelEntry, Tables, joined}
-use Rattle.notation.specs.Scan.{counted, folderRead, labelRead, pathRead}
-use Rattle.notation.specs.Emit.{withFolder, withStep, withLabel, emitted}
-use Rattle.notation.specs.Put.{putFolder, putStep, putLabel, putPath, putTest, put, Within}
+use Rattle.notation.specs.Code.Scan.{counted, folderRead, labelRead, pathRead}
+use Rattle.notation.specs.Code.Emit.{withFolder, withStep, withLabel, emitted}
+use Rattle.notation.specs.Code.Put.{putFolder, putStep, putLabel, putPath, putTest, put, Within}
 use Rattle.notation.specs.declared.scan.Mode.{Mode}
 use Rattle.notation.specs.declared.scan.Mode.the-variants.{Header, LineStart, Word, NumberStart, Number, PathOpen, PathStart, Slash, Slashes, Label, Star, PathEnd, LineEnd, LastLine, Done, Bent}
 use Rattle.notation.specs.declared.scan.Tally.{Tally}

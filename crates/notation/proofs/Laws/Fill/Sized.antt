@@ -9,9 +9,9 @@ use lib.Dec.{eqb}
 use lib.ListN.{length, length-append}
 use Rattle.notation.specs.Names.{inName}
 use Rattle.notation.specs.Layout.{folderSize, pathSize, labelSize, folderEntry, pathEntry, labelEntry, Tables, joined}
-use Rattle.notation.specs.Scan.{counted, scanned, start, folderRead, pathBegun, deepened, labelBegun, labelRead, starRead, pathRead}
-use Rattle.notation.specs.Emit.{withFolder, withStep, withLabel, emitted, noTables}
-use Rattle.notation.specs.Put.{Within}
+use Rattle.notation.specs.Code.Scan.{counted, scanned, start, folderRead, pathBegun, deepened, labelBegun, labelRead, starRead, pathRead}
+use Rattle.notation.specs.Code.Emit.{withFolder, withStep, withLabel, emitted, noTables}
+use Rattle.notation.specs.Code.Put.{Within}
 use Rattle.notation.specs.declared.scan.Mode.{Mode}
 use Rattle.notation.specs.declared.scan.Mode.the-variants.{Header, LineStart, Word, NumberStart, Number, PathOpen, PathStart, Slash, Slashes, Label, Star, PathEnd, LineEnd, LastLine, Done, Bent}
 use Rattle.notation.specs.declared.scan.Tally.{Tally}

@@ -4,7 +4,7 @@ use mathlib.Core.Path.{_≡_, refl}
 use mathlib.Core.List.{List, [], _∷_}
 use Rattle.notation.specs.declared.scan.Mode.{Mode}
 use Rattle.notation.specs.declared.scan.Scan.{Scan}
-use Rattle.notation.specs.Scan.{next, scanned, scan}
+use Rattle.notation.specs.Code.Scan.{next, scanned, scan}
 
 -- the mode after these bytes
 unfoldable pub modes : Mode → List ℕ → Mode

@@ -13,7 +13,7 @@ use Rattle.notation.specs.Names.{beginsName, inName, digit, within}
 use Rattle.notation.specs.Sets.{child, descendant}
 use Rattle.notation.specs.Print.{folderWord, header, print}
 use Rattle.notation.specs.Form.{OfForm}
-use Rattle.notation.specs.Scan.{next, scan, start, isDone, testStart, testEnd, inWord}
+use Rattle.notation.specs.Code.Scan.{next, scan, start, isDone, testStart, testEnd, inWord}
 use Rattle.notation.specs.declared.scan.Mode.{Mode}
 use Rattle.notation.specs.declared.scan.Mode.the-variants.{Header, LineStart, Word, NumberStart, Number, PathOpen, PathStart, Slash, Slashes, Label, Star, PathEnd, LineEnd, LastLine, Done, Bent}
 use Rattle.notation.proofs.Laws.Form.Modes.{modes, scan-mode}

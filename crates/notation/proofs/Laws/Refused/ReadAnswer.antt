@@ -1,45 +1,50 @@
--- The call that reads a set: it answers 1 exactly for a buffer of too few bytes, else the text's refusal; a refusal leaves the buffer as it
--- was, and an accepted text puts its set's bytes first.
+-- The call that reads a set: its three returns, and each number exactly on its condition.
 use Prim.Native.Nat.{ℕ, _≤_, _<_}
-use mathlib.Core.Path.{_≡_, sym, ap, _∙_}
+use native.Mathlib.Omega.{arith}
+use mathlib.Core.Path.{_≡_, refl, sym, ap, _∙_}
 use mathlib.Core.Logic.{_↔_}
 use mathlib.Core.List.{List, _++_}
-use lib.Dec.{ltb}
 use lib.ListN.{length, drop}
-use borrow.Author.Tests.{ltb-true, ltb-false, lt-ltb, le-ltb, eq-eqb, ne-eqb}
+use Rattle.notation.specs.Refusals.{Refusal, shortBuffer, numberOf}
 use Rattle.notation.specs.Sets.{FolderSet}
 use Rattle.notation.specs.Accepted.{Accepted}
-use Rattle.notation.specs.Layout.{setSize, setPart}
-use Rattle.notation.specs.Scan.{refusalOf}
-use Rattle.notation.specs.ReadSet.{readAnswer, readBuffer}
-use Rattle.notation.proofs.Laws.Tests.{cases}
-use Rattle.notation.proofs.Laws.Refused.Refusals.{refusal-not-1}
-use Rattle.notation.proofs.Laws.Refused.AcceptedSet.{accepted-is, part-accepted}
-
-module _ (size : ℕ) (text : List ℕ) where
-  short-answer : size < setSize → readAnswer size text ≡ 1
-  unfolding readAnswer
-  short-answer h = rw (lt-ltb size setSize h)
-
-  pub answer-refusal : setSize ≤ size → readAnswer size text ≡ refusalOf text
-  unfolding readAnswer
-  answer-refusal h = rw (le-ltb size setSize h)
-
-  pub answer-short : (readAnswer size text ≡ 1) ↔ (size < setSize)
-  answer-short = (
-    λ e.
-        cases (ltb size setSize) (λ y. ltb-true size setSize y)
-        (λ n. absurd (refusal-not-1 text (sym (answer-refusal (ltb-false size setSize n)) ∙ e))),
-    short-answer,
-  )
+use Rattle.notation.specs.Layout.{setSize}
+use Rattle.notation.specs.Judged.{RefusedText, Verdict, refuses, accepts, Judged, verdictNumber}
+use Rattle.notation.specs.ReadSet.{ReadSet, readInto}
+use Rattle.notation.specs.Code.Scan.{refusalOf}
+use Rattle.notation.specs.Code.Emit.{partRead}
+use Rattle.notation.proofs.Laws.Refused.Numbers.{some-number}
+use Rattle.notation.proofs.Laws.Refused.AcceptedSet.{part-accepted}
+use Rattle.notation.proofs.Laws.Refused.Judging.{verdict-number}
+use Rattle.notation.proofs.Laws.Refused.Answers.{short-is, refused-is, accepted-is}
 
 module _ (text before : List ℕ) where
-  pub buffer-refused : (readAnswer (length before) text ≡ 0 → ⊥) → readBuffer text before ≡ before
-  unfolding readBuffer
-  buffer-refused some = rw (ne-eqb (readAnswer (length before) text) 0 some)
+  -- the three returns of the code
+  pub read-short : length before < setSize → ReadSet text before 1 before
+  read-short h = record { short = λ _. (refl, refl); judged = λ k. absurd (omega arith) }
 
-  pub buffer-accepted : (s : FolderSet) → Accepted text s → setSize ≤ length before → readBuffer text before ≡ setPart s ++ drop setSize before
-  unfolding readBuffer
-  buffer-accepted s a h =
-      rw (eq-eqb (readAnswer (length before) text) 0 (answer-refusal (length before) text h ∙ accepted-is text s a))
-      (ap (λ l. l ++ drop setSize before) (part-accepted text s a))
+  module _ (h : setSize ≤ length before) where
+    pub read-refused : (n : ℕ) → n ≡ refusalOf text → (n ≡ 0 → ⊥) → ReadSet text before n before
+    read-refused n e some = record { short = λ k. absurd (omega arith); judged = λ _. go }
+      where
+        go : (v : Verdict) → Judged text v → (n ≡ verdictNumber v) × (before ≡ readInto v before)
+        go (refuses r) j = (e ∙ verdict-number text (refuses r) j, refl)
+        go (accepts s) a = absurd (some (e ∙ verdict-number text (accepts s) a))
+
+    pub read-filled : (after : List ℕ) → refusalOf text ≡ 0 → after ≡ partRead text ++ drop setSize before → ReadSet text before 0 after
+    read-filled after z e = record { short = λ k. absurd (omega arith); judged = λ _. go }
+      where
+        go : (v : Verdict) → Judged text v → (0 ≡ verdictNumber v) × (after ≡ readInto v before)
+        go (refuses r) j = absurd (some-number r (sym (verdict-number text (refuses r) j) ∙ z))
+        go (accepts s) a = (refl, e ∙ ap (λ (l : List ℕ). l ++ drop setSize before) (part-accepted text s a))
+
+  -- each number exactly on its condition
+  module _ (answer : ℕ) (after : List ℕ) (t : ReadSet text before answer after) where
+    pub answer-1 : (answer ≡ numberOf shortBuffer) ↔ (length before < setSize)
+    answer-1 = short-is text (length before) setSize answer (λ h. t .short h .0) (λ h v j. t .judged h v j .0)
+
+    pub answer-other : (q : Refusal) → (q ≡ shortBuffer → ⊥) → (answer ≡ numberOf q) ↔ ((setSize ≤ length before) × RefusedText text q)
+    answer-other = refused-is text (length before) setSize answer (λ h. t .short h .0) (λ h v j. t .judged h v j .0)
+
+    pub answer-0 : (answer ≡ 0) ↔ ((setSize ≤ length before) × ((s : FolderSet) × Accepted text s))
+    answer-0 = accepted-is text (length before) setSize answer (λ h. t .short h .0) (λ h v j. t .judged h v j .0)

@@ -8,11 +8,12 @@ use Rattle.notation.specs.Limits.{maxSetBytes}
 use Rattle.notation.specs.Sets.{FolderSet}
 use Rattle.notation.specs.Print.{print}
 use Rattle.notation.specs.Form.{formed}
-use Rattle.notation.specs.Scan.{scan, start, refusalOf}
-use Rattle.notation.specs.Put.{Within}
+use Rattle.notation.specs.Code.Scan.{scan, start, refusalOf}
+use Rattle.notation.specs.Code.Put.{Within}
 use Rattle.notation.proofs.Laws.Scan.Complete.{scan-complete}
 use Rattle.notation.proofs.Laws.Refused.Fitting.{Fitting}
-use Rattle.notation.proofs.Laws.Refused.AcceptedSet.{accepted-set, accepted-fits}
+use Rattle.notation.proofs.Laws.Refused.AcceptedSet.{accepted-fits}
+use Rattle.notation.proofs.Laws.Refused.Judging.{accepted-set}
 
 -- what is counted is what a set has
 set-within : (s : FolderSet) → formed s ≡ true → Fitting s → Within (scan start (print s) .tally)

@@ -6,12 +6,13 @@ use mathlib.Core.Bool.{true, cond}
 use lib.ListN.{length, length-map}
 use Rattle.notation.specs.Sets.{FolderSet}
 use Rattle.notation.specs.Print.{print}
-use Rattle.notation.specs.Form.{formed, pathsOf, stepsOf, labelsOf, overBytes, overFull, faults, firstOf}
+use Rattle.notation.specs.Form.{formed, pathsOf, stepsOf, labelsOf, overBytes, overFull, faults}
 use Rattle.notation.specs.Layout.{stepEntry, tablesOf}
-use Rattle.notation.specs.Scan.{scan, start, ended, refusalOf, orElse}
-use Rattle.notation.specs.Emit.{tablesRead}
+use Rattle.notation.specs.Code.Scan.{scan, start, ended, refusalOf, orElse}
+use Rattle.notation.specs.Code.Emit.{tablesRead}
 use Rattle.notation.specs.declared.scan.Mode.the-variants.{Done}
 use Rattle.notation.specs.declared.scan.Scan.{Scan}
+use Rattle.notation.proofs.Laws.Scan.FirstFault.{firstOf}
 use Rattle.notation.proofs.Laws.Scan.Reading.{readAll, all-state, all-tables, all-at}
 use Rattle.notation.proofs.Laws.Scan.TableSizes.{folder-table-size, set-paths-size, set-labels-size}
 use Rattle.notation.proofs.Laws.Scan.SetText.{begin, set-read}

@@ -2,8 +2,8 @@
 use Prim.Native.Nat.{ℕ, _≤_}
 use native.Mathlib.Omega.{arith}
 use mathlib.Core.List.{List, [], _∷_}
-use Rattle.notation.specs.Scan.{counted, scanned, scan}
-use Rattle.notation.specs.Put.{Within}
+use Rattle.notation.specs.Code.Scan.{counted, scanned, scan}
+use Rattle.notation.specs.Code.Put.{Within}
 use Rattle.notation.specs.declared.scan.Mode.{Mode}
 use Rattle.notation.specs.declared.scan.Tally.{Tally}
 use Rattle.notation.specs.declared.scan.Scan.{Scan}

@@ -1,4 +1,4 @@
--- The first fault of a set: none exactly when no condition of 4, 5 and 6 holds; a 4, 5 or 6 only on its condition.
+-- The faults of a set: none exactly when no condition of 4, 5 and 6 holds; a 4, 5 or 6 first only on its condition.
 use Prim.Native.Nat.{ℕ, suc, _≤_}
 use native.Mathlib.Omega.{arith}
 use mathlib.Core.Path.{_≡_, refl, sym, ap₂, _∙_}
@@ -9,42 +9,20 @@ use lib.Dec.{leb, eqb}
 use borrow.Author.Tests.{eq-eqb, eqb-true}
 use Rattle.notation.specs.Limits.{maxSteps}
 use Rattle.notation.specs.Sets.{Path, folder, FolderSet, testOf}
-use Rattle.notation.specs.Refusals.{Refusal, shortBuffer, oversize, bentForm, outOfTurn, longName, longPath, full, foreignByte, torn, looseEnd, tooDeep, crossed, noSuchPlace, strangeShape, numberOf}
-use Rattle.notation.specs.Form.{every, longTest, stepFaults, pathFaults, pathsFaults, faultsAfter, faults, firstOf, any, numbersFall, namesLong, pathsLong}
+use Rattle.notation.specs.Refusals.{Refusal, outOfTurn, longName, longPath, numberOf}
+use Rattle.notation.specs.Form.{every, longTest, stepFaults, pathFaults, pathsFaults, faultsAfter, faults, any, numbersFall, namesLong, pathsLong}
 use Rattle.notation.proofs.Laws.Tests.{cases, and-left, or-left}
 use Rattle.notation.proofs.Laws.Scan.Faults.{has, has-4, has-5, has-6}
 
--- the first fault is one of the list, and a list without a first fault is empty
+-- the first fault is one of the list
 
-first-has : (k : ℕ) (fs : List Refusal) → firstOf fs ≡ suc k → has (suc k) fs ≡ true
+first-has : (r : Refusal) (later fs : List Refusal) → fs ≡ r ∷ later → has (numberOf r) fs ≡ true
 unfolding any
-first-has k [] e = absurd (omega arith)
-first-has k (r ∷ fs) e = rw (eq-eqb (numberOf r) (suc k) e)
+first-has r later fs e = rw (e, eq-eqb (numberOf r) (numberOf r) refl)
 
-numbered : (r : Refusal) → numberOf r ≡ 0 → ⊥
-numbered shortBuffer e = omega arith
-numbered oversize e = omega arith
-numbered bentForm e = omega arith
-numbered outOfTurn e = omega arith
-numbered longName e = omega arith
-numbered longPath e = omega arith
-numbered full e = omega arith
-numbered foreignByte e = omega arith
-numbered torn e = omega arith
-numbered looseEnd e = omega arith
-numbered tooDeep e = omega arith
-numbered crossed e = omega arith
-numbered noSuchPlace e = omega arith
-numbered strangeShape e = omega arith
-
-first-none : (k : ℕ) (fs : List Refusal) → firstOf fs ≡ 0 → has k fs ≡ false
+none-has : (k : ℕ) (fs : List Refusal) → fs ≡ [] → has k fs ≡ false
 unfolding any
-first-none k [] e = refl
-first-none k (r ∷ fs) e = absurd (numbered r e)
-
-pub first-empty : (fs : List Refusal) → firstOf fs ≡ 0 → fs ≡ []
-first-empty [] e = refl
-first-empty (r ∷ fs) e = absurd (numbered r e)
+none-has k fs e = rw e
 
 -- a set's faults are 4, 5 and 6 only
 
@@ -89,10 +67,10 @@ set-ours (folder n ps ∷ fs) last =
     ours-append (cond (leb n last) (outOfTurn ∷ []) []) (pathsFaults ps ++ faultsAfter n fs) (turn-ours (leb n last))
     (ours-append (pathsFaults ps) (faultsAfter n fs) (paths-ours ps) (set-ours fs n))
 
-none-first : (fs : List Refusal) → every ours fs ≡ true → has 4 fs ≡ false → has 5 fs ≡ false → has 6 fs ≡ false → firstOf fs ≡ 0
+none-left : (fs : List Refusal) → every ours fs ≡ true → has 4 fs ≡ false → has 5 fs ≡ false → has 6 fs ≡ false → fs ≡ []
 unfolding every any
-none-first [] o e₄ e₅ e₆ = refl
-none-first (r ∷ fs) o e₄ e₅ e₆ =
+none-left [] o e₄ e₅ e₆ = refl
+none-left (r ∷ fs) o e₄ e₅ e₆ =
     let one : ours r ≡ true = and-left (ours r) (every ours fs) o in
     let n₄ : eqb (numberOf r) 4 ≡ false = or-left (eqb (numberOf r) 4) (has 4 fs) e₄ in
     let n₅ : eqb (numberOf r) 5 ≡ false = or-left (eqb (numberOf r) 5) (has 5 fs) e₅ in
@@ -110,33 +88,35 @@ among n e =
     let h = eqb-true n 6 y in
     (omega arith, omega arith)))
 
-first-among : (fs : List Refusal) → every ours fs ≡ true → (firstOf fs ≡ 0 → ⊥) → (4 ≤ firstOf fs) × (firstOf fs ≤ 6)
+first-among : (r : Refusal) (later fs : List Refusal) → every ours fs ≡ true → fs ≡ r ∷ later → (4 ≤ numberOf r) × (numberOf r ≤ 6)
 unfolding every
-first-among [] o some = absurd (some refl)
-first-among (r ∷ fs) o some = among (numberOf r) (and-left (ours r) (every ours fs) o)
+first-among r later fs o e =
+    let one : every ours (r ∷ later) ≡ true = rw e at o in
+    among (numberOf r) (and-left (ours r) (every ours later) one)
 
 module _ (s : FolderSet) where
-  pub fault-among : (firstOf (faults s) ≡ 0 → ⊥) → (4 ≤ firstOf (faults s)) × (firstOf (faults s) ≤ 6)
-  fault-among = first-among (faults s) (set-ours s 0)
-
-  pub turn-fault : firstOf (faults s) ≡ 4 → numbersFall s ≡ true
-  turn-fault e = sym (has-4 s 0) ∙ first-has 3 (faults s) e
-
-  pub name-fault : firstOf (faults s) ≡ 5 → namesLong s ≡ true
-  unfolding namesLong
-  name-fault e = sym (has-5 s 0) ∙ first-has 4 (faults s) e
-
-  pub path-fault : firstOf (faults s) ≡ 6 → pathsLong s ≡ true
-  unfolding pathsLong
-  path-fault e = sym (has-6 s 0) ∙ first-has 5 (faults s) e
-
-  pub no-fault : (firstOf (faults s) ≡ 0) ↔ ((numbersFall s ≡ false) × (namesLong s ≡ false) × (pathsLong s ≡ false))
+  pub no-fault : (faults s ≡ []) ↔ ((numbersFall s ≡ false) × (namesLong s ≡ false) × (pathsLong s ≡ false))
   unfolding namesLong pathsLong
   no-fault = (
     λ e. (
-      sym (has-4 s 0) ∙ first-none 4 (faults s) e,
-      sym (has-5 s 0) ∙ first-none 5 (faults s) e,
-      sym (has-6 s 0) ∙ first-none 6 (faults s) e,
+      sym (has-4 s 0) ∙ none-has 4 (faults s) e,
+      sym (has-5 s 0) ∙ none-has 5 (faults s) e,
+      sym (has-6 s 0) ∙ none-has 6 (faults s) e,
     ),
-    λ h. none-first (faults s) (set-ours s 0) (has-4 s 0 ∙ h .0) (has-5 s 0 ∙ h .1) (has-6 s 0 ∙ h .2),
+    λ h. none-left (faults s) (set-ours s 0) (has-4 s 0 ∙ h .0) (has-5 s 0 ∙ h .1) (has-6 s 0 ∙ h .2),
   )
+
+  module _ (later : List Refusal) where
+    pub fault-among : (r : Refusal) → faults s ≡ r ∷ later → (4 ≤ numberOf r) × (numberOf r ≤ 6)
+    fault-among r = first-among r later (faults s) (set-ours s 0)
+
+    pub turn-fault : faults s ≡ outOfTurn ∷ later → numbersFall s ≡ true
+    turn-fault e = sym (has-4 s 0) ∙ first-has outOfTurn later (faults s) e
+
+    pub name-fault : faults s ≡ longName ∷ later → namesLong s ≡ true
+    unfolding namesLong
+    name-fault e = sym (has-5 s 0) ∙ first-has longName later (faults s) e
+
+    pub path-fault : faults s ≡ longPath ∷ later → pathsLong s ≡ true
+    unfolding pathsLong
+    path-fault e = sym (has-6 s 0) ∙ first-has longPath later (faults s) e

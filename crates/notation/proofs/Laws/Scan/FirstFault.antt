@@ -4,10 +4,14 @@ use mathlib.Core.Path.{_≡_, refl, sym}
 use mathlib.Core.List.{List, [], _∷_, _++_}
 use lib.Dec.{eqb}
 use borrow.Author.Tests.{eqb-true}
-use Rattle.notation.specs.Refusals.{Refusal, shortBuffer, oversize, bentForm, outOfTurn, longName, longPath, full, foreignByte, torn, looseEnd, tooDeep, crossed, noSuchPlace, strangeShape}
-use Rattle.notation.specs.Form.{firstOf}
-use Rattle.notation.specs.Scan.{orElse}
+use Rattle.notation.specs.Refusals.{Refusal, shortBuffer, oversize, bentForm, outOfTurn, longName, longPath, full, foreignByte, torn, looseEnd, tooDeep, crossed, noSuchPlace, strangeShape, numberOf}
+use Rattle.notation.specs.Code.Scan.{orElse}
 use Rattle.notation.proofs.Laws.Tests.{cases}
+
+-- the number of the first fault, 0 for none
+abbrev pub firstOf : List Refusal → ℕ
+firstOf [] = 0
+firstOf (r ∷ rs) = numberOf r
 
 pub orElse-assoc : (a b c : ℕ) → orElse (orElse a b) c ≡ orElse a (orElse b c)
 orElse-assoc a b c = cases (eqb a 0) (λ e. rw e) (λ e. rw (e, e))

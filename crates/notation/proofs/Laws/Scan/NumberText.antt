@@ -8,8 +8,8 @@ use lib.Dec.{ltb, eqb}
 use borrow.Author.Tests.{le-leb, lt-ltb, le-ltb, ltb-true, ltb-false, ne-eqb}
 use Rattle.notation.specs.Names.{digit}
 use Rattle.notation.specs.Print.{digits, decimal}
-use Rattle.notation.specs.Scan.{next, counted}
-use Rattle.notation.specs.Emit.{emitted, noTables}
+use Rattle.notation.specs.Code.Scan.{next, counted}
+use Rattle.notation.specs.Code.Emit.{emitted, noTables}
 use Rattle.notation.specs.Layout.{Tables}
 use Rattle.notation.specs.declared.scan.Mode.the-variants.{NumberStart, Number}
 use Rattle.notation.specs.declared.scan.Tally.{Tally}

@@ -10,8 +10,8 @@ use Rattle.notation.specs.Sets.{Step, Path}
 use Rattle.notation.specs.Print.{printStep, printPath}
 use Rattle.notation.specs.Form.{every, formedStep, formedPath, pathFaults, stepFaults}
 use Rattle.notation.specs.Layout.{Tables, stepEntry, stepLabel, pathLabels, pathEntry}
-use Rattle.notation.specs.Scan.{next, counted, scanned}
-use Rattle.notation.specs.Emit.{emitted}
+use Rattle.notation.specs.Code.Scan.{next, counted, scanned}
+use Rattle.notation.specs.Code.Emit.{emitted}
 use Rattle.notation.specs.declared.scan.Mode.the-variants.{PathOpen, Slash, PathEnd}
 use Rattle.notation.specs.declared.scan.Tally.{Tally}
 use Rattle.notation.proofs.Laws.Tests.{and-left, and-right}

@@ -9,8 +9,8 @@ use Rattle.notation.specs.Sets.{Path}
 use Rattle.notation.specs.Print.{printPath, printPaths}
 use Rattle.notation.specs.Form.{every, formedPath, stepsOf, pathFaults, pathsFaults}
 use Rattle.notation.specs.Layout.{Tables, stepEntry, pathTable, labelTable, pathLabels}
-use Rattle.notation.specs.Scan.{next, counted}
-use Rattle.notation.specs.Emit.{emitted, noTables}
+use Rattle.notation.specs.Code.Scan.{next, counted}
+use Rattle.notation.specs.Code.Emit.{emitted, noTables}
 use Rattle.notation.specs.declared.scan.Mode.the-variants.{PathOpen, PathEnd}
 use Rattle.notation.proofs.Laws.Tests.{and-left, and-right}
 use Rattle.notation.proofs.Laws.Scan.Reading.{Reading, readByte, readAll, all-append, all-at, byte-at}

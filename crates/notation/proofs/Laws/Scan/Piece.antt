@@ -5,13 +5,12 @@ use mathlib.Core.Path.{_≡_, refl, sym, transport}
 use mathlib.Core.List.{List, [], _++_, append-nil, append-assoc}
 use lib.ListN.{length, length-append}
 use Rattle.notation.specs.Refusals.{Refusal}
-use Rattle.notation.specs.Form.{firstOf}
 use Rattle.notation.specs.Layout.{Tables}
-use Rattle.notation.specs.Scan.{next, counted, scanned, orElse}
-use Rattle.notation.specs.Emit.{emitted, noTables}
+use Rattle.notation.specs.Code.Scan.{next, counted, scanned, orElse}
+use Rattle.notation.specs.Code.Emit.{emitted, noTables}
 use Rattle.notation.specs.declared.scan.Mode.{Mode}
 use Rattle.notation.specs.declared.scan.Tally.{Tally}
-use Rattle.notation.proofs.Laws.Scan.FirstFault.{orElse-assoc, orElse-none, first-append}
+use Rattle.notation.proofs.Laws.Scan.FirstFault.{firstOf, orElse-assoc, orElse-none, first-append}
 use Rattle.notation.proofs.Laws.Scan.Reading.{Reading, reading, placed, readByte, at-mode}
 
 -- the entries of two pieces, one after the other

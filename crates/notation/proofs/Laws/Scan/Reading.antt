@@ -7,8 +7,8 @@ use lib.Dec.{eqb}
 use lib.ListN.{length}
 use Rattle.notation.specs.Names.{inName}
 use Rattle.notation.specs.Layout.{Tables}
-use Rattle.notation.specs.Scan.{counted, scanned, scan}
-use Rattle.notation.specs.Emit.{emitted, emit}
+use Rattle.notation.specs.Code.Scan.{counted, scanned, scan}
+use Rattle.notation.specs.Code.Emit.{emitted, emit}
 use Rattle.notation.specs.declared.scan.Mode.{Mode}
 use Rattle.notation.specs.declared.scan.Mode.the-variants.{Header, LineStart, Word, NumberStart, Number, PathOpen, PathStart, Slash, Slashes, Label, Star, PathEnd, LineEnd, LastLine, Done, Bent}
 use Rattle.notation.specs.declared.scan.Tally.{Tally}

@@ -9,8 +9,8 @@ use Rattle.notation.proofs.Laws.Tests.{cases}
 use Rattle.notation.specs.Names.{beginsName, inName, digit, within}
 use lib.ListN.{getD}
 use Rattle.notation.specs.Print.{header, folderWord}
-use Rattle.notation.specs.Scan.{next, testStart, testEnd, counted, scanned, start, labelRead, starRead, pathRead}
-use Rattle.notation.specs.Safe.{SmallMode, Small, Safe}
+use Rattle.notation.specs.Code.Scan.{next, testStart, testEnd, counted, scanned, start, labelRead, starRead, pathRead}
+use Rattle.notation.specs.Code.Safe.{SmallMode, Small, Safe}
 use Rattle.notation.specs.declared.scan.Mode.{Mode}
 use Rattle.notation.specs.declared.scan.Mode.the-variants.{Header, LineStart, Word, NumberStart, Number, PathOpen, PathStart, Slash, Slashes, Label, Star, PathEnd, LineEnd, LastLine, Done, Bent}
 use Rattle.notation.specs.declared.scan.Tally.{Tally}

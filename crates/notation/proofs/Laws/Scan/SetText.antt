@@ -11,8 +11,8 @@ use Rattle.notation.specs.Print.{printFolder, printFolders, print, heade
 use Rattle.notation.specs.Refusals.{outOfTurn}
 use Rattle.notation.specs.Form.{every, formedFolder, formed, pathsOf, stepsOf, pathsFaults, faultsAfter, faults}
 use Rattle.notation.specs.Layout.{Tables, stepEntry, folderTable, setPaths, setLabels, afterNumber, tablesOf}
-use Rattle.notation.specs.Scan.{next, counted, scanned, start}
-use Rattle.notation.specs.Emit.{emitted, noTables}
+use Rattle.notation.specs.Code.Scan.{next, counted, scanned, start}
+use Rattle.notation.specs.Code.Emit.{emitted, noTables}
 use Rattle.notation.specs.declared.scan.Mode.the-variants.{LineStart, LastLine, Done}
 use Rattle.notation.proofs.Laws.Tests.{and-left, and-right}
 use Rattle.notation.proofs.Laws.Scan.Reading.{Reading, readByte, readAll, all-append, all-at}

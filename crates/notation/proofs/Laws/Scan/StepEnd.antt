@@ -11,12 +11,13 @@ use Rattle.notation.specs.Names.{inName}
 use Rattle.notation.specs.Sets.{Axis, label, star, Step, step, axisOf, testOf}
 use Rattle.notation.specs.Print.{printAxis, printStep}
 use Rattle.notation.specs.Refusals.{longName, longPath}
-use Rattle.notation.specs.Form.{formedStep, stepFaults, firstOf}
+use Rattle.notation.specs.Form.{formedStep, stepFaults}
 use Rattle.notation.specs.Layout.{Tables, axisBit, stepEntry, stepLabel, pathEntry}
-use Rattle.notation.specs.Scan.{next, counted, scanned, testEnd, ticked, pathRead, labelRead, orElse}
-use Rattle.notation.specs.Emit.{emitted, withStep, withLabel}
+use Rattle.notation.specs.Code.Scan.{next, counted, scanned, testEnd, ticked, pathRead, labelRead, orElse}
+use Rattle.notation.specs.Code.Emit.{emitted, withStep, withLabel}
 use Rattle.notation.specs.declared.scan.Mode.the-variants.{Slash, Label}
 use Rattle.notation.specs.declared.scan.Tally.{Tally}
+use Rattle.notation.proofs.Laws.Scan.FirstFault.{firstOf}
 use Rattle.notation.proofs.Laws.Scan.Reading.{Reading, reading, placed, readByte, readAll, at-mode}
 use Rattle.notation.proofs.Laws.Scan.Piece.{Piece}
 use Rattle.notation.proofs.Laws.Scan.StepText.{afterSlash, testMode, pending}

@@ -12,8 +12,8 @@ use Rattle.notation.specs.Sets.{Axis, child, descendant, Test, label, st
 use Rattle.notation.specs.Print.{printAxis, printTest, printStep}
 use Rattle.notation.specs.Form.{formedTest, formedStep}
 use Rattle.notation.specs.Layout.{Tables, axisBit}
-use Rattle.notation.specs.Scan.{next, counted, scanned, testStart}
-use Rattle.notation.specs.Emit.{emitted}
+use Rattle.notation.specs.Code.Scan.{next, counted, scanned, testStart}
+use Rattle.notation.specs.Code.Emit.{emitted}
 use Rattle.notation.specs.declared.scan.Mode.{Mode}
 use Rattle.notation.specs.declared.scan.Mode.the-variants.{Slash, Slashes, Label, Star}
 use Rattle.notation.specs.declared.scan.Tally.{Tally}

@@ -5,8 +5,8 @@ use mathlib.Core.List.{List}
 use native.Mathlib.Numerals.{add-one}
 use lib.ListN.{length, getD, drop, drop-of-length-le}
 use lib.Seq.{drop-cons}
-use Rattle.notation.specs.Scan.{scan, scanned}
-use Rattle.notation.specs.Put.{put, putAll}
+use Rattle.notation.specs.Code.Scan.{scan, scanned}
+use Rattle.notation.specs.Code.Put.{put, putAll}
 use Rattle.notation.specs.declared.scan.Scan.{Scan}
 
 pub scan-more : (s : Scan) (text : List ℕ) (i : ℕ) → i < length text → scan s (drop i text) ≡ scan (scanned s (getD text i 0)) (drop (i + 1) text)

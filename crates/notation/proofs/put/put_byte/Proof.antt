@@ -1,6 +1,6 @@
 use Rattle.notation.specs.declared.scan.Mode.{Mode}
-use Rattle.notation.specs.Scan.{counted}
-use Rattle.notation.specs.Put.{Within, put}
+use Rattle.notation.specs.Code.Scan.{counted}
+use Rattle.notation.specs.Code.Put.{Within, put}
 use mathlib.Core.Path.{subst}
 use borrow.Author.Needs.{needs}
 use Rattle.notation.proofs.put.put_byte.Statement.{statement}

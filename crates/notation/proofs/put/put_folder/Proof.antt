@@ -1,5 +1,5 @@
 use Rattle.notation.specs.Layout.{foldersAt, folderSize}
-use Rattle.notation.specs.Put.{putFolder}
+use Rattle.notation.specs.Code.Put.{putFolder}
 use Rattle.notation.specs.Limits.{maxPaths}
 use native.Mathlib.Omega.{arith}
 use borrow.Author.Needs.{needs}

@@ -1,7 +1,7 @@
 use native.Mathlib.Numerals.{towards-suc}
 use mathlib.Core.Path.{_∙_}
 use Rattle.notation.specs.Layout.{labelsAt, labelSize}
-use Rattle.notation.specs.Put.{putLabel}
+use Rattle.notation.specs.Code.Put.{putLabel}
 use Rattle.notation.specs.Limits.{maxLabels}
 use native.Mathlib.Omega.{arith}
 use borrow.Author.Needs.{needs}

@@ -1,5 +1,5 @@
-use Rattle.notation.specs.Scan.{pathRead, labelRead}
-use Rattle.notation.specs.Put.{Within, putTest}
+use Rattle.notation.specs.Code.Scan.{pathRead, labelRead}
+use Rattle.notation.specs.Code.Put.{Within, putTest}
 use native.Mathlib.Omega.{arith}
 use mathlib.Core.Path.{_∙_, sym, ap}
 use borrow.Author.Needs.{needs}

@@ -1,5 +1,5 @@
-use Rattle.notation.specs.Scan.{folderRead}
-use Rattle.notation.specs.Put.{Within}
+use Rattle.notation.specs.Code.Scan.{folderRead}
+use Rattle.notation.specs.Code.Put.{Within}
 use borrow.Author.Tests.{eq-eqb, ne-eqb}
 use native.Mathlib.Omega.{arith}
 use borrow.Author.Needs.{needs}

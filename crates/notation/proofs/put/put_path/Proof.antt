@@ -1,7 +1,7 @@
 use native.Mathlib.Numerals.{towards-suc}
 use mathlib.Core.Path.{_∙_}
 use Rattle.notation.specs.Layout.{pathsAt, pathSize}
-use Rattle.notation.specs.Put.{putPath}
+use Rattle.notation.specs.Code.Put.{putPath}
 use Rattle.notation.specs.Limits.{maxPaths}
 use native.Mathlib.Omega.{arith}
 use borrow.Author.Needs.{needs}

@@ -1,4 +1,4 @@
-use Rattle.notation.specs.Put.{putStep}
+use Rattle.notation.specs.Code.Put.{putStep}
 use Rattle.notation.specs.Limits.{maxPaths, maxSteps}
 use Rattle.notation.specs.Layout.{setSize, stepsAt}
 use mathlib.Core.Path.{refl}

@@ -1,7 +1,7 @@
 use mathlib.Core.Path.{_∙_, ap}
 use Prim.Native.Nat.{_+_, _≤_}
 use Rattle.notation.specs.Limits.{maxPaths, maxSteps}
-use Rattle.notation.specs.Put.{putTest, putPath}
+use Rattle.notation.specs.Code.Put.{putTest, putPath}
 use borrow.Author.Tests.{eq-eqb, ne-eqb}
 use native.Mathlib.Omega.{arith}
 use borrow.Author.Needs.{needs}

@@ -1,12 +1,12 @@
 use Rattle.notation.specs.declared.scan.Scan.{Scan}
-use Rattle.notation.specs.Put.{Within, putAll}
+use Rattle.notation.specs.Code.Put.{Within, putAll}
 use mathlib.Core.Path.{subst, _≡_, refl, _∙_, sym, ap}
 use Rattle.notation.proofs.Laws.Scan.Counts.{within-more}
 use Rattle.notation.proofs.Laws.Scan.Turns.{scan-more, scan-end, put-more, put-end}
 use Rattle.notation.proofs.Laws.Scan.Safe.{safe-start, safe-more, at-more}
 use Rattle.notation.specs.Limits.{maxSetBytes}
-use Rattle.notation.specs.Safe.{Safe}
-use Rattle.notation.specs.Scan.{scan, start}
+use Rattle.notation.specs.Code.Safe.{Safe}
+use Rattle.notation.specs.Code.Scan.{scan, start}
 use lib.ListN.{length, drop, getD}
 use Prim.Native.Nat.{_+_, _≤_, _-_}
 use borrow.Author.Needs.{needs}

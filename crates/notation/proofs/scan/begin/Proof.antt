@@ -1,4 +1,4 @@
-use Rattle.notation.specs.Scan.{start}
+use Rattle.notation.specs.Code.Scan.{start}
 use mathlib.Core.Path.{refl}
 use Rattle.notation.proofs.scan.begin.Statement.{statement}
 use Rattle.notation.proofs.scan.begin.Tie as tie

@@ -1,6 +1,6 @@
 use Rattle.notation.specs.declared.scan.Mode.the-variants.{Header, LineStart, Word, NumberStart, Number, PathOpen, PathStart, Slash, Slashes, Label, Star, PathEnd, LineEnd, LastLine, Done, Bent}
 use Rattle.notation.specs.declared.scan.Mode.{Mode}
-use Rattle.notation.specs.Scan.{isDone}
+use Rattle.notation.specs.Code.Scan.{isDone}
 use Rattle.notation.proofs.scan.Mode.{the-type}
 use denote.Enum.Declared.{tagOf}
 use types.Run.{OneOf, miss}

@@ -1,5 +1,5 @@
 use Rattle.notation.specs.Limits.{maxSetBytes}
-use Rattle.notation.specs.Scan.{refusalOf, ended}
+use Rattle.notation.specs.Code.Scan.{refusalOf, ended}
 use mathlib.Core.Path.{_∙_, ap}
 use borrow.Author.Tests.{lt-ltb, le-ltb}
 use borrow.Author.Needs.{needs}

@@ -3,8 +3,8 @@ use Rattle.notation.proofs.Laws.Scan.Safe.{safe-start, safe-more, at-mo
 use lib.ListN.{getD, length, drop}
 use mathlib.Core.Path.{refl, _∙_, sym, ap, _≡_}
 use Prim.Native.Nat.{_+_, _≤_, _-_}
-use Rattle.notation.specs.Safe.{Safe}
-use Rattle.notation.specs.Scan.{scan, start}
+use Rattle.notation.specs.Code.Safe.{Safe}
+use Rattle.notation.specs.Code.Scan.{scan, start}
 use native.Mathlib.Omega.{arith}
 use borrow.Author.Needs.{needs}
 use Rattle.notation.proofs.scan.run.Statement.{statement}

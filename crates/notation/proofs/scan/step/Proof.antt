@@ -1,5 +1,5 @@
 use Rattle.notation.proofs.Laws.Scan.Safe.{grown}
-use Rattle.notation.specs.Scan.{scanned}
+use Rattle.notation.specs.Code.Scan.{scanned}
 use borrow.Author.Needs.{needs}
 use Rattle.notation.proofs.scan.step.Statement.{statement}
 use Rattle.notation.proofs.scan.step.Tie as tie

@@ -1,5 +1,5 @@
 use Rattle.notation.specs.Limits.{maxPaths, maxLabels}
-use Rattle.notation.specs.Scan.{ended}
+use Rattle.notation.specs.Code.Scan.{ended}
 use mathlib.Core.Path.{_∙_, sym}
 use borrow.Author.Tests.{eq-eqb, ne-eqb, lt-ltb, le-ltb, not-true, not-false}
 use borrow.Author.Needs.{needs}

@@ -1,21 +1,19 @@
 -- `write::write_text`: the two answers, by whether the text fits the buffer.
-use Prim.Native.Nat.{ℕ, _+_, _<_, _≤_}
-use native.Mathlib.Nat.{zero-add}
-use native.Mathlib.Omega.{arith}
+use Prim.Native.Nat.{ℕ, _<_, _≤_}
 use mathlib.Core.Path.{_≡_, _∙_}
 use mathlib.Core.List.{List}
 use lib.ListN.{length}
-use lib.Seq.{sets, sets-eq}
+use lib.Seq.{sets}
 use borrow.Author.Tests.{lt-ltb, le-ltb}
 use Rattle.notation.specs.Reads.{textOf}
-use Rattle.notation.specs.WriteText.{WriteText, writeAnswer, writeBuffer}
+use Rattle.notation.specs.WriteText.{WriteText, textRefusal}
 use Rattle.notation.specs.declared.write.Written.{Written}
 use borrow.Author.Needs.{needs}
 use Rattle.notation.proofs.write.write_text.Statement.{statement}
 use Rattle.notation.proofs.write.write_text.Tie as tie
 
 short : (part before text : List ℕ) → text ≡ textOf part → length before < length text → WriteText part before Written.Short before
-unfolding writeAnswer writeBuffer
+unfolding textRefusal
 short part before text e h =
     let h' : length before < length (textOf part) = rw e at h in
     let t = lt-ltb (length before) (length (textOf part)) h' in
@@ -23,15 +21,11 @@ short part before text e h =
 
 fits : (part before after text : List ℕ) → text ≡ textOf part → length text ≤ length before → after ≡ sets before 0 text
     → WriteText part before (Written.Bytes (length text)) after
-unfolding writeAnswer writeBuffer
+unfolding textRefusal
 fits part before after text e h f =
     let h' : length (textOf part) ≤ length before = rw e at h in
     let t = le-ltb (length before) (length (textOf part)) h' in
-    let room : 0 + length (textOf part) ≤ length before = omega arith in
-    record {
-      answers = rw (t, e);
-      leaves = rw t (f ∙ rw e (sets-eq (textOf part) before 0 room ∙ rw (zero-add (length (textOf part)))));
-    }
+    record { answers = rw (t, e); leaves = rw t (f ∙ rw e) }
 
 text-requires : tie.Need-text-requires
 text-requires c κs = search needs

@@ -14,9 +14,9 @@ use Rattle.notation.proofs.Laws.Refused.Fitting.{Fitting, roomy}
 use Rattle.notation.proofs.Laws.Refused.AcceptedSet.{accepted-fits}
 use Rattle.stored.specs.Automaton.{hashes, maskSize, automatonSize, allLabels, heads, Link, assembled, automatonOf}
 use Rattle.stored.specs.Walkable.{Searchable}
-use Rattle.stored.specs.Fails.{Growing}
-use Rattle.stored.specs.Masks.{withMasks, withStart}
-use Rattle.stored.specs.Passes.{ReadIn, cleared, withChains, withParents, withFails, made}
+use Rattle.stored.specs.Code.Fails.{Growing}
+use Rattle.stored.specs.Code.Masks.{withMasks, withStart}
+use Rattle.stored.specs.Code.Passes.{ReadIn, cleared, withChains, withParents, withFails, made}
 use Rattle.stored.proofs.Laws.Tables.Assembled.{noLink, zeros-assembled}
 use Rattle.stored.proofs.Laws.Building.Accepting.{accepted-full}
 use Rattle.stored.proofs.Laws.Tables.Linking.{chainLinks, wordLinks, word-links, chains-made, chains-searchable, parents-made}

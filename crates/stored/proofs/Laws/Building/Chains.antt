@@ -14,7 +14,7 @@ use Rattle.notation.specs.Sets.{FolderSet}
 use Rattle.notation.specs.Layout.{le16}
 use Rattle.notation.proofs.Laws.Refused.Fitting.{Fitting}
 use Rattle.stored.specs.Automaton.{hashes, maskSize, headsAt, linksAt, linkSize, hash, find, allLabels, hasHash, tabulate, heads, nexts, Link, assembled}
-use Rattle.stored.specs.Chains.{linkedBy, linked, chained}
+use Rattle.stored.specs.Code.Chains.{linkedBy, linked, chained}
 use Rattle.stored.proofs.Laws.Bytes.Tabulate.{find-below, tabulate-length, tabulate-at, tabulate-set, tabulate-constant}
 use Rattle.stored.proofs.Laws.Tables.Goto.{hash-small}
 use Rattle.stored.proofs.Laws.Tables.Assembled.{withNext, noLink, Sized, head-read, head-put, next-put}

@@ -13,7 +13,7 @@ use Rattle.notation.specs.Reads.{word16, labelCount}
 use Rattle.stored.specs.Automaton.{hashes, headsAt, linksAt, linkSize}
 use Rattle.stored.specs.Tables.{headAt, nextAt, sizeOf}
 use Rattle.stored.specs.Walkable.{Searchable}
-use Rattle.stored.specs.Parents.{wordStored}
+use Rattle.stored.specs.Code.Parents.{wordStored}
 use Rattle.theory.proofs.Laws.Basics.{cases}
 
 byte-other : (a : List ℕ) (i v j : ℕ) → (j < i) ⊎ (i + 1 < j) → getD (sets a i (le16 v)) j 0 ≡ getD a j 0

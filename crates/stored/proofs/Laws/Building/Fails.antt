@@ -20,7 +20,7 @@ use Rattle.theory.specs.Prefix.{IsPrefix, failure}
 use Rattle.theory.specs.Walk.{followedBy}
 use Rattle.stored.specs.Automaton.{maskSize, linksAt, linkSize, allLabels, allWords, stateOf, shortened, heads, nexts, Link, link, linksOf, links, assembled}
 use Rattle.stored.specs.Tables.{parentAt, sizeAt, sizeOf}
-use Rattle.stored.specs.Fails.{failTo, failed, failedIf, failedBelow, failedTo}
+use Rattle.stored.specs.Code.Fails.{failTo, failed, failedIf, failedBelow, failedTo}
 use Rattle.theory.proofs.Laws.Basics.{cases}
 use Rattle.theory.proofs.Laws.Keywords.Prefix.{failure-is}
 use Rattle.theory.proofs.Laws.Keywords.Walk.{failure-extends, failure-single}

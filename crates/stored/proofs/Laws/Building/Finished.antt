@@ -8,7 +8,7 @@ use Rattle.notation.specs.Sets.{FolderSet}
 use Rattle.notation.specs.Form.{formed}
 use Rattle.notation.proofs.Laws.Refused.Fitting.{Fitting}
 use Rattle.stored.specs.Automaton.{maskSize, allLabels, heads, links, masks, assembled, automatonOf}
-use Rattle.stored.specs.Masks.{withMasks, withStart}
+use Rattle.stored.specs.Code.Masks.{withMasks, withStart}
 use Rattle.stored.proofs.Laws.Building.Masked.{masks-put}
 use Rattle.stored.proofs.Laws.Building.Started.{start-written}
 use Rattle.stored.proofs.Laws.Tables.Compiled.{automaton-sized}

@@ -15,7 +15,7 @@ use Rattle.notation.specs.Activity.{sameName}
 use Rattle.notation.specs.Reads.{word16, labelCount, labelName}
 use Rattle.stored.specs.Automaton.{hashes, hash, automatonSize, headsAt, linksAt, linkSize}
 use Rattle.stored.specs.Tables.{headAt, nextAt, parentAt, failAt, sizeAt, sizeOf, failOf, follows, gotoFrom, goto, walkFrom, walkOver}
-use Rattle.stored.specs.Fails.{failTo, failed, failedIf, failedBelow, failedTo, Growing}
+use Rattle.stored.specs.Code.Fails.{failTo, failed, failedIf, failedBelow, failedTo, Growing}
 use Rattle.theory.proofs.Laws.Basics.{cases, both}
 use Rattle.stored.proofs.Laws.Tables.Goto.{hash-small}
 use Rattle.stored.proofs.Laws.Tables.Fuel.{fail-state, fail-shorter, over-state}

@@ -8,7 +8,7 @@ use native.Mathlib.Omega.{arith}
 use borrow.Author.Tests.{eq-eqb, ne-eqb, eqb-true}
 use lib.Dec.{eqb}
 use lib.ListN.{getD}
-use Rattle.stored.specs.Masks.{markStep, markSteps, markPath, markPaths, rooted, anyRooted}
+use Rattle.stored.specs.Code.Masks.{markStep, markSteps, markPath, markPaths, rooted, anyRooted}
 use Rattle.stored.proofs.Laws.Tables.Goto.{same-test}
 
 abbrev pub powers : List ℕ

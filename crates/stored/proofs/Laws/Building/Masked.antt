@@ -23,7 +23,7 @@ use Rattle.notation.proofs.Laws.Stored.ReadSteps.{step-read}
 use Rattle.notation.proofs.Laws.Stored.ReadPaths.{path-read}
 use Rattle.stored.specs.Automaton.{maskSize, allSteps, Link, Role, role, rolesFrom, rolesIn, roles, masks, bitBytes, byteOf, assembled}
 use Rattle.stored.specs.Bits.{withBit}
-use Rattle.stored.specs.Masks.{marked, axisMask, markRole, markStep, markSteps, markPath, markPaths, withMasks}
+use Rattle.stored.specs.Code.Masks.{marked, axisMask, markRole, markStep, markSteps, markPath, markPaths, withMasks}
 use Rattle.stored.proofs.Laws.Bytes.Tabulate.{tabulate-length}
 use Rattle.stored.proofs.Laws.Bytes.WithBit.{bits-with}
 use Rattle.stored.proofs.Laws.Tables.Assembled.{Sized, after-set, mask-read, mask-put}

@@ -25,7 +25,7 @@ use Rattle.theory.specs.Walk.{followedBy}
 use Rattle.theory.specs.Prefix.{IsPrefix}
 use Rattle.stored.specs.Automaton.{maskSize, linksAt, linkSize, Link, find, allSteps, allLabels, wordsIn, allWords, sameWord, stateIn, stateOf, shortened, heads, nexts, assembled}
 use Rattle.stored.specs.Tables.{sizeAt, sizeOf, goto}
-use Rattle.stored.specs.Parents.{startsAt, wordStored, labelled, tested, passedBy, passed, parented, outset}
+use Rattle.stored.specs.Code.Parents.{startsAt, wordStored, labelled, tested, passedBy, passed, parented, outset}
 use Rattle.stored.specs.declared.place.Place.{Place}
 use Rattle.theory.proofs.Laws.Basics.{cases, clash}
 use Rattle.stored.proofs.Laws.Bytes.Tabulate.{tabulate-length}

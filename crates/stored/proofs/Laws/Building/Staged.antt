@@ -13,7 +13,7 @@ use Rattle.theory.specs.Words.{name, Word}
 use Rattle.theory.specs.Prefix.{IsPrefix, failure}
 use Rattle.stored.specs.Automaton.{hashes, maskSize, automatonSize, allLabels, allWords, stateOf, shortened, heads, nexts, Link, assembled}
 use Rattle.stored.specs.Tables.{failAt, sizeAt, sizeOf}
-use Rattle.stored.specs.Fails.{Growing}
+use Rattle.stored.specs.Code.Fails.{Growing}
 use Rattle.theory.proofs.Laws.Keywords.Prefix.{failure-is}
 use Rattle.stored.proofs.Laws.Bytes.Tabulate.{tabulate-length}
 use Rattle.stored.proofs.Laws.Tables.Assembled.{nextOf, parentOf, failureOf, lengthOf, noLink, Sized, assembled-length, fail-read, size-read}

@@ -10,7 +10,7 @@ use lib.Seq.{getD-append-seam}
 use Rattle.notation.specs.Names.{within}
 use Rattle.notation.specs.Limits.{maxNumber}
 use Rattle.notation.specs.Sets.{child, descendant, Step, step, Path, folder, FolderSet, axisOf, testOf}
-use Rattle.notation.specs.Form.{every, nonEmpty, formedStep, formedPath, formedFolder, formed, pathsOf, stepsOf}
+use Rattle.notation.specs.Form.{every, nonEmpty, formedStep, formedPath, formedFolder, formed, pathsOf, stepsOf, any}
 use Rattle.notation.specs.Layout.{setPart}
 use Rattle.notation.specs.Reads.{isDescendant, isStar, stepAt, pathCount}
 use Rattle.notation.specs.declared.reads.StepAt.{StepAt}
@@ -18,9 +18,9 @@ use Rattle.notation.proofs.Laws.Refused.Fitting.{Fitting}
 use Rattle.notation.proofs.Laws.Stored.Reads.{paths-read}
 use Rattle.notation.proofs.Laws.Stored.LabelTable.{noStep}
 use Rattle.notation.proofs.Laws.Stored.ReadSteps.{step-read}
-use Rattle.theory.specs.Words.{document, before, any, begins}
+use Rattle.theory.specs.Words.{document, before, begins}
 use Rattle.stored.specs.Automaton.{allSteps, Link, startState, assembled}
-use Rattle.stored.specs.Masks.{rooted, anyRooted, withStart}
+use Rattle.stored.specs.Code.Masks.{rooted, anyRooted, withStart}
 use Rattle.theory.proofs.Laws.Basics.{both, any-is, is-any, clash}
 use Rattle.theory.proofs.Laws.Keywords.Words.{begins-is, is-begins}
 use Rattle.theory.proofs.Laws.Keywords.Labels.{begins-document}

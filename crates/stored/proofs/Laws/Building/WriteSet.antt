@@ -5,22 +5,24 @@ use native.Mathlib.Omega.{arith}
 use mathlib.Core.Path.{_≡_, refl, ap, _∙_, subst}
 use mathlib.Core.List.{List, _++_}
 use lib.ListN.{length, take, drop}
-use lib.Seq.{sets, sets-eq, take-at, drop-at}
+use lib.Seq.{sets-eq, take-at, drop-at}
 use borrow.Author.Tests.{le-ltb}
 use Rattle.notation.specs.Limits.{maxSetBytes}
 use Rattle.notation.specs.Sets.{FolderSet}
+use Rattle.notation.specs.Answers.{value}
 use Rattle.notation.specs.Accepted.{Accepted}
-use Rattle.notation.specs.Reads.{textLen, textOf}
+use Rattle.notation.specs.Judged.{accepts}
+use Rattle.notation.specs.Reads.{textOf}
 use Rattle.notation.proofs.Laws.Refused.Fitting.{Fitting}
 use Rattle.notation.proofs.Laws.Refused.AcceptedSet.{accepted-fits}
-use Rattle.notation.proofs.Laws.Stored.Reads.{text-len, text-read}
+use Rattle.notation.proofs.Laws.Stored.Reads.{text-read}
 use Rattle.stored.specs.Automaton.{automatonSize, allLabels, heads, links, masks, startState, automatonOf}
-use Rattle.stored.specs.RunCalls.{given}
-use Rattle.stored.specs.Build.{Built, SetWritten, writeRefusal, writeAnswer, writeBuffer}
+use Rattle.theory.specs.Order.{first, given}
+use Rattle.stored.specs.Answers.{writtenSays}
+use Rattle.stored.specs.Build.{Built, SetWritten, writeRefusal}
 use Rattle.stored.specs.declared.answers.Written.{Written}
 use Rattle.stored.proofs.Laws.Tables.SetReads.{of-set}
 use Rattle.stored.proofs.Laws.Shapes.BuiltShape.{built-shaped, built-grows}
-use Rattle.stored.proofs.Laws.Building.Built.{built-accepted}
 
 module _ (text : List ℕ) (s : FolderSet) (acc : Accepted text s) (rest : List ℕ) where
   fit : Fitting s
@@ -30,17 +32,12 @@ module _ (text : List ℕ) (s : FolderSet) (acc : Accepted text s) (rest : List 
   unfolding automatonOf
   stored-text = of-set s fit (heads (allLabels s)) (links s) (masks s) (startState s) rest (λ a. textOf a ≡ text) (λ more. text-read s fit more ∙ acc .prints)
 
-  stored-length : textLen (automatonOf s ++ rest) ≡ length text
-  unfolding automatonOf
-  stored-length =
-      of-set s fit (heads (allLabels s)) (links s) (masks s) (startState s) rest (λ a. textLen a ≡ length text) (λ more. text-len s fit more ∙ ap length (acc .prints))
-
   text-short : length text ≤ maxSetBytes
   text-short = rw (← acc .prints) (fit .bytes)
 
   module _ (out : List ℕ) (room : maxSetBytes ≤ length out) where
     none-refused : writeRefusal (automatonOf s ++ rest) out ≡ 0
-    unfolding writeRefusal given
+    unfolding writeRefusal given first
     none-refused =
         rw (
           le-ltb (length (automatonOf s ++ rest)) automatonSize (built-grows s fit (acc .paths) rest .room),
@@ -50,20 +47,13 @@ module _ (text : List ℕ) (s : FolderSet) (acc : Accepted text s) (rest : List 
 
     module _ (answer : Written) (after : List ℕ) (w : SetWritten (automatonOf s ++ rest) out answer after) where
       -- the text's length
-      pub written-length : answer ≡ Written.Bytes (length text)
-      written-length =
-          w .answers
-          ∙ ap (λ (r : ℕ). writeAnswer r (textLen (automatonOf s ++ rest))) none-refused
-          ∙ ap (λ (n : ℕ). Written.Bytes n) stored-length
+      pub written-length : writtenSays answer ≡ value (length text)
+      written-length = w .answers ∙ rw (none-refused, stored-text)
 
       written-bytes : after ≡ text ++ drop (length text) out
       written-bytes =
           let fits : 0 + length text ≤ length out = omega (arith, text-short) in
-          w .leaves
-          ∙ ap (λ (r : ℕ). writeBuffer r (automatonOf s ++ rest) out) none-refused
-          ∙ ap (λ (l : List ℕ). sets out 0 l) stored-text
-          ∙ sets-eq text out 0 fits
-          ∙ ap (λ (n : ℕ). text ++ drop n out) (zero-add (length text))
+          w .leaves ∙ rw (none-refused, stored-text) (sets-eq text out 0 fits ∙ ap (λ (n : ℕ). text ++ drop n out) (zero-add (length text)))
 
       -- its bytes, and those past it as they were
       pub written-text : take (length text) after ≡ text
@@ -75,5 +65,4 @@ module _ (text : List ℕ) (s : FolderSet) (acc : Accepted text s) (rest : List 
       -- a build of them gives the same automaton
       pub built-again : (before final : List ℕ) (r : ℕ) → automatonSize ≤ length before → Built (take (length text) after) before r final
           → (r ≡ 0) × (final ≡ automatonOf s ++ drop automatonSize before)
-      built-again before final r h b =
-          built-accepted text before final r (subst (λ (l : List ℕ). Built l before r final) written-text b) h s acc
+      built-again before final r h b = subst (λ (l : List ℕ). Built l before r final) written-text b .judged h (accepts s) acc

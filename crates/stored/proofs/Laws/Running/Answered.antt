@@ -1,25 +1,14 @@
--- The answers of the asking calls by their refusals, and a folder's paths one by one.
-use Prim.Native.Nat.{ℕ, zero, suc, _+_, _-_, _≤_, _<_}
-use mathlib.Core.Path.{_≡_, refl}
+-- What the asking calls find: a folder's paths one by one, and what is within.
+use Prim.Native.Nat.{ℕ, suc, _+_, _-_, _≤_, _<_}
+use mathlib.Core.Path.{_≡_}
 use mathlib.Core.Bool.{Bool, true, false}
 use native.Mathlib.Omega.{arith}
 use lib.Dec.{leb}
 use borrow.Author.Tests.{leb-true}
 use Rattle.notation.specs.Names.{within}
-use Rattle.theory.specs.Words.{any}
+use Rattle.notation.specs.Form.{any}
 use Rattle.theory.specs.Folders.{countFrom}
-use Rattle.stored.specs.Asking.{answered, measured}
-use Rattle.stored.specs.declared.answers.Asked.{Asked}
-use Rattle.stored.specs.declared.answers.Length.{Length}
 use Rattle.theory.proofs.Laws.Basics.{both}
-
-pub refused-asked : (r : ℕ) (b : Bool) → (r ≡ 0 → ⊥) → Asked.Refused r ≡ answered r b
-refused-asked zero b h = absurd (h refl)
-refused-asked (suc r) b h = refl
-
-pub refused-length : (r n : ℕ) → (r ≡ 0 → ⊥) → Length.Refused r ≡ measured r n
-refused-length zero n h = absurd (h refl)
-refused-length (suc r) n h = refl
 
 -- of the numbers from `first + i` on, `left` of them
 pub any-none : (f : ℕ → Bool) (first i left : ℕ) → left ≡ 0 → any f (countFrom (first + i) left) ≡ false

@@ -12,8 +12,10 @@ use lib.Seq.{take-length}
 use Rattle.notation.specs.Limits.{maxPaths, maxSteps}
 use Rattle.notation.specs.Names.{Name, within}
 use Rattle.notation.specs.Sets.{Path, FolderSet, folderNumber, folderPaths}
-use Rattle.notation.specs.Form.{pathsOf}
+use Rattle.notation.specs.Form.{pathsOf, any}
 use Rattle.notation.specs.Print.{print}
+use Rattle.notation.specs.Refusals.{numberOf, noSuchPlace}
+use Rattle.notation.specs.Answers.{Answer, refused, value, said}
 use Rattle.notation.specs.Activity.{active}
 use Rattle.notation.specs.Reads.{pathAt, folderAt, folderOf, folderIndex}
 use Rattle.notation.specs.declared.PathPlace.{PathPlace}
@@ -25,15 +27,13 @@ use Rattle.notation.proofs.Laws.Stored.FolderTable.{noFolder, pathsBefore, path
 use Rattle.notation.proofs.Laws.Stored.ReadPaths.{PathRead, path-read, path-missing}
 use Rattle.notation.proofs.Laws.Stored.ReadFolders.{folder-read, folder-of-read}
 use Rattle.theory.specs.Prefix.{prefixOf}
-use Rattle.theory.specs.Words.{any}
 use Rattle.theory.specs.Folders.{countFrom, placesFrom, folderMatched}
+use Rattle.theory.specs.Order.{first, given}
 use Rattle.theory.specs.Calls.{State, openNames, activeStep}
 use Rattle.stored.specs.Automaton.{maskSize}
 use Rattle.stored.specs.Run.{runOf}
-use Rattle.stored.specs.RunCalls.{depthOf, storedName, activeAt, given}
-use Rattle.stored.specs.Asking.{askRefusal, yesNo, answered, hasPath, placeMatched, askPath, hasFolder, indexPaths, askFolder, askStep, askPrefix, nameRefusal, askName}
-use Rattle.stored.specs.declared.answers.Asked.{Asked}
-use Rattle.stored.specs.declared.answers.Length.{Length}
+use Rattle.stored.specs.RunCalls.{depthOf, storedName, activeAt}
+use Rattle.stored.specs.Asking.{askRefusal, hasPath, placeMatched, askPath, hasFolder, indexPaths, askFolder, askStep, askPrefix, nameRefusal, askName}
 use Rattle.theory.proofs.Laws.Basics.{cases}
 use Rattle.theory.proofs.Laws.Keywords.Prefix.{current-prefix}
 use Rattle.theory.proofs.Laws.Machine.Sound.{Sound}
@@ -45,8 +45,8 @@ use Rattle.stored.proofs.Laws.Shapes.Passing.{names-length, names-deep,
 use Rattle.stored.proofs.Laws.Running.FolderPlaces.{hasNumber, Placed, missing, at, placed}
 
 -- the answer where it is there, else 13
-abbrev pub asked : Bool → Bool → Asked
-asked there b = cond there (yesNo b) (Asked.Refused 13)
+abbrev pub asked : Bool → Bool → Answer Bool
+asked there b = cond there (value b) (refused (numberOf noSuchPlace))
 
 any-same : (f g : ℕ → Bool) (first n : ℕ) → ((i : ℕ) → first ≤ i → i < first + n → f i ≡ g i) → any f (countFrom first n) ≡ any g (countFrom first n)
 unfolding any countFrom
@@ -79,12 +79,12 @@ module _ (s : FolderSet) (a : List ℕ) (m : Means s a) (st : State) (few : Few 
   run = runOf s st ++ rest
 
   -- only 13 is left
-  ask-refused : (there : Bool) → askRefusal a run there ≡ cond there 0 13
-  unfolding askRefusal given
+  ask-refused : (there : Bool) → askRefusal a run there ≡ cond there 0 (numberOf noSuchPlace)
+  unfolding askRefusal given first
   ask-refused true = rw (long-enough s a m st few rest, m .shaped, run-shaped s a m st few rest)
   ask-refused false = rw (long-enough s a m st few rest, m .shaped, run-shaped s a m st few rest)
 
-  answer-is : (there b c : Bool) → (there ≡ true → b ≡ c) → answered (askRefusal a run there) b ≡ asked there c
+  answer-is : (there b c : Bool) → (there ≡ true → b ≡ c) → said (askRefusal a run there) b ≡ asked there c
   answer-is true b c h = rw (ask-refused true, h refl)
   answer-is false b c h = rw (ask-refused false)
 
@@ -125,7 +125,7 @@ module _ (s : FolderSet) (a : List ℕ) (m : Means s a) (st : State) (few : Few 
       let e : folderOf a number ≡ folderIndex (number .0) 0 s = rw (m .stored) (folder-of-read s (m .fit) (m .more) number) in
       rw e (go (placed 0 0 0 (number .0) s (m .rising)))
     where
-      go : Placed 0 0 (number .0) s → answered (askRefusal a run (hasFolder (folderIndex (number .0) 0 s))) (any (placeMatched a run) (indexPaths a (folderIndex (number .0) 0 s))) ≡ asked (hasNumber s (number .0)) (any (st .matched) (placesFrom 0 s (number .0)))
+      go : Placed 0 0 (number .0) s → said (askRefusal a run (hasFolder (folderIndex (number .0) 0 s))) (any (placeMatched a run) (indexPaths a (folderIndex (number .0) 0 s))) ≡ asked (hasNumber s (number .0)) (any (st .matched) (placesFrom 0 s (number .0)))
       go (missing f x y) = rw (f, x) (answer-is false (any (placeMatched a run) []) false (λ t. none-any (placeMatched a run)))
       go (at i f l x y) =
           let first = pathsBefore s i in
@@ -161,7 +161,7 @@ module _ (s : FolderSet) (a : List ℕ) (m : Means s a) (st : State) (few : Few 
       (λ t. rw (t, path-gone i (ltb-false i (length ps) t)) (answer-is false false (activeStep s st i k) (λ w. absurd (let z : _≡_ {A = ℕ} 0 1 = cc in omega arith))))
 
   -- the length of the current prefix
-  pub ask-prefix : askPrefix a run ≡ Length.Symbols (length (st .current))
+  pub ask-prefix : askPrefix a run ≡ value (length (st .current))
   unfolding askPrefix
   ask-prefix =
       rw (
@@ -175,7 +175,7 @@ module _ (s : FolderSet) (a : List ℕ) (m : Means s a) (st : State) (few : Few 
       )
 
   -- the open name at a depth
-  pub ask-name-refused : (d : ℕ) → nameRefusal a run d ≡ cond (within 1 (length names) d) 0 13
+  pub ask-name-refused : (d : ℕ) → nameRefusal a run d ≡ cond (within 1 (length names) d) 0 (numberOf noSuchPlace)
   unfolding nameRefusal
   ask-name-refused d = rw (stored-depth s a m st few rest, ← names-length s st g) (ask-refused (within 1 (length names) d))
 

@@ -1,9 +1,10 @@
 -- Demand 3, whole: of every accepted set, every buffer and every list of calls.
 use Prim.Native.Nat.{ℕ, _+_, _≤_, _<_, pred}
-use mathlib.Core.Path.{_≡_, refl, sym, _∙_, ap, subst}
+use mathlib.Core.Path.{_≡_, refl, sym, _∙_, ap, ap₂, subst}
 use mathlib.Core.Bool.{Bool, true, false, _&&_, cond}
 use mathlib.Core.Logic.{_↔_}
-use mathlib.Core.List.{List, [], _∷_, _++_, map, List·Memᴰ, List·Memᴰ·not-nil}
+use mathlib.Core.Option.{Option, none, some}
+use mathlib.Core.List.{List, [], _∷_, _++_, List·Memᴰ, List·Memᴰ·not-nil}
 use native.Mathlib.Omega.{arith}
 use borrow.Author.Tests.{ltb-true, ltb-false, lt-ltb, le-ltb, le-leb, eqb-true, eq-eqb}
 use lib.Dec.{ltb, eqb}
@@ -11,33 +12,46 @@ use lib.ListN.{length, getD, drop, List·getD-eq-default}
 use Rattle.notation.specs.Names.{Name, within}
 use Rattle.notation.specs.Sets.{FolderSet, folderNumber}
 use Rattle.notation.specs.Form.{pathsOf}
+use Rattle.notation.specs.Answers.{Answer, value, said}
+use Rattle.notation.proofs.Laws.Said.{said-refused}
+use Rattle.notation.proofs.Laws.Refused.Numbers.{some-number}
 use Rattle.notation.specs.Fit.{nameAt, Active}
 use Rattle.notation.specs.Accepted.{Accepted}
+use Rattle.notation.specs.Refusals.{Refusal, numberOf}
 use Rattle.notation.specs.declared.PathPlace.{PathPlace}
 use Rattle.notation.specs.declared.FolderNumber.{FolderNumber}
-use Rattle.theory.specs.Calls.{asLeft, Call, openCall, State, openNames, pathAt, activeStep, run}
+use Rattle.theory.specs.Prefix.{prefixOf}
+use Rattle.theory.specs.Walk.{movesOf, walk}
+use Rattle.theory.specs.Order.{first, numberIn, given}
+use Rattle.theory.specs.Calls.{asLeft, Call, openCall, closeCall, State, openNames, pathAt, activeStep, refusal, run}
 use Rattle.theory.specs.History.{stillOpen, FittedAfterOpen, opensOf, SameAnswers}
+use Rattle.theory.specs.Moves.{OpenMoves}
 use Rattle.theory.specs.Folders.{placesOf, folderMatched}
 use Rattle.stored.specs.Automaton.{automatonSize, automatonOf}
 use Rattle.stored.specs.Run.{runSize, runOf}
-use Rattle.stored.specs.RunCalls.{given, startRefusal}
+use Rattle.stored.specs.Answers.{openedSays}
+use Rattle.stored.specs.RunCalls.{startRefusal, openRefusal, openWalk, closeRefusal}
+use Rattle.stored.specs.RunContracts.{Opens, Closes}
 use Rattle.stored.specs.Asking.{askPath, askFolder, askStep, askPrefix, nameRefusal, askName}
-use Rattle.stored.specs.Demand3.{Made, openAsLeft, callsOf, leftBy, Answers, HasFolder, HasMatchedPath, StepThere, PrefixAnswered, SameAsked, Demand3}
-use Rattle.stored.specs.declared.answers.Asked.{Asked}
-use Rattle.stored.specs.declared.answers.Length.{Length}
+use Rattle.stored.specs.Demand3.{Made, madeOpen, madeClose, callsOf, Left, started, Calls, OpenAnswered, isRefused, isAccepted, Answers, HasFolder, HasMatchedPath, StepThere, PrefixAnswered, SameAsked, Holds, Demand3}
+use Rattle.stored.specs.declared.counters.Counters.{Counters}
+use Rattle.stored.specs.declared.answers.Opened.{Opened}
 use Rattle.theory.proofs.Laws.Basics.{cases, clash, both-true, any-is, is-any}
 use Rattle.theory.proofs.Laws.Machine.Matches.{run-matched, run-matched-there}
 use Rattle.theory.proofs.Laws.Machine.Moves.{Few}
+use Rattle.theory.proofs.Laws.Machine.History.{run-names-told}
+use Rattle.theory.proofs.Laws.Machine.MovesTold.{open-moves}
 use Rattle.theory.proofs.Laws.Machine.Whole.{whole}
 use Rattle.theory.proofs.Laws.Machine.Folders.{folder-matched}
 use Rattle.stored.proofs.Laws.Running.Means.{Means, means}
 use Rattle.stored.proofs.Laws.Shapes.Passing.{open-refused, close-refused}
 use Rattle.stored.proofs.Laws.Running.FolderPlaces.{hasNumber, Placed, missing, at, placed}
 use Rattle.stored.proofs.Laws.Running.Asking.{asked, within-out, ask-path, ask-folder, ask-step, ask-prefix, ask-name-refused, ask-name}
-use Rattle.stored.proofs.Laws.Running.Following.{leftOf, left-by, few-run}
+use Rattle.stored.proofs.Laws.Running.MadeCalls.{calls-split, split-open, split-close}
+use Rattle.stored.proofs.Laws.Running.Following.{leftOf, opened-moves, left-by, few-run}
 
 -- a computed answer says what it is of
-answers-from : (there holds : Type 0) (answer : Asked) (tb hb : Bool) → answer ≡ asked tb hb → (tb ≡ true) ↔ there → (hb ≡ true) ↔ holds → (holds → there) → Answers there holds answer
+answers-from : (there holds : Type 0) (answer : Answer Bool) (tb hb : Bool) → answer ≡ asked tb hb → (tb ≡ true) ↔ there → (hb ≡ true) ↔ holds → (holds → there) → Answers there holds answer
 answers-from there holds answer true true e t h i = record {
   yes = (λ p. h .0 refl, λ p. e);
   no = (λ p. absurd (let z : _≡_ {A = ℕ} 0 1 = cc in omega arith), λ p. absurd (p .1 (h .0 refl)));
@@ -57,10 +71,6 @@ answers-from there holds answer false false e t h i = record {
 
 below-is : (i n : ℕ) → (ltb i n ≡ true) ↔ (i < n)
 below-is i n = (ltb-true i n, lt-ltb i n)
-
-calls-opens : (names : List Name) → callsOf (map openAsLeft names) ≡ opensOf names
-calls-opens [] = refl
-calls-opens (n ∷ names) = ap (λ (l : List Call). openCall asLeft n ∷ l) (calls-opens names)
 
 within-in : (k n : ℕ) → 1 ≤ k → k ≤ n → within 1 n k ≡ true
 within-in k n lo hi = both-true (le-leb 1 k lo) (le-leb k n hi)
@@ -90,7 +100,7 @@ module _ (s : FolderSet) (a : List ℕ) (m : Means s a) (rest : List ℕ) (calls
       answers-from (i < length (pathsOf s)) (FittedAfterOpen s calls i) (askPath a bytes place) (ltb i (length (pathsOf s))) (st .matched i)
       (ask-path s a m st few rest place) (below-is i (length (pathsOf s))) (run-matched s calls i) (λ f. run-matched-there s calls i (run-matched s calls i .1 f))
 
-  place-yes : (i : ℕ) → (askPath a bytes (record { 0 = i }) ≡ Asked.Yes) ↔ (st .matched i ≡ true)
+  place-yes : (i : ℕ) → (askPath a bytes (record { 0 = i }) ≡ value true) ↔ (st .matched i ≡ true)
   place-yes i = let p = path-answers (record { 0 = i }) in (λ e. run-matched s calls i .1 (p .yes .0 e), λ e. p .yes .1 (run-matched s calls i .0 e))
 
   has-folder : (number : ℕ) → (hasNumber s number ≡ true) ↔ HasFolder s number
@@ -162,41 +172,88 @@ module _ (s : FolderSet) (a : List ℕ) (m : Means s a) (rest more : List ℕ) (
             ask-step s a m (run s calls) f rest place k
             ∙ ap (λ (b : Bool). asked (ltb (place .0) (length (pathsOf s)) && within 1 (length (getD (pathsOf s) (place .0) [])) k) b) (same .steps (place .0) k)
             ∙ sym (ask-step s a m (run s others) g more place k);
-        prefix = ask-prefix s a m (run s calls) f rest ∙ ap (λ w. Length.Symbols (length w)) (same .prefix) ∙ sym (ask-prefix s a m (run s others) g more);
+        prefix = ask-prefix s a m (run s calls) f rest ∙ ap (λ w. value (length w)) (same .prefix) ∙ sym (ask-prefix s a m (run s others) g more);
       }
 
+-- an open's answer by the machine's refusal
+open-answer : (s : FolderSet) (before : List Call) (e : Name) (o : Option Refusal) (moves : ℕ) → refusal (run s before) (openCall asLeft e) ≡ o
+    → OpenMoves s (stillOpen s before) e moves → OpenAnswered s before e (said (numberIn o) moves)
+open-answer s before e none moves is m = isAccepted is m
+open-answer s before e (some r) moves is m = rw (said-refused (numberOf r) moves (some-number r)) (isRefused is)
+
+module _ (s : FolderSet) (a : List ℕ) (m : Means s a) (buffer : List ℕ) where
+  -- what calls answer, lent what the calls before left
+  open-answers : (before : List Made) (u v : Left) (e : Name) (answer : Opened) → Calls a (started a buffer) before u → Opens a (u .bytes) (u .counters) e answer (v .bytes) (v .counters)
+      → OpenAnswered s (callsOf before) e (openedSays answer)
+  open-answers before u v e answer c o =
+      let st = run s (callsOf before) in
+      let few = few-run s (callsOf before) in
+      let rest = drop runSize buffer in
+      let k = movesOf (walk s (st .current) e) in
+      let is : openedSays answer ≡ said (numberIn (refusal st (openCall asLeft e))) k =
+      o .answers
+      ∙ ap (λ (x : Left). said (openRefusal a (x .bytes) (x .counters) e) (openWalk a (x .bytes) e .moves)) (left-by s a m buffer c)
+      ∙ rw (open-refused s a m st few rest asLeft e, opened-moves s a m rest st few e) in
+      subst (OpenAnswered s (callsOf before) e) (sym is) (open-answer s (callsOf before) e (refusal st (openCall asLeft e)) k refl (open-moves s (stillOpen s (callsOf before)) (st .current) e (few .0 .prefix ∙ ap (prefixOf s) (run-names-told s (callsOf before)))))
+
+  close-answers : (before : List Made) (u v : Left) (e : Name) (answer : ℕ) → Calls a (started a buffer) before u → Closes a (u .bytes) (u .counters) e answer (v .bytes) (v .counters)
+      → answer ≡ numberIn (refusal (run s (callsOf before)) (closeCall asLeft e))
+  close-answers before u v e answer c o =
+      let st = run s (callsOf before) in
+      o .answers
+      ∙ ap (λ (x : Left). closeRefusal a (x .bytes) (x .counters) e) (left-by s a m buffer c)
+      ∙ close-refused s a m st (few-run s (callsOf before)) (drop runSize buffer) asLeft e
+
+  holds : (made : List Made) (t : Left) → Calls a (started a buffer) made t → Holds s a made (callsOf made) (stillOpen s (callsOf made)) t
+  holds made t c =
+      let calls = callsOf made in
+      let rest = drop runSize buffer in
+      let e : t ≡ leftOf s rest (run s calls) = left-by s a m buffer c in
+      let w = whole s calls in
+      record {
+        openAnswers = λ before later n answer is.
+            let d : Calls a (started a buffer) (before ++ (madeOpen asLeft n answer ∷ later)) t = rw is c in
+            let (u, front, back) = calls-split a before d in
+            let (v, o) = split-open a back in
+            open-answers before u v n answer front o;
+        closeAnswers = λ before later n answer is.
+            let d : Calls a (started a buffer) (before ++ (madeClose asLeft n answer ∷ later)) t = rw is c in
+            let (u, front, back) = calls-split a before d in
+            let (v, o) = split-close a back in
+            close-answers before u v n answer front o;
+        paths = λ place. rw e (path-answers s a m rest calls place);
+        folders = λ number. rw e (folder-answers s a m rest calls number);
+        names = λ d lo hi. rw e (name-answers s a m rest calls d lo hi);
+        noNames = λ d h. rw e (no-name-answers s a m rest calls d h);
+        steps = λ place k. rw e (step-answers s a m rest calls place k);
+        prefix = rw e (prefix-answers s a m rest calls);
+        replayed = λ other again u is d.
+            let more : u ≡ leftOf s (drop runSize other) (run s (opensOf (stillOpen s calls))) = rw is at (left-by s a m other d) in
+            rw (e, more) (same-asked s a m rest (drop runSize other) calls (opensOf (stillOpen s calls)) (w .replayed));
+        balance = rw e (w .balance ∙ ap (λ (l : List Name). run s calls .closes + length l) (w .names));
+        opens = rw e refl;
+        closes = rw e refl;
+        opensTold = rw e (w .opens);
+        closesTold = rw e (w .closes);
+        moves = rw e refl;
+        movesTold = rw e (w .movesTold);
+        movesMost = rw e (w .moves);
+      }
+
+-- a start on it is accepted
+pub start-accepted : (s : FolderSet) (a : List ℕ) → Means s a → (buffer : List ℕ) → runSize ≤ length buffer → startRefusal a buffer ≡ 0
+unfolding startRefusal given first
+start-accepted s a m buffer long = rw (le-ltb (length a) automatonSize (m .long), le-ltb (length buffer) runSize long, m .shaped)
+
 -- with all that a run needs of its automaton
-pub demand3-means : (s : FolderSet) (a : List ℕ) → Means s a → (buffer : List ℕ) → runSize ≤ length buffer → (made : List Made) → Demand3 s a buffer made
-unfolding startRefusal given
-demand3-means s a m buffer long made =
-    let calls = callsOf made in
-    let rest = drop runSize buffer in
-    let e : leftBy a buffer made ≡ leftOf s rest (run s calls) = left-by s a m buffer made in
-    let w = whole s calls in
+pub demand3-means : (s : FolderSet) (a : List ℕ) → Means s a → (buffer : List ℕ) → runSize ≤ length buffer → Demand3 s a buffer
+demand3-means s a m buffer long =
+    let ok = start-accepted s a m buffer long in
     record {
-      starts = rw (le-ltb (length a) automatonSize (m .long), le-ltb (length buffer) runSize long, m .shaped);
-      openRefusals = λ before later n is. rw (left-by s a m buffer before) (open-refused s a m (run s (callsOf before)) (few-run s (callsOf before)) rest asLeft n);
-      closeRefusals = λ before later n is. rw (left-by s a m buffer before) (close-refused s a m (run s (callsOf before)) (few-run s (callsOf before)) rest asLeft n);
-      paths = λ place. rw e (path-answers s a m rest calls place);
-      folders = λ number. rw e (folder-answers s a m rest calls number);
-      names = λ d lo hi. rw e (name-answers s a m rest calls d lo hi);
-      noNames = λ d h. rw e (no-name-answers s a m rest calls d h);
-      steps = λ place k. rw e (step-answers s a m rest calls place k);
-      prefix = rw e (prefix-answers s a m rest calls);
-      replayed = λ other.
-          let again : leftBy a other (map openAsLeft (stillOpen s calls)) ≡ leftOf s (drop runSize other) (run s (opensOf (stillOpen s calls))) =
-          left-by s a m other (map openAsLeft (stillOpen s calls)) ∙ ap (λ (l : List Call). leftOf s (drop runSize other) (run s l)) (calls-opens (stillOpen s calls)) in
-          rw (e, again) (same-asked s a m rest (drop runSize other) calls (opensOf (stillOpen s calls)) (w .replayed));
-      balance = rw e (w .balance ∙ ap (λ (l : List Name). run s calls .closes + length l) (w .names));
-      opens = rw e refl;
-      closes = rw e refl;
-      opensTold = rw e (w .opens);
-      closesTold = rw e (w .closes);
-      moves = rw e refl;
-      movesMost = rw e (w .moves);
+      starts = λ c answer t h. (h .answers ∙ ok, ap₂ (λ (x : List ℕ) (y : Counters). record { bytes = x; counters = y }) (rw ok at (h .runAfter)) (rw ok at (h .countersAfter)));
+      calls = holds s a m buffer;
     }
 
--- of every accepted set, whatever stands behind its automaton, every buffer of the size of a run or more, and every list of calls
-pub demand3 : (text : List ℕ) (s : FolderSet) → Accepted text s → (rest : List ℕ) (buffer : List ℕ) → runSize ≤ length buffer
-    → (made : List Made) → Demand3 s (automatonOf s ++ rest) buffer made
-demand3 text s accepted rest buffer long made = demand3-means s (automatonOf s ++ rest) (means text s accepted rest) buffer long made
+-- of every accepted set, whatever stands behind its automaton, and every buffer of the size of a run or more
+pub demand3 : (text : List ℕ) (s : FolderSet) → Accepted text s → (rest buffer : List ℕ) → runSize ≤ length buffer → Demand3 s (automatonOf s ++ rest) buffer
+demand3 text s accepted rest buffer long = demand3-means s (automatonOf s ++ rest) (means text s accepted rest) buffer long

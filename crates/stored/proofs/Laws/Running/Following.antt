@@ -2,31 +2,29 @@
 use Prim.Native.Nat.{ℕ, suc, _<_}
 use mathlib.Core.Path.{_≡_, refl, sym, _∙_, ap, ap₂, subst}
 use mathlib.Core.Bool.{_||_}
-use mathlib.Core.Option.{Option, none, some}
 use mathlib.Core.List.{List, [], _∷_, _++_, map, reverse-cons, List·Memᴰ·head, Memᴰ·append-right}
 use native.Mathlib.Omega.{arith}
 use native.Mathlib.Numerals.{add-one}
 use borrow.Author.Tests.{leb-false}
-use lib.Dec.{eqb}
 use lib.ListN.{length, getD, drop, length-append}
 use Rattle.notation.specs.Limits.{maxName}
 use Rattle.notation.specs.Names.{Name}
 use Rattle.notation.specs.Sets.{FolderSet}
 use Rattle.notation.specs.Form.{pathsOf}
-use Rattle.notation.specs.Refusals.{Refusal, shortBuffer, oversize, bentForm, outOfTurn, longName, longPath, full, foreignByte, torn, looseEnd, tooDeep, crossed, noSuchPlace, strangeShape}
 use Rattle.notation.specs.Activity.{fits}
 use Rattle.theory.specs.Limits.{maxDepth}
 use Rattle.theory.specs.Words.{Word}
 use Rattle.theory.specs.Walk.{movesOf, walk}
-use Rattle.theory.specs.Order.{isNone, numberIn}
+use Rattle.theory.specs.Order.{isNone}
 use Rattle.theory.specs.Calls.{asLeft, otherwise, Call, openCall, closeCall, Level, nameOf, State, namesOf, openNames, fresh, opened, closedFrom, closed, refusal, accepted, step, after}
 use Rattle.theory.specs.Calls as machine
 use Rattle.stored.specs.Run.{runSize, runWith, runOf}
 use Rattle.stored.specs.RunCalls.{openWalk, openRun, openCounters, closeRun, closeCounters, noCounters}
-use Rattle.stored.specs.Demand3.{Made, openAsLeft, closeAsLeft, openOther, closeOther, callOf, callsOf, Left, leaves, leftAfter, leftBy}
+use Rattle.stored.specs.Demand3.{Made, callsOf, Left, started, Calls}
 use Rattle.stored.specs.declared.counters.Counters.{Counters}
 use Rattle.stored.specs.declared.walk.Walk.{Walk}
 use Rattle.theory.proofs.Laws.Basics.{cases}
+use Rattle.theory.proofs.Laws.Machine.Order.{number-none}
 use Rattle.theory.proofs.Laws.Machine.Calls.{Openable, open-accepted, Closable, close-accepted, lent-otherwise-open, lent-otherwise-close, always}
 use Rattle.theory.proofs.Laws.Machine.Steps.{step-refused}
 use Rattle.theory.proofs.Laws.Machine.Sound.{Sound}
@@ -35,6 +33,7 @@ use Rattle.stored.proofs.Laws.Running.RunBytes.{Short}
 use Rattle.stored.proofs.Laws.Running.Means.{Means}
 use Rattle.stored.proofs.Laws.Running.Opening.{short-close, open-walk, open-run, close-run}
 use Rattle.stored.proofs.Laws.Running.Starting.{start-run}
+use Rattle.stored.proofs.Laws.Running.MadeCalls.{leaves, leftAfter, calls-left}
 use Rattle.stored.proofs.Laws.Shapes.Passing.{countersOf, names-length, names-deep, names-short, open-refused, close-refused}
 
 -- the run's bytes and the counters of a state; `rest` are the bytes behind the run
@@ -48,24 +47,6 @@ few-step s st call f = always s (Few s) (open-few s) (close-few s) (call ∷ [])
 
 pub few-after : (s : FolderSet) (calls : List Call) (st : State) → Few s st [] → Few s (after s st calls) []
 few-after s calls st f = always s (Few s) (open-few s) (close-few s) calls st [] f
-
--- every refusal has a number
-pub number-none : (o : Option Refusal) → eqb (numberIn o) 0 ≡ isNone o
-number-none none = refl
-number-none (some shortBuffer) = refl
-number-none (some oversize) = refl
-number-none (some bentForm) = refl
-number-none (some outOfTurn) = refl
-number-none (some longName) = refl
-number-none (some longPath) = refl
-number-none (some full) = refl
-number-none (some foreignByte) = refl
-number-none (some torn) = refl
-number-none (some looseEnd) = refl
-number-none (some tooDeep) = refl
-number-none (some crossed) = refl
-number-none (some noSuchPlace) = refl
-number-none (some strangeShape) = refl
 
 pub accepted-asked : (st : State) (e : Name) → accepted st (openCall asLeft e) ≡ isNone (refusal st (openCall asLeft e))
 unfolding accepted
@@ -90,12 +71,14 @@ module _ (s : FolderSet) (a : List ℕ) (m : Means s a) (rest : List ℕ) where
         open-run s a m names (st .matched) (omega (arith, names-length s st g, o .shallow)) (names-short s st g) rest e (omega (arith, leb-false (suc maxName) (length e) (o .short)))
         ∙ ap (λ (l : List Name). runWith s l (λ place. st .matched place || fits (getD (pathsOf s) place []) l) ++ rest) (sym (reverse-cons e (map nameOf (st .levels))))
 
+    -- its failure moves are those of the walk
+    pub opened-moves : (e : Name) → openWalk a (runOf s st ++ rest) e .moves ≡ movesOf (walk s (st .current) e)
+    opened-moves e =
+        ap (λ (x : Walk). x .moves) (open-walk s a m names (names-deep s st g) (names-short s st g) rest (st .matched) e) ∙ ap (λ (v : Word). movesOf (walk s v e)) (sym (g .prefix))
+
     opened-counters : (e : Name) → openCounters a (runOf s st ++ rest) (countersOf st) e ≡ countersOf (opened s st e)
     unfolding openCounters opened
-    opened-counters e =
-        let w : openWalk a (runOf s st ++ rest) e .moves ≡ movesOf (walk s (st .current) e) =
-        ap (λ (x : Walk). x .moves) (open-walk s a m names (names-deep s st g) (names-short s st g) rest (st .matched) e) ∙ ap (λ (v : Word). movesOf (walk s v e)) (sym (g .prefix)) in
-        rw (add-one (st .opens), w)
+    opened-counters e = rw (add-one (st .opens), opened-moves e)
 
     -- an accepted close
     closed-run : (e : Name) → Closable st e → closeRun a (runOf s st ++ rest) ≡ runOf s (closed st) ++ rest
@@ -114,7 +97,7 @@ module _ (s : FolderSet) (a : List ℕ) (m : Means s a) (rest : List ℕ) where
     unfolding closeCounters closedFrom
     closed-counters e c = rw (add-one (st .closes)) (ap (λ (l : List Level). countersOf (closedFrom l st)) (sym (c .innermost)))
 
-    open-leaves : (e : Name) → leaves a (leftOf s rest st) (openAsLeft e) ≡ leftOf s rest (step s st (openCall asLeft e))
+    open-leaves : (e : Name) → leaves a (leftOf s rest st) (openCall asLeft e) ≡ leftOf s rest (step s st (openCall asLeft e))
     unfolding step
     open-leaves e =
         rw (open-refused s a m st few rest asLeft e, number-none (refusal st (openCall asLeft e)), accepted-asked st e)
@@ -122,7 +105,7 @@ module _ (s : FolderSet) (a : List ℕ) (m : Means s a) (rest : List ℕ) where
         (λ t. rw t (ap₂ (λ (x : List ℕ) (y : Counters). record { bytes = x; counters = y }) (opened-run e (open-accepted st e (accepted-asked st e ∙ t))) (opened-counters e)))
         (λ t. rw t))
 
-    close-leaves : (e : Name) → leaves a (leftOf s rest st) (closeAsLeft e) ≡ leftOf s rest (step s st (closeCall asLeft e))
+    close-leaves : (e : Name) → leaves a (leftOf s rest st) (closeCall asLeft e) ≡ leftOf s rest (step s st (closeCall asLeft e))
     unfolding step
     close-leaves e =
         rw (close-refused s a m st few rest asLeft e, number-none (refusal st (closeCall asLeft e)), accepted-closed st e)
@@ -132,28 +115,34 @@ module _ (s : FolderSet) (a : List ℕ) (m : Means s a) (rest : List ℕ) where
         (λ t. rw t))
 
     -- one call
-    pub one-leaves : (call : Made) → leaves a (leftOf s rest st) call ≡ leftOf s rest (step s st (callOf call))
-    one-leaves (openAsLeft e) = open-leaves e
-    one-leaves (closeAsLeft e) = close-leaves e
-    one-leaves (openOther b bytes c e refused) = ap (leftOf s rest) (sym (step-refused s st (openCall otherwise e) (lent-otherwise-open st e)))
-    one-leaves (closeOther b bytes c e refused) = ap (leftOf s rest) (sym (step-refused s st (closeCall otherwise e) (lent-otherwise-close st e)))
+    pub one-leaves : (call : Call) → leaves a (leftOf s rest st) call ≡ leftOf s rest (step s st call)
+    one-leaves (openCall asLeft e) = open-leaves e
+    one-leaves (closeCall asLeft e) = close-leaves e
+    one-leaves (openCall otherwise e) = ap (leftOf s rest) (sym (step-refused s st (openCall otherwise e) (lent-otherwise-open st e)))
+    one-leaves (closeCall otherwise e) = ap (leftOf s rest) (sym (step-refused s st (closeCall otherwise e) (lent-otherwise-close st e)))
 
   -- all calls
-  pub all-leave : (calls : List Made) (st : State) → Few s st [] → leftAfter a (leftOf s rest st) calls ≡ leftOf s rest (after s st (callsOf calls))
+  pub all-leave : (calls : List Call) (st : State) → Few s st [] → leftAfter a (leftOf s rest st) calls ≡ leftOf s rest (after s st calls)
   unfolding leftAfter after
   all-leave [] st few = refl
   all-leave (call ∷ calls) st few =
-      ap (λ (t : Left). leftAfter a t calls) (one-leaves st few call) ∙ all-leave calls (step s st (callOf call)) (few-step s st (callOf call) few)
+      ap (λ (t : Left). leftAfter a t calls) (one-leaves st few call) ∙ all-leave calls (step s st call) (few-step s st call few)
 
 no-counters : (s : FolderSet) → noCounters ≡ countersOf (fresh s)
 unfolding fresh
 no-counters s = refl
 
--- from a fresh run
-pub left-by : (s : FolderSet) (a : List ℕ) → Means s a → (buffer : List ℕ) (made : List Made) → leftBy a buffer made ≡ leftOf s (drop runSize buffer) (machine.run s (callsOf made))
-left-by s a m buffer made =
-    ap (λ (t : Left). leftAfter a t made) (ap₂ (λ (x : List ℕ) (y : Counters). record { bytes = x; counters = y }) (start-run s a m buffer) (no-counters s))
-    ∙ all-leave s a m (drop runSize buffer) made (fresh s) (fresh-few s)
+-- what a start leaves is the fresh run
+pub start-left : (s : FolderSet) (a : List ℕ) → Means s a → (buffer : List ℕ) → started a buffer ≡ leftOf s (drop runSize buffer) (fresh s)
+start-left s a m buffer = ap₂ (λ (x : List ℕ) (y : Counters). record { bytes = x; counters = y }) (start-run s a m buffer) (no-counters s)
+
+-- what calls leave from a fresh run on
+pub left-by : (s : FolderSet) (a : List ℕ) → Means s a → (buffer : List ℕ) {made : List Made} {t : Left} → Calls a (started a buffer) made t
+    → t ≡ leftOf s (drop runSize buffer) (machine.run s (callsOf made))
+left-by s a m buffer {made} c =
+    calls-left a c
+    ∙ ap (λ (t : Left). leftAfter a t (callsOf made)) (start-left s a m buffer)
+    ∙ all-leave s a m (drop runSize buffer) (callsOf made) (fresh s) (fresh-few s)
 
 -- after every list of calls
 pub few-run : (s : FolderSet) (calls : List Call) → Few s (machine.run s calls) []

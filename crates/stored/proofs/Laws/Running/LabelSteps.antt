@@ -12,12 +12,11 @@ use lib.ListN.{length, getD, take, length-append, List·getD-append}
 use lib.Seq.{getD-append-add}
 use Rattle.notation.specs.Names.{Name}
 use Rattle.notation.specs.Sets.{Test, label, star, Step, Path, FolderSet, testOf}
-use Rattle.notation.specs.Form.{pathsOf, stepsOf, labelOf, labelsOf}
+use Rattle.notation.specs.Form.{pathsOf, stepsOf, labelOf, labelsOf, any}
 use Rattle.notation.specs.Activity.{sameName}
 use Rattle.notation.specs.Reads.{word16, labelEntryAt}
 use Rattle.notation.proofs.Laws.Stored.PathTable.{stepsBefore}
 use Rattle.notation.proofs.Laws.Stored.LabelTable.{noStep}
-use Rattle.theory.specs.Words.{any}
 use Rattle.stored.specs.Automaton.{allSteps, allLabels, Role, role, roles, rolesIn, roleAt}
 use Rattle.stored.specs.Chain.{chainLabels}
 use Rattle.stored.specs.Compiled.{placesOf, Compiled}

@@ -11,14 +11,14 @@ use lib.Seq.{sets}
 use Rattle.notation.specs.Limits.{maxName}
 use Rattle.notation.specs.Layout.{le16, padded}
 use Rattle.notation.specs.Reads.{word16, labelEntryAt}
+use Rattle.notation.specs.Form.{any}
 use Rattle.theory.specs.Limits.{maxDepth}
-use Rattle.theory.specs.Words.{any}
 use Rattle.stored.specs.Chain.{chainLabels}
 use Rattle.stored.specs.Automaton.{maskSize, byteOf, tabulate}
 use Rattle.stored.specs.Bits.{bitOf, bitAt}
 use Rattle.stored.specs.Run.{matchesAt, rowsAt, activeIn, seenIn, rowAt, rowSize, runSize}
 use Rattle.stored.specs.RunCalls.{depthOf, activeAt, seenAt, matchedAt, maskBit, usedBytes, usedBits, candidate, shifted, permitted, nowActive, nowSeen, nowMatched, rowWritten, openWalk, openRun}
-use Rattle.stored.specs.OpenSteps.{takenActive, takenSeen, takenMatched, byteMarked, storedBits, bitsMarked, rowNamed, nameStored}
+use Rattle.stored.specs.Code.OpenSteps.{takenActive, takenSeen, takenMatched, byteMarked, storedBits, bitsMarked, rowNamed, nameStored}
 use Rattle.stored.proofs.Laws.Bytes.Bits.{bits-bit}
 use Rattle.stored.proofs.Laws.Bytes.ByteBits.{packed-from}
 use Rattle.stored.proofs.Laws.Bytes.MaskRows.{bits-none}

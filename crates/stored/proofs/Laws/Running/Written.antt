@@ -12,7 +12,7 @@ use Rattle.notation.specs.Limits.{maxName}
 use Rattle.notation.specs.Layout.{le16, padded}
 use Rattle.stored.specs.Automaton.{maskSize, packed, byteOf, tabulate}
 use Rattle.stored.specs.Run.{rowAt, rowSize, stateIn, activeIn, seenIn}
-use Rattle.stored.specs.OpenSteps.{rowNamed, nameStored}
+use Rattle.stored.specs.Code.OpenSteps.{rowNamed, nameStored}
 use Rattle.stored.proofs.Laws.Bytes.Stores.{sets-left, past}
 use Rattle.stored.proofs.Laws.Bytes.Tabulate.{tabulate-same}
 use Rattle.stored.proofs.Laws.Running.Rows.{row-back, row-lent}

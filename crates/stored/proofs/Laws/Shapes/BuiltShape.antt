@@ -21,7 +21,7 @@ use Rattle.theory.specs.Walk.{followedBy}
 use Rattle.stored.specs.Automaton.{maskSize, masks, allLabels, heads, links, startState, automatonOf}
 use Rattle.stored.specs.Shape.{automatonShaped}
 use Rattle.stored.specs.Walkable.{Walkable}
-use Rattle.stored.specs.Fails.{Growing}
+use Rattle.stored.specs.Code.Fails.{Growing}
 use Rattle.theory.proofs.Laws.Keywords.Labels.{LabelWord, begins-label}
 use Rattle.stored.proofs.Laws.Bytes.Bits.{bit-small}
 use Rattle.stored.proofs.Laws.Bytes.Tabulate.{tabulate-length}

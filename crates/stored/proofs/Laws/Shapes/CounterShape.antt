@@ -1,6 +1,6 @@
--- Counters that pass the shape test are small; an open's answer by its refusal.
-use Prim.Native.Nat.{ℕ, zero, suc, _+_, _*_, _≤_}
-use mathlib.Core.Path.{_≡_, refl}
+-- Counters that pass the shape test are small.
+use Prim.Native.Nat.{ℕ, _+_, _*_, _≤_}
+use mathlib.Core.Path.{_≡_}
 use mathlib.Core.Bool.{true, _&&_}
 use mathlib.Core.List.{List}
 use native.Mathlib.Omega.{arith}
@@ -8,9 +8,7 @@ use lib.Dec.{leb, eqb}
 use borrow.Author.Tests.{leb-true, eqb-true}
 use Rattle.theory.specs.Limits.{maxDepth, maxOpens}
 use Rattle.stored.specs.RunCalls.{depthOf, countersShaped}
-use Rattle.stored.specs.RunContracts.{openAnswer}
 use Rattle.stored.specs.declared.counters.Counters.{Counters}
-use Rattle.stored.specs.declared.answers.Opened.{Opened}
 use Rattle.theory.proofs.Laws.Basics.{both}
 
 module _ (run : List ℕ) (c : Counters) (h : countersShaped run c ≡ true) where
@@ -27,10 +25,3 @@ module _ (run : List ℕ) (c : Counters) (h : countersShaped run c ≡ true) whe
       let s = both (leb (c .opens) maxOpens) (eqb (c .opens) (c .closes + depthOf run) && leb (c .moves) (maxDepth * c .opens)) h in
       let t = both (eqb (c .opens) (c .closes + depthOf run)) (leb (c .moves) (maxDepth * c .opens)) (s .1) in
       omega (arith, leb-true (c .opens) maxOpens (s .0), leb-true (c .moves) (maxDepth * c .opens) (t .1))
-
-pub refused-answer : (r m : ℕ) → (r ≡ 0 → ⊥) → Opened.Refused r ≡ openAnswer r m
-refused-answer zero m h = absurd (h refl)
-refused-answer (suc r) m h = refl
-
-pub accepted-answer : (r m : ℕ) → r ≡ 0 → Opened.Accepted m ≡ openAnswer r m
-accepted-answer r m e = rw e

@@ -1,46 +1,30 @@
 -- The refusals of the calls on a run, condition by condition, and what an accepted call may rely on.
 use Prim.Native.Nat.{ℕ, suc, _+_, _≤_, _<_}
 use mathlib.Core.Path.{_≡_, refl, sym, _∙_, ap}
-use mathlib.Core.Bool.{Bool, true, false, not, _&&_, _||_, cond}
+use mathlib.Core.Bool.{Bool, true, false, not, _&&_, _||_}
 use mathlib.Core.List.{List, [], _∷_, _++_}
 use native.Mathlib.Omega.{arith}
 use lib.Dec.{leb, ltb, eqb}
 use lib.ListN.{length, drop, set, replicate, length-set, length-replicate}
 use lib.Seq.{sets, set-append-left}
-use borrow.Author.Tests.{le-ltb, ltb-false, not-false, leb-false, eq-eqb, ne-eqb}
+use borrow.Author.Tests.{le-ltb, ltb-false, not-false, leb-false}
 use Rattle.notation.specs.Names.{Name, nameForm, tooLong}
 use Rattle.notation.specs.Limits.{maxName}
 use Rattle.notation.specs.Layout.{le16}
 use Rattle.notation.specs.Activity.{sameName}
-use Rattle.notation.specs.Refusals.{Refusal, numberOf, shortBuffer, oversize, bentForm, outOfTurn, longName, longPath, full, foreignByte, torn, looseEnd, tooDeep, crossed, noSuchPlace, strangeShape}
+use Rattle.notation.specs.Refusals.{shortBuffer, longName, full, torn, looseEnd, tooDeep, crossed, noSuchPlace, strangeShape}
 use Rattle.theory.specs.Limits.{maxDepth, maxOpens}
-use Rattle.theory.specs.Order.{Condition, gives}
+use Rattle.theory.specs.Order.{gives, given, first}
 use Rattle.stored.specs.Automaton.{automatonSize}
 use Rattle.stored.specs.Tables.{startOf}
 use Rattle.stored.specs.Shape.{automatonShaped}
 use Rattle.stored.specs.Run.{rowAt, rowsAt, rowSize, runSize, stateIn}
-use Rattle.stored.specs.RunCalls.{depthOf, storedName, runShaped, countersShaped, shaped, given, tooShort, lentConditions, nameConditions, openOthers, closeOthers, rootShut, startRefusal, openRefusal, closeRefusal, startRun}
+use Rattle.stored.specs.RunCalls.{depthOf, storedName, runShaped, countersShaped, shaped, tooShort, lentConditions, nameConditions, openOthers, closeOthers, rootShut, startRefusal, openRefusal, closeRefusal, startRun}
 use Rattle.stored.specs.Asking.{askRefusal}
 use Rattle.stored.specs.Openable.{Ready, Usable}
 use Rattle.stored.specs.declared.counters.Counters.{Counters}
 use Rattle.theory.proofs.Laws.Basics.{both}
-
-pub given-here : (r : Refusal) (later : List Condition) → given (gives true r ∷ later) ≡ numberOf r
-unfolding given
-given-here r later = refl
-
-pub given-later : (b : Bool) (r : Refusal) (later : List Condition) → b ≡ false → given (gives b r ∷ later) ≡ given later
-unfolding given
-given-later b r later e = rw e
-
-pub given-none : given [] ≡ 0
-unfolding given
-given-none = refl
-
-unmet : (b : Bool) (r : Refusal) (later : List Condition) → (numberOf r ≡ 0 → ⊥) → given (gives b r ∷ later) ≡ 0 → (b ≡ false) × (given later ≡ 0)
-unfolding given
-unmet true r later n h = absurd (n h)
-unmet false r later n h = (refl, h)
+use Rattle.theory.proofs.Laws.Machine.Order.{not-given, given-first, given-then}
 
 neither : (a b : Bool) → (a || b) ≡ false → (a ≡ false) × (b ≡ false)
 neither true b h = absurd (let z : _≡_ {A = Bool} true false = h in let o : _≡_ {A = ℕ} 0 1 = cc in omega arith)
@@ -57,8 +41,8 @@ pub record MayStart (a run : List ℕ) : Type 0 where
 pub may-start : (a run : List ℕ) → startRefusal a run ≡ 0 → MayStart a run
 unfolding startRefusal
 may-start a run h =
-    let s = unmet (tooShort a run) shortBuffer _ (λ z. omega arith) h in
-    let t = unmet (not (automatonShaped a)) strangeShape _ (λ z. omega arith) (s .1) in
+    let s = not-given (tooShort a run) shortBuffer _ h in
+    let t = not-given (not (automatonShaped a)) strangeShape _ (s .1) in
     let l = long-enough a run (s .0) in
     record { size = l .0; runLength = l .1; shaped = not-false _ (t .0) }
 
@@ -72,13 +56,13 @@ pub record MayOpen (a run : List ℕ) (c : Counters) (e : Name) : Type 0 where
 pub may-open : (a run : List ℕ) (c : Counters) (e : Name) → openRefusal a run c e ≡ 0 → MayOpen a run c e
 unfolding openRefusal shaped
 may-open a run c e h =
-    let s = unmet (tooShort a run) shortBuffer _ (λ z. omega arith) h in
-    let t = unmet (not (shaped a run c)) strangeShape _ (λ z. omega arith) (s .1) in
-    let u = unmet (not (nameForm e)) torn _ (λ z. omega arith) (t .1) in
-    let v = unmet (tooLong e) longName _ (λ z. omega arith) (u .1) in
-    let w = unmet (rootShut run c) looseEnd _ (λ z. omega arith) (v .1) in
-    let x = unmet (leb maxDepth (depthOf run)) tooDeep _ (λ z. omega arith) (w .1) in
-    let y = unmet (leb maxOpens (c .opens)) full _ (λ z. omega arith) (x .1) in
+    let s = not-given (tooShort a run) shortBuffer _ h in
+    let t = not-given (not (shaped a run c)) strangeShape _ (s .1) in
+    let u = not-given (not (nameForm e)) torn _ (t .1) in
+    let v = not-given (tooLong e) longName _ (u .1) in
+    let w = not-given (rootShut run c) looseEnd _ (v .1) in
+    let x = not-given (leb maxDepth (depthOf run)) tooDeep _ (w .1) in
+    let y = not-given (leb maxOpens (c .opens)) full _ (x .1) in
     let l = long-enough a run (s .0) in
     let f = both (automatonShaped a) (runShaped a run && countersShaped run c) (not-false _ (t .0)) in
     let g = both (runShaped a run) (countersShaped run c) (f .1) in
@@ -99,11 +83,11 @@ pub record MayClose (a run : List ℕ) (c : Counters) : Type 0 where
 pub may-close : (a run : List ℕ) (c : Counters) (e : Name) → closeRefusal a run c e ≡ 0 → MayClose a run c
 unfolding closeRefusal shaped
 may-close a run c e h =
-    let s = unmet (tooShort a run) shortBuffer _ (λ z. omega arith) h in
-    let t = unmet (not (shaped a run c)) strangeShape _ (λ z. omega arith) (s .1) in
-    let u = unmet (not (nameForm e)) torn _ (λ z. omega arith) (t .1) in
-    let v = unmet (tooLong e) longName _ (λ z. omega arith) (u .1) in
-    let w = unmet (eqb (depthOf run) 0) looseEnd _ (λ z. omega arith) (v .1) in
+    let s = not-given (tooShort a run) shortBuffer _ h in
+    let t = not-given (not (shaped a run c)) strangeShape _ (s .1) in
+    let u = not-given (not (nameForm e)) torn _ (t .1) in
+    let v = not-given (tooLong e) longName _ (u .1) in
+    let w = not-given (eqb (depthOf run) 0) looseEnd _ (v .1) in
     let l = long-enough a run (s .0) in
     let f = both (automatonShaped a) (runShaped a run && countersShaped run c) (not-false _ (t .0)) in
     let g = both (runShaped a run) (countersShaped run c) (f .1) in
@@ -112,55 +96,26 @@ may-close a run c e h =
 pub may-ask : (a run : List ℕ) (there : Bool) → askRefusal a run there ≡ 0 → Ready a run × (there ≡ true)
 unfolding askRefusal
 may-ask a run there h =
-    let s = unmet (tooShort a run) shortBuffer _ (λ z. omega arith) h in
-    let t = unmet (not (automatonShaped a && runShaped a run)) strangeShape _ (λ z. omega arith) (s .1) in
-    let u = unmet (not there) noSuchPlace _ (λ z. omega arith) (t .1) in
+    let s = not-given (tooShort a run) shortBuffer _ h in
+    let t = not-given (not (automatonShaped a && runShaped a run)) strangeShape _ (s .1) in
+    let u = not-given (not there) noSuchPlace _ (t .1) in
     let l = long-enough a run (s .0) in
     let f = both (automatonShaped a) (runShaped a run) (not-false _ (t .0)) in
     (record { size = l .0; shaped = f .0; runLength = l .1; runIsShaped = f .1 }, not-false _ (u .0))
-
--- the first conditions of an open and of a close, and then the others
-numbered : (r : Refusal) → eqb (numberOf r) 0 ≡ false
-numbered shortBuffer = refl
-numbered oversize = refl
-numbered bentForm = refl
-numbered outOfTurn = refl
-numbered longName = refl
-numbered longPath = refl
-numbered full = refl
-numbered foreignByte = refl
-numbered torn = refl
-numbered looseEnd = refl
-numbered tooDeep = refl
-numbered crossed = refl
-numbered noSuchPlace = refl
-numbered strangeShape = refl
-
-given-append : (x y : List Condition) → given (x ++ y) ≡ cond (eqb (given x) 0) (given y) (given x)
-unfolding given
-given-append [] y = refl
-given-append (gives true r ∷ x) y = rw (numbered r)
-given-append (gives false r ∷ x) y = given-append x y
-
-first-given : (x y : List Condition) → (given x ≡ 0 → ⊥) → given (x ++ y) ≡ given x
-first-given x y n = given-append x y ∙ rw (ne-eqb (given x) 0 n)
-
-then-given : (x y : List Condition) → given x ≡ 0 → given (x ++ y) ≡ given y
-then-given x y z = given-append x y ∙ rw (eq-eqb (given x) 0 z)
 
 -- what passes the shape test, by the conditions of what is lent
 pub lent-usable : (a run : List ℕ) (c : Counters) → given (lentConditions a run c) ≡ 0 → Usable a run c
 unfolding shaped
 lent-usable a run c h =
-    let s = unmet (tooShort a run) shortBuffer _ (λ z. omega arith) h in
-    let t = unmet (not (shaped a run c)) strangeShape _ (λ z. omega arith) (s .1) in
+    let s = not-given (tooShort a run) shortBuffer _ h in
+    let t = not-given (not (shaped a run c)) strangeShape _ (s .1) in
     let l = long-enough a run (s .0) in
     let f = both (automatonShaped a) (runShaped a run && countersShaped run c) (not-false _ (t .0)) in
     let g = both (runShaped a run) (countersShaped run c) (f .1) in
     record { ready = record { size = l .0; shaped = f .0; runLength = l .1; runIsShaped = g .0 }; counts = g .1 }
 
 pub usable-lent : (a run : List ℕ) (c : Counters) → Usable a run c → given (lentConditions a run c) ≡ 0
-unfolding given shaped
+unfolding given first shaped
 usable-lent a run c u =
     rw (
       le-ltb (length a) automatonSize (u .ready .size),
@@ -173,36 +128,36 @@ usable-lent a run c u =
 module _ (a run : List ℕ) (c : Counters) (e : Name) where
   pub open-lent : (given (lentConditions a run c) ≡ 0 → ⊥) → openRefusal a run c e ≡ given (lentConditions a run c)
   unfolding openRefusal
-  open-lent n = first-given (lentConditions a run c) (openOthers run c e) n
+  open-lent n = given-first (lentConditions a run c) (openOthers run c e) n
 
   pub close-lent : (given (lentConditions a run c) ≡ 0 → ⊥) → closeRefusal a run c e ≡ given (lentConditions a run c)
   unfolding closeRefusal
-  close-lent n = first-given (lentConditions a run c) (closeOthers run e) n
+  close-lent n = given-first (lentConditions a run c) (closeOthers run e) n
 
   -- of what passes the shape test only the others are left
   pub open-others : Usable a run c → openRefusal a run c e ≡ given (openOthers run c e)
   unfolding openRefusal
-  open-others u = then-given (lentConditions a run c) (openOthers run c e) (usable-lent a run c u)
+  open-others u = given-then (lentConditions a run c) (openOthers run c e) (usable-lent a run c u)
 
   pub close-others : Usable a run c → closeRefusal a run c e ≡ given (closeOthers run e)
   unfolding closeRefusal
-  close-others u = then-given (lentConditions a run c) (closeOthers run e) (usable-lent a run c u)
+  close-others u = given-then (lentConditions a run c) (closeOthers run e) (usable-lent a run c u)
 
 module _ (run : List ℕ) (c : Counters) (e : Name) where
   pub open-name : (given (nameConditions e) ≡ 0 → ⊥) → given (openOthers run c e) ≡ given (nameConditions e)
-  open-name n = first-given (nameConditions e) (gives (rootShut run c) looseEnd ∷ gives (leb maxDepth (depthOf run)) tooDeep ∷ gives (leb maxOpens (c .opens)) full ∷ []) n
+  open-name n = given-first (nameConditions e) _ n
 
   pub open-named : given (nameConditions e) ≡ 0
       → given (openOthers run c e) ≡ given (gives (rootShut run c) looseEnd ∷ gives (leb maxDepth (depthOf run)) tooDeep ∷ gives (leb maxOpens (c .opens)) full ∷ [])
-  open-named z = then-given (nameConditions e) (gives (rootShut run c) looseEnd ∷ gives (leb maxDepth (depthOf run)) tooDeep ∷ gives (leb maxOpens (c .opens)) full ∷ []) z
+  open-named z = given-then (nameConditions e) _ z
 
 module _ (run : List ℕ) (e : Name) where
   pub close-name : (given (nameConditions e) ≡ 0 → ⊥) → given (closeOthers run e) ≡ given (nameConditions e)
-  close-name n = first-given (nameConditions e) (gives (eqb (depthOf run) 0) looseEnd ∷ gives (not (sameName (storedName run (depthOf run)) e)) crossed ∷ []) n
+  close-name n = given-first (nameConditions e) _ n
 
   pub close-named : given (nameConditions e) ≡ 0
       → given (closeOthers run e) ≡ given (gives (eqb (depthOf run) 0) looseEnd ∷ gives (not (sameName (storedName run (depthOf run)) e)) crossed ∷ [])
-  close-named z = then-given (nameConditions e) (gives (eqb (depthOf run) 0) looseEnd ∷ gives (not (sameName (storedName run (depthOf run)) e)) crossed ∷ []) z
+  close-named z = given-then (nameConditions e) _ z
 
 -- a fresh run
 sets-left : (v x y : List ℕ) (i : ℕ) → i + length v ≤ length x → sets (x ++ y) i v ≡ sets x i v ++ y

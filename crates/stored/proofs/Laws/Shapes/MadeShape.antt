@@ -17,13 +17,14 @@ use Rattle.theory.specs.Calls.{asLeft, openCall, closeCall, State, refusal, acc
 use Rattle.stored.specs.Automaton.{automatonOf}
 use Rattle.stored.specs.Run.{runSize, runOf}
 use Rattle.stored.specs.RunCalls.{runShaped, countersShaped, shaped, openRefusal, closeRefusal}
-use Rattle.stored.specs.Demand3.{Made, callsOf, leftBy}
+use Rattle.stored.specs.Demand3.{Made, callsOf, Left, started, Calls}
 use Rattle.theory.proofs.Laws.Machine.Moves.{Few}
 use Rattle.stored.proofs.Laws.Running.Means.{Means, means}
 use Rattle.stored.proofs.Laws.Shapes.Passing.{countersOf, run-shaped, counters-shaped, all-shaped, open-refused, close-refused}
-use Rattle.stored.proofs.Laws.Running.Following.{number-none, accepted-asked, accepted-closed, left-by, few-run}
+use Rattle.theory.proofs.Laws.Machine.Order.{number-none}
+use Rattle.stored.proofs.Laws.Running.Following.{accepted-asked, accepted-closed, left-by, few-run}
 
-module _ (text : List ℕ) (s : FolderSet) (acc : Accepted text s) (rest buffer : List ℕ) (made : List Made) where
+module _ (text : List ℕ) (s : FolderSet) (acc : Accepted text s) (rest buffer : List ℕ) (made : List Made) (t : Left) (c : Calls (automatonOf s ++ rest) (started (automatonOf s ++ rest) buffer) made t) where
   abbrev a : List ℕ
   a = automatonOf s ++ rest
 
@@ -33,14 +34,14 @@ module _ (text : List ℕ) (s : FolderSet) (acc : Accepted text s) (rest buffer 
   abbrev few : Few s (run s (callsOf made)) []
   few = few-run s (callsOf made)
 
-  pub made-run : runShaped a (leftBy a buffer made .bytes) ≡ true
-  made-run = rw (left-by s a m buffer made) (run-shaped s a m (run s (callsOf made)) few (drop runSize buffer))
+  pub made-run : runShaped a (t .bytes) ≡ true
+  made-run = rw (left-by s a m buffer c) (run-shaped s a m (run s (callsOf made)) few (drop runSize buffer))
 
-  pub made-counters : countersShaped (leftBy a buffer made .bytes) (leftBy a buffer made .counters) ≡ true
-  made-counters = rw (left-by s a m buffer made) (counters-shaped s a m (run s (callsOf made)) few (drop runSize buffer))
+  pub made-counters : countersShaped (t .bytes) (t .counters) ≡ true
+  made-counters = rw (left-by s a m buffer c) (counters-shaped s a m (run s (callsOf made)) few (drop runSize buffer))
 
-  pub made-shaped : shaped a (leftBy a buffer made .bytes) (leftBy a buffer made .counters) ≡ true
-  made-shaped = rw (left-by s a m buffer made) (all-shaped s a m (run s (callsOf made)) few (drop runSize buffer))
+  pub made-shaped : shaped a (t .bytes) (t .counters) ≡ true
+  made-shaped = rw (left-by s a m buffer c) (all-shaped s a m (run s (callsOf made)) few (drop runSize buffer))
 
 zero-none : (o : Option Refusal) (n : ℕ) → n ≡ numberIn o → (n ≡ 0) ↔ (isNone o ≡ true)
 zero-none o n e = (λ z. sym (number-none o) ∙ eq-eqb (numberIn o) 0 (sym e ∙ z), λ t. e ∙ eqb-true (numberIn o) 0 (number-none o ∙ t))

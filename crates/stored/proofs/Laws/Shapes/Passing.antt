@@ -17,11 +17,11 @@ use Rattle.notation.specs.Activity.{sameName}
 use Rattle.notation.specs.Reads.{labelCount}
 use Rattle.theory.specs.Limits.{maxDepth, maxOpens}
 use Rattle.theory.specs.Prefix.{prefixOf}
-use Rattle.theory.specs.Order.{Condition, gives, first, numberIn}
-use Rattle.theory.specs.Calls.{Lent, openCall, closeCall, Level, level, nameOf, State, namesOf, openNames, depth, isInnermost, openOrder, refusal}
+use Rattle.theory.specs.Order.{Condition, gives, first, numberIn, given}
+use Rattle.theory.specs.Calls.{Lent, openCall, closeCall, Level, level, nameOf, State, namesOf, openNames, depth, isInnermost, refusal}
 use Rattle.stored.specs.Automaton.{automatonSize, stateOf, allLabels}
 use Rattle.stored.specs.Run.{runSize, runOf}
-use Rattle.stored.specs.RunCalls.{depthOf, storedName, rowShaped, runShaped, countersShaped, shaped, given, tooShort, rootShut, openRefusal, closeRefusal}
+use Rattle.stored.specs.RunCalls.{depthOf, storedName, rowShaped, runShaped, countersShaped, shaped, tooShort, rootShut, openRefusal, closeRefusal}
 use Rattle.stored.specs.declared.counters.Counters.{Counters}
 use Rattle.theory.proofs.Laws.Basics.{both-true}
 use Rattle.theory.proofs.Laws.Keywords.Prefix.{current-prefix}
@@ -36,12 +36,6 @@ use Rattle.stored.proofs.Laws.Running.Means.{Means}
 abbrev pub countersOf : State → Counters
 countersOf st = record { opens = st .opens; closes = st .closes; moves = st .moves }
 
-pub given-first : (order : List Condition) → given order ≡ numberIn (first order)
-unfolding given first
-given-first [] = refl
-given-first (gives true r ∷ later) = refl
-given-first (gives false r ∷ later) = given-first later
-
 module _ (s : FolderSet) (st : State) (g : Sound s st) where
   pub names-length : length (openNames st) ≡ depth st
   names-length = length-reverse (map nameOf (st .levels)) ∙ length-map (st .levels) nameOf
@@ -53,7 +47,7 @@ module _ (s : FolderSet) (st : State) (g : Sound s st) where
   names-short n k = omega (arith, leb-false (suc maxName) (length n) (sound-names s st g n k .1))
 
 -- with nothing open, what comes after 10 is not asked
-nothing-left : (x y : Bool) (later other : List Condition) → given (gives x torn ∷ gives y longName ∷ gives true looseEnd ∷ later) ≡ numberIn (first (gives x torn ∷ gives y longName ∷ gives true looseEnd ∷ other))
+nothing-left : (x y : Bool) (later other : List Condition) → given (gives x torn ∷ gives y longName ∷ gives true looseEnd ∷ later) ≡ given (gives x torn ∷ gives y longName ∷ gives true looseEnd ∷ other)
 unfolding given first
 nothing-left true y later other = refl
 nothing-left false true later other = refl
@@ -66,12 +60,11 @@ last-name n outer =
 
 close-order-given : (levels : List Level) (stored e : Name) (x y : Bool) → stored ≡ getD ([] ∷ namesOf levels) (length levels) []
     → given (gives x torn ∷ gives y longName ∷ gives (eqb (length levels) 0) looseEnd ∷ gives (not (sameName stored e)) crossed ∷ [])
-    ≡ numberIn (first (gives x torn ∷ gives y longName ∷ gives (not (nonEmpty levels)) looseEnd ∷ gives (not (isInnermost levels e)) crossed ∷ []))
+    ≡ given (gives x torn ∷ gives y longName ∷ gives (not (nonEmpty levels)) looseEnd ∷ gives (not (isInnermost levels e)) crossed ∷ [])
 close-order-given [] stored e x y h = nothing-left x y _ _
 close-order-given (level n w ∷ outer) stored e x y h =
     let last : stored ≡ n = h ∙ ap (λ (k : ℕ). getD ([] ∷ namesOf (level n w ∷ outer)) (suc k) []) (sym (length-map outer nameOf)) ∙ last-name n (map nameOf outer) in
     rw (last, ne-eqb (suc (length outer)) 0 (λ z. omega arith))
-    (given-first (gives x torn ∷ gives y longName ∷ gives false looseEnd ∷ gives (not (sameName n e)) crossed ∷ []))
 
 module _ (s : FolderSet) (a : List ℕ) (m : Means s a) (st : State) (few : Few s st []) (rest : List ℕ) where
   abbrev g : Sound s st
@@ -134,16 +127,15 @@ module _ (s : FolderSet) (a : List ℕ) (m : Means s a) (st : State) (few : Few 
 
   -- an open lent all as last left is refused as the machine says
   pub open-refused : (l : Lent) (e : Name) → openRefusal a run (countersOf st) e ≡ numberIn (refusal st (openCall l e))
-  unfolding openRefusal refusal given
-  open-refused l e =
-      rw (long-enough, all-shaped, root-same, stored-depth) (given-first (openOrder st e))
+  unfolding openRefusal refusal given first
+  open-refused l e = rw (long-enough, all-shaped, root-same, stored-depth)
 
   stored-last : storedName run (depthOf run) ≡ getD ([] ∷ names) (depth st) []
   stored-last = rw stored-depth (name-at s names (st .matched) (names-deep s st g) (names-short s st g) rest (depth st) (omega (arith, names-length s st g)))
 
   -- and so is a close
   pub close-refused : (l : Lent) (e : Name) → closeRefusal a run (countersOf st) e ≡ numberIn (refusal st (closeCall l e))
-  unfolding closeRefusal refusal given
+  unfolding closeRefusal refusal given first
   close-refused l e =
       rw (long-enough, all-shaped, stored-depth)
       (close-order-given (st .levels) (storedName run (depth st)) e (not (nameForm e)) (tooLong e) (ap (storedName run) (sym stored-depth) ∙ stored-last))

@@ -139,6 +139,11 @@ module _ (a : List ℕ) where
   is-label : (i : ℕ) → LabelFacts a i → labelShaped a i ≡ true
   is-label i f = both-true (le-leb _ _ (f .text)) (both-true (le-leb _ _ (f .size)) (lt-ltb _ _ (f .step)))
 
+  is-link : (l : ℕ) → LinkFacts a l → linkShaped a l ≡ true
+  is-link l f =
+      both-true (is-onward (labelCount a) l (nextAt a l) (f .next) (f .later))
+      (both-true (le-leb _ _ (f .parent)) (both-true (le-leb _ _ (f .fail)) (both-true (le-leb _ _ (f .size)) (lt-ltb _ _ (f .shorter)))))
+
   link-is : (l : ℕ) → linkShaped a l ≡ true → LinkFacts a l
   link-is l h =
       let b1 = both (onward (labelCount a) l (nextAt a l)) _ h in
@@ -153,11 +158,6 @@ module _ (a : List ℕ) where
         size = leb-true _ _ (b4 .0);
         shorter = ltb-true _ _ (b4 .1);
       }
-
-  is-link : (l : ℕ) → LinkFacts a l → linkShaped a l ≡ true
-  is-link l f =
-      both-true (is-onward (labelCount a) l (nextAt a l) (f .next) (f .later))
-      (both-true (le-leb _ _ (f .parent)) (both-true (le-leb _ _ (f .fail)) (both-true (le-leb _ _ (f .size)) (lt-ltb _ _ (f .shorter)))))
 
   -- the test and its facts
   pub shaped-is : automatonShaped a ≡ true → Shaped a

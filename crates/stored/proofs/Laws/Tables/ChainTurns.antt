@@ -8,8 +8,8 @@ use lib.ListN.{length}
 use Rattle.notation.specs.Names.{Name}
 use Rattle.notation.specs.Limits.{maxLabels}
 use Rattle.notation.specs.Reads.{labelCount}
+use Rattle.notation.specs.Form.{any}
 use Rattle.stored.specs.Automaton.{automatonSize}
-use Rattle.theory.specs.Words.{any}
 use Rattle.stored.specs.Tables.{nextAt}
 use Rattle.stored.specs.Chain.{ownLabel, chainFrom}
 use Rattle.stored.specs.Shape.{automatonShaped}

@@ -17,8 +17,8 @@ use Rattle.notation.proofs.Laws.Refused.Fitting.{Fitting}
 use Rattle.theory.specs.Words.{Word}
 use Rattle.stored.specs.Automaton.{hashes, maskSize, allLabels, allWords, heads, nexts, Link, link, assembled}
 use Rattle.stored.specs.Walkable.{Searchable}
-use Rattle.stored.specs.Chains.{chained}
-use Rattle.stored.specs.Parents.{parented, outset}
+use Rattle.stored.specs.Code.Chains.{chained}
+use Rattle.stored.specs.Code.Parents.{parented, outset}
 use Rattle.stored.proofs.Laws.Bytes.Tabulate.{tabulate-length}
 use Rattle.stored.proofs.Laws.Tables.Assembled.{nextOf, parentOf, failureOf, lengthOf, withNext, noLink, Sized}
 use Rattle.stored.proofs.Laws.Tables.SetReads.{label-count}

@@ -4,10 +4,10 @@ use mathlib.Core.Bool.{true}
 use mathlib.Core.List.{[], _∷_, _++_, append-assoc}
 use Rattle.notation.specs.Names.{Name}
 use Rattle.notation.specs.Sets.{FolderSet}
-use Rattle.notation.specs.Form.{pathsOf}
+use Rattle.notation.specs.Form.{pathsOf, any}
 use Rattle.notation.specs.Activity.{sameName}
 use Rattle.notation.proofs.Laws.Meaning.Fit.{sameName-is}
-use Rattle.theory.specs.Words.{Symbol, document, name, Word, keywords, Begins, sameSymbol, startsWith, any, begins}
+use Rattle.theory.specs.Words.{Symbol, document, name, Word, keywords, Begins, sameSymbol, startsWith, begins}
 use Rattle.theory.proofs.Laws.Basics.{both, both-true, any-is, is-any, clash}
 
 pub same-name : (a b : Name) → sameName a b ≡ true → a ≡ b

@@ -9,20 +9,20 @@ use Rattle.theory.specs.Calls.{asLeft, Call, openCall, closeCall, Level,
 use Rattle.theory.specs.History.{acceptedCalls, opensIn, closesIn, unclosed, stillOpen}
 use Rattle.theory.proofs.Laws.Machine.Calls.{Closable, always}
 
-record Told (s : State) (h : List Call) : Type 0 where
-  opens : s .opens ≡ opensIn h
-  closes : s .closes ≡ closesIn h
-  names : (taken : ℕ) → unclosed taken h ≡ drop taken (map nameOf (s .levels))
+pub record Told (s : State) (h : List Call) : Type 0 where
+  pub opens : s .opens ≡ opensIn h
+  pub closes : s .closes ≡ closesIn h
+  pub names : (taken : ℕ) → unclosed taken h ≡ drop taken (map nameOf (s .levels))
 
 drop-none : (taken : ℕ) → _≡_ {A = List Name} [] (drop taken [])
 drop-none zero = refl
 drop-none (suc k) = refl
 
-fresh-told : (set : FolderSet) → Told (fresh set) []
+pub fresh-told : (set : FolderSet) → Told (fresh set) []
 unfolding fresh opensIn closesIn unclosed
 fresh-told set = record { opens = refl; closes = refl; names = drop-none }
 
-open-told : (set : FolderSet) (s : State) (h : List Call) (e : Name) → Told s h → Told (opened set s e) (openCall asLeft e ∷ h)
+pub open-told : (set : FolderSet) (s : State) (h : List Call) (e : Name) → Told s h → Told (opened set s e) (openCall asLeft e ∷ h)
 unfolding opened opensIn closesIn unclosed
 open-told set s h e t = record { opens = ap suc (t .opens); closes = t .closes; names = more (t .names) }
   where
@@ -30,7 +30,7 @@ open-told set s h e t = record { opens = ap suc (t .opens); closes = t .closes; 
     more f zero = ap (λ (l : List Name). e ∷ l) (f zero)
     more f (suc k) = f k
 
-close-told : (s : State) (h : List Call) (e : Name) (c : Closable s e) → Told s h → Told (closedFrom (level e (c .before) ∷ c .outer) s) (closeCall asLeft e ∷ h)
+pub close-told : (s : State) (h : List Call) (e : Name) (c : Closable s e) → Told s h → Told (closedFrom (level e (c .before) ∷ c .outer) s) (closeCall asLeft e ∷ h)
 unfolding closedFrom opensIn closesIn unclosed
 close-told s h e c t = record {
   opens = t .opens;

@@ -1,11 +1,15 @@
--- The computed first refusal is the first whose condition holds, and there is none exactly where no condition holds.
+-- The computed first refusal is the first whose condition holds, and there is none exactly where no condition holds. The number that an
+-- order gives is its number.
 use mathlib.Core.Path.{_≡_, refl, sym, _∙_, ap}
-use mathlib.Core.Bool.{true, false}
+use mathlib.Core.Bool.{Bool, true, false, cond}
 use mathlib.Core.Logic.{inl, inr, _↔_}
 use mathlib.Core.Option.{Option, none, some, Option·none-ne-some, Option·some-injective, Option·some-ne-none}
 use mathlib.Core.List.{List, [], _∷_, _++_, List·Memᴰ, List·Memᴰ·head, List·Memᴰ·tail, List·Memᴰ·not-nil, List·Memᴰ·cases-cons}
-use Rattle.notation.specs.Refusals.{Refusal}
-use Rattle.theory.specs.Order.{Condition, gives, holds, FirstOf, first, isNone}
+use lib.Dec.{eqb}
+use borrow.Author.Tests.{eq-eqb, ne-eqb}
+use Rattle.notation.specs.Refusals.{Refusal, numberOf}
+use Rattle.notation.proofs.Laws.Refused.Numbers.{one-refusal, some-number}
+use Rattle.theory.specs.Order.{Condition, gives, holds, FirstOf, first, isNone, numberIn, given, GivenBy}
 use Rattle.theory.proofs.Laws.Basics.{clash}
 
 pub is-none : (o : Option Refusal) → isNone o ≡ true → o ≡ none
@@ -51,3 +55,63 @@ past-unmet (gives b q ∷ before) later r u = rw (u (gives b q) (List·Memᴰ·h
 -- a refusal is given exactly where its condition holds and none before it does
 pub first-is : (order : List Condition) (r : Refusal) → (first order ≡ some r) ↔ FirstOf order r
 first-is order r = (find-first order r, λ f. ap first (sym (f .joined)) ∙ past-unmet (f .before) (f .later) r (f .unmet))
+
+-- the number given
+
+pub number-none : (o : Option Refusal) → eqb (numberIn o) 0 ≡ isNone o
+number-none none = refl
+number-none (some r) = ne-eqb (numberOf r) 0 (some-number r)
+
+pub number-some : (o : Option Refusal) (r : Refusal) → (numberIn o ≡ numberOf r) ↔ (o ≡ some r)
+number-some none r = (λ e. absurd (some-number r (sym e)), λ e. absurd (Option·none-ne-some r e))
+number-some (some q) r = (λ e. ap some (one-refusal q r e), λ e. ap numberOf (Option·some-injective q r e))
+
+pub number-zero : (o : Option Refusal) → (numberIn o ≡ 0) ↔ (o ≡ none)
+number-zero none = (λ e. refl, λ e. refl)
+number-zero (some q) = (λ e. absurd (some-number q e), λ e. absurd (Option·some-ne-none q e))
+
+pub given-by : (order : List Condition) → GivenBy order (given order)
+unfolding given
+given-by order = record {
+  refused = λ r.
+      let n = number-some (first order) r in
+      let f = first-is order r in
+      (λ e. f .0 (n .0 e), λ h. n .1 (f .1 h));
+  accepted =
+      let n = number-zero (first order) in
+      let f = first-none order in
+      (λ e. f .0 (n .0 e), λ h. n .1 (f .1 h));
+}
+
+-- condition by condition
+pub given-none : given [] ≡ 0
+unfolding given first
+given-none = refl
+
+pub given-cons : (b : Bool) (r : Refusal) (later : List Condition) → given (gives b r ∷ later) ≡ cond b (numberOf r) (given later)
+unfolding given first
+given-cons true r later = refl
+given-cons false r later = refl
+
+pub given-here : (r : Refusal) (later : List Condition) → given (gives true r ∷ later) ≡ numberOf r
+given-here r later = given-cons true r later
+
+pub given-later : (r : Refusal) (later : List Condition) → given (gives false r ∷ later) ≡ given later
+given-later r later = given-cons false r later
+
+-- with nothing given, a first condition does not hold, and the later ones give nothing
+pub not-given : (b : Bool) (r : Refusal) (later : List Condition) → given (gives b r ∷ later) ≡ 0 → (b ≡ false) × (given later ≡ 0)
+not-given true r later h = absurd (some-number r (sym (given-here r later) ∙ h))
+not-given false r later h = (refl, sym (given-later r later) ∙ h)
+
+-- one order after another
+pub given-append : (xs ys : List Condition) → given (xs ++ ys) ≡ cond (eqb (given xs) 0) (given ys) (given xs)
+given-append [] ys = rw given-none
+given-append (gives true r ∷ xs) ys = rw (given-here r (xs ++ ys), given-here r xs, ne-eqb (numberOf r) 0 (some-number r))
+given-append (gives false r ∷ xs) ys = rw (given-later r (xs ++ ys), given-later r xs) (given-append xs ys)
+
+pub given-first : (xs ys : List Condition) → (given xs ≡ 0 → ⊥) → given (xs ++ ys) ≡ given xs
+given-first xs ys n = given-append xs ys ∙ rw (ne-eqb (given xs) 0 n)
+
+pub given-then : (xs ys : List Condition) → given xs ≡ 0 → given (xs ++ ys) ≡ given ys
+given-then xs ys z = given-append xs ys ∙ rw (eq-eqb (given xs) 0 z)

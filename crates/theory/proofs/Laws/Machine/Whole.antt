@@ -1,42 +1,18 @@
--- All that demand 3 says of the machine, after every list of calls from a fresh one, in one place.
-use Prim.Native.Nat.{ℕ, _+_, _≤_}
-use mathlib.Core.Path.{_≡_, subst}
-use mathlib.Core.Bool.{true}
-use mathlib.Core.Logic.{_↔_}
+-- All that demand 3 says of the machine holds after every list of calls from a fresh one.
+use mathlib.Core.Path.{subst}
 use mathlib.Core.List.{List}
-use lib.ListN.{length}
 use Rattle.notation.specs.Names.{Name}
 use Rattle.notation.specs.Sets.{FolderSet}
-use Rattle.notation.specs.Fit.{Active}
-use Rattle.theory.specs.Prefix.{CurrentPrefix}
-use Rattle.theory.specs.Calls.{Call, State, openNames, pathAt, activeStep, run}
-use Rattle.theory.specs.History.{acceptedCalls, opensIn, closesIn, stillOpen, FittedAfterOpen, opensOf, SameAnswers}
-use Rattle.theory.specs.Elements.{elementsOf, childlessDepths}
-use Rattle.theory.specs.Folders.{FolderMatched, folderMatched}
+use Rattle.theory.specs.Calls.{Call, run}
+use Rattle.theory.specs.History.{opensOf, SameAnswers}
+use Rattle.theory.specs.Whole.{Whole}
 use Rattle.theory.proofs.Laws.Machine.Sound.{run-balance}
 use Rattle.theory.proofs.Laws.Machine.History.{run-opens-told, run-closes-told, run-names-told}
 use Rattle.theory.proofs.Laws.Machine.Matches.{run-matched}
 use Rattle.theory.proofs.Laws.Machine.Answers.{run-current-prefix, run-active, replay}
+use Rattle.theory.proofs.Laws.Machine.MovesTold.{run-moves-told}
 use Rattle.theory.proofs.Laws.Machine.Childless.{run-moves-childless}
 use Rattle.theory.proofs.Laws.Machine.Folders.{folder-matched}
-
-pub record Whole (set : FolderSet) (calls : List Call) (s : State) : Type 0 where
-  -- the matched paths are exactly those that fitted right after some accepted open
-  pub paths : (place : ℕ) → (s .matched place ≡ true) ↔ FittedAfterOpen set calls place
-  -- the matched folders exactly those with a matched path
-  pub folders : (number : ℕ) → (folderMatched set s number ≡ true) ↔ FolderMatched set s number
-  -- open names, active steps and current prefix are those of the names opened and not yet closed
-  pub names : openNames s ≡ stillOpen set calls
-  pub steps : (place k : ℕ) → (activeStep set s place k ≡ true) ↔ Active (pathAt set place) k (stillOpen set calls)
-  pub prefix : CurrentPrefix set (stillOpen set calls) (s .current)
-  -- the same answers as a fresh machine on the same set that was given only the opens of those names, in order
-  pub replayed : SameAnswers set s (run set (opensOf (stillOpen set calls)))
-  -- accepted opens = accepted closes + elements open; both are how many such calls the list has
-  pub balance : s .opens ≡ s .closes + length (openNames s)
-  pub opens : s .opens ≡ opensIn (acceptedCalls set calls)
-  pub closes : s .closes ≡ closesIn (acceptedCalls set calls)
-  -- the failure moves counted are at most the depths of all childless elements added up
-  pub moves : s .moves ≤ childlessDepths (elementsOf (acceptedCalls set calls))
 
 pub whole : (set : FolderSet) (calls : List Call) → Whole set calls (run set calls)
 whole set calls = record {
@@ -49,5 +25,6 @@ whole set calls = record {
   balance = run-balance set calls;
   opens = run-opens-told set calls;
   closes = run-closes-told set calls;
+  movesTold = run-moves-told set calls;
   moves = run-moves-childless set calls;
 }

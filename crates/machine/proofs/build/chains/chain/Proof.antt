@@ -7,7 +7,7 @@ use borrow.Author.Needs.{needs}
 use lib.ListN.{length}
 use Rattle.notation.specs.Limits.{maxLabels}
 use Rattle.notation.specs.Reads.{labelCount}
-use Rattle.stored.specs.Chains.{linked, chained}
+use Rattle.stored.specs.Code.Chains.{linked, chained}
 use Rattle.machine.proofs.build.chains.chain.Statement.{statement}
 use Rattle.machine.proofs.build.chains.chain.Tie as tie
 

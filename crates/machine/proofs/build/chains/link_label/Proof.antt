@@ -6,7 +6,7 @@ use native.Mathlib.Omega.{arith}
 use Rattle.notation.specs.Layout.{le16}
 use Rattle.notation.specs.Reads.{labelName}
 use Rattle.stored.specs.Tables.{headAt}
-use Rattle.stored.specs.Chains.{linked}
+use Rattle.stored.specs.Code.Chains.{linked}
 use lib.Seq.{sets}
 use Rattle.notation.specs.Limits.{maxLabels}
 use Rattle.stored.specs.Automaton.{headsAt, linksAt, linkSize, hash}

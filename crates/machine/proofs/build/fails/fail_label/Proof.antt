@@ -2,7 +2,7 @@
 use Rattle.notation.specs.Layout.{le16}
 use lib.Seq.{sets}
 use borrow.Author.Tests.{eq-eqb, ne-eqb}
-use Rattle.stored.specs.Fails.{failTo, failedIf}
+use Rattle.stored.specs.Code.Fails.{failTo, failedIf}
 use Rattle.stored.specs.Tables.{sizeAt}
 use Rattle.stored.specs.Automaton.{linksAt, linkSize}
 use Rattle.notation.specs.Limits.{maxLabels}

@@ -1,7 +1,7 @@
 -- `build::fails::fail_to`: no parent, or the walk from the parent's failure state.
 use Rattle.stored.proofs.Laws.Tables.Fuel.{fail-state}
 use borrow.Author.Tests.{eq-eqb, ne-eqb}
-use Rattle.stored.specs.Fails.{failTo, Growing}
+use Rattle.stored.specs.Code.Fails.{failTo, Growing}
 use Rattle.stored.specs.Tables.{parentAt, failOf}
 use Rattle.stored.specs.Automaton.{linksAt, linkSize}
 use Rattle.notation.specs.Reads.{labelCount, labelName}

@@ -1,7 +1,7 @@
 -- `build::fails::fails`: the links of the words of the lengths so far are stored.
 use native.Mathlib.Numerals.{add-one}
 use Rattle.stored.proofs.Laws.Building.Growing.{grows-to}
-use Rattle.stored.specs.Fails.{failedBelow, failedTo, Growing}
+use Rattle.stored.specs.Code.Fails.{failedBelow, failedTo, Growing}
 use Rattle.notation.specs.Reads.{labelCount}
 use Rattle.notation.specs.Limits.{maxSteps}
 use lib.ListN.{length}

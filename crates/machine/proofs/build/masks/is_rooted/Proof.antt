@@ -1,4 +1,4 @@
-use Rattle.stored.specs.Masks.{rooted}
+use Rattle.stored.specs.Code.Masks.{rooted}
 use mathlib.Core.Path.{sym, _∙_}
 use borrow.Author.Needs.{needs}
 use Rattle.machine.proofs.build.masks.is_rooted.Statement.{statement}

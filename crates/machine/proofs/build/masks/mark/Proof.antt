@@ -1,4 +1,4 @@
-use Rattle.stored.specs.Masks.{marked}
+use Rattle.stored.specs.Code.Masks.{marked}
 use Rattle.stored.specs.Automaton.{maskSize, masksAt, automatonSize}
 use native.Mathlib.Omega.{arith}
 use borrow.Author.Needs.{needs}

@@ -1,5 +1,5 @@
 use native.Mathlib.Omega.{arith}
-use Rattle.stored.specs.Masks.{markPath}
+use Rattle.stored.specs.Code.Masks.{markPath}
 use mathlib.Core.Path.{sym, _∙_}
 use borrow.Author.Needs.{needs}
 use Rattle.machine.proofs.build.masks.mark_path.Statement.{statement}

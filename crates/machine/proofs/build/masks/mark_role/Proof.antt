@@ -1,4 +1,4 @@
-use Rattle.stored.specs.Masks.{markRole}
+use Rattle.stored.specs.Code.Masks.{markRole}
 use mathlib.Core.Path.{_∙_}
 use borrow.Author.Needs.{needs}
 use Rattle.machine.proofs.build.masks.mark_role.Statement.{statement}

@@ -1,4 +1,4 @@
-use Rattle.stored.specs.Masks.{markStep}
+use Rattle.stored.specs.Code.Masks.{markStep}
 use Rattle.stored.specs.Automaton.{maskSize}
 use borrow.Author.Tests.{le-ltb, lt-ltb}
 use native.Mathlib.Omega.{arith}

@@ -1,5 +1,5 @@
 use Rattle.stored.proofs.Laws.Building.Marking.{steps-start, steps-turn, steps-end}
-use Rattle.stored.specs.Masks.{markSteps}
+use Rattle.stored.specs.Code.Masks.{markSteps}
 use lib.ListN.{length}
 use lib.Dec.{eqb}
 use mathlib.Core.Bool.{true}

@@ -1,5 +1,5 @@
 use Rattle.stored.proofs.Laws.Building.Marking.{rooted-start, rooted-here, rooted-later, rooted-end}
-use Rattle.stored.specs.Masks.{anyRooted}
+use Rattle.stored.specs.Code.Masks.{anyRooted}
 use Prim.Native.Nat.{_-_, _≤_}
 use native.Mathlib.Omega.{arith}
 use mathlib.Core.Path.{_≡_, sym, _∙_}

@@ -1,6 +1,6 @@
 use borrow.Author.Needs.{needs}
 use Rattle.stored.proofs.Laws.Building.Marking.{paths-start, paths-turn, paths-end}
-use Rattle.stored.specs.Masks.{markPaths, withMasks}
+use Rattle.stored.specs.Code.Masks.{markPaths, withMasks}
 use lib.ListN.{length}
 use Prim.Native.Nat.{ℕ, _-_, _≤_}
 use native.Mathlib.Omega.{arith}

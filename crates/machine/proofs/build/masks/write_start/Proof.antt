@@ -1,4 +1,4 @@
-use Rattle.stored.specs.Masks.{withStart}
+use Rattle.stored.specs.Code.Masks.{withStart}
 use Rattle.stored.specs.Automaton.{startAt}
 use mathlib.Core.Path.{_∙_}
 use borrow.Author.Needs.{needs}

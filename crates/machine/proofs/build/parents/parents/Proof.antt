@@ -6,7 +6,7 @@ use native.Mathlib.Nat.{sub-zero}
 use native.Mathlib.Omega.{arith}
 use borrow.Author.Needs.{needs}
 use lib.ListN.{length}
-use Rattle.stored.specs.Parents.{passed, parented, outset, Sound}
+use Rattle.stored.specs.Code.Parents.{passed, parented, outset, Sound}
 use Rattle.stored.specs.declared.place.Place.{Place}
 use Rattle.machine.proofs.build.parents.parents.Statement.{statement}
 use Rattle.machine.proofs.build.parents.parents.Tie as tie

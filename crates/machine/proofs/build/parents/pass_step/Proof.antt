@@ -6,7 +6,7 @@ use mathlib.Core.List.{List}
 use native.Mathlib.Omega.{arith}
 use Rattle.notation.specs.Reads.{pathAt, stepAt}
 use Rattle.notation.specs.declared.reads.StepAt.{StepAt}
-use Rattle.stored.specs.Parents.{Passed, startsAt, entered, emptied, labelled, passedBy, passed}
+use Rattle.stored.specs.Code.Parents.{Passed, startsAt, entered, emptied, labelled, passedBy, passed}
 use Rattle.stored.specs.declared.place.Place.{Place}
 use borrow.Author.Needs.{needs}
 use Rattle.machine.proofs.build.parents.pass_step.Statement.{statement}

@@ -8,7 +8,7 @@ use Rattle.notation.specs.Limits.{maxLabels}
 use Rattle.notation.specs.Reads.{labelName, labelCount}
 use Rattle.stored.specs.Tables.{goto}
 use Rattle.stored.specs.Walkable.{Searchable}
-use Rattle.stored.specs.Parents.{Passed, wordStored, labelled}
+use Rattle.stored.specs.Code.Parents.{Passed, wordStored, labelled}
 use Rattle.stored.specs.declared.place.Place.{Place}
 use Rattle.stored.proofs.Laws.Building.Elsewhere.{searchable-stored}
 use borrow.Author.Needs.{needs}

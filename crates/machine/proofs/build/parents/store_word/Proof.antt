@@ -8,7 +8,7 @@ use Rattle.notation.specs.Limits.{maxLabels}
 use Rattle.notation.specs.Layout.{le16}
 use Rattle.stored.specs.Automaton.{linksAt, linkSize}
 use Rattle.stored.specs.Tables.{sizeOf}
-use Rattle.stored.specs.Parents.{wordStored}
+use Rattle.stored.specs.Code.Parents.{wordStored}
 use borrow.Author.Needs.{needs}
 use Rattle.machine.proofs.build.parents.store_word.Statement.{statement}
 use Rattle.machine.proofs.build.parents.store_word.Tie as tie

@@ -1,9 +1,10 @@
-use Rattle.stored.proofs.Laws.Running.Answered.{refused-asked}
+use mathlib.Core.Path.{sym}
+use Rattle.notation.proofs.Laws.Said.{said-refused}
 use Rattle.machine.proofs.run.asking.answer.Statement.{statement}
 use Rattle.machine.proofs.run.asking.answer.Tie as tie
 
 returns : tie.Need-returns
-returns c = refused-asked _ _ (c .if1 .taken)
+returns c = sym (said-refused _ _ (c .if1 .taken))
 
 returns-2 : tie.Need-returns-2
 returns-2 c = rw (c .before .if1 .left, c .if2 .taken)

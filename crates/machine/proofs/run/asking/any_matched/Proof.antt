@@ -3,7 +3,7 @@ use mathlib.Core.Path.{_≡_, sym, _∙_}
 use Prim.Native.Nat.{_+_, _-_, _≤_}
 use native.Mathlib.Nat.{add-zero, sub-zero}
 use borrow.Author.Needs.{needs}
-use Rattle.theory.specs.Words.{any}
+use Rattle.notation.specs.Form.{any}
 use Rattle.theory.specs.Folders.{countFrom}
 use Rattle.stored.specs.Asking.{placeMatched}
 use Rattle.stored.proofs.Laws.Running.Answered.{any-none, any-here, any-next}

@@ -2,9 +2,11 @@ use native.Mathlib.Omega.{arith}
 use mathlib.Core.Path.{_≡_, sym, _∙_, ap}
 use Prim.Native.Nat.{ℕ, _+_, _-_}
 use Rattle.notation.specs.Names.{within}
-use Rattle.stored.specs.Asking.{askRefusal, answered}
+use Rattle.notation.specs.Answers.{said}
+use Rattle.notation.proofs.Laws.Said.{said-refused}
+use Rattle.stored.specs.Asking.{askRefusal}
 use Rattle.stored.specs.RunCalls.{depthOf, activeAt}
-use Rattle.stored.proofs.Laws.Running.Answered.{refused-asked, step-low}
+use Rattle.stored.proofs.Laws.Running.Answered.{step-low}
 use Rattle.stored.proofs.Laws.Shapes.Given.{may-ask}
 use borrow.Author.Needs.{needs}
 use Rattle.machine.proofs.run.asking.ask_step.Statement.{statement}
@@ -19,7 +21,7 @@ ask-refusal-requires c κs = search needs
 returns : tie.Need-returns
 returns c = let b = c .before .before .before .before .before .args in
     let e : c .before .ask-refusal .result ≡ askRefusal (b .a .now) (b .run .now) (within 1 (b .steps) (b .s)) = c .before .ask-refusal .ensures ∙ ap (askRefusal (b .a .now) (b .run .now)) (c .before .before .between .ensures) in
-    rw (← e) (refused-asked (c .before .ask-refusal .result) _ (c .if1 .taken))
+    rw (← e) (sym (said-refused (c .before .ask-refusal .result) _ (c .if1 .taken)))
 
 bit-active-requires : tie.Need-bit-active-requires
 bit-active-requires c κs = let b = c .before .before .before .before .before in
@@ -33,7 +35,7 @@ answer-requires c κs = search needs
 returns-2 : tie.Need-returns-2
 returns-2 c = let b = c .before .before .before .before .before .before .before .args in
     let e : askRefusal (b .a .now) (b .run .now) (within 1 (b .steps) (b .s)) ≡ 0 = sym (c .before .before .before .ask-refusal .ensures ∙ ap (askRefusal (b .a .now) (b .run .now)) (c .before .before .before .before .between .ensures)) ∙ c .before .before .if1 .left in
-    c .answer .ensures ∙ ap (answered 0) (c .before .bit-active .ensures) ∙ ap (λ (r : ℕ). answered r (activeAt (b .run .now) (depthOf (b .run .now)) (b .first + b .s - 1))) (sym e)
+    c .answer .ensures ∙ ap (said 0) (c .before .bit-active .ensures) ∙ ap (λ (r : ℕ). said r (activeAt (b .run .now) (depthOf (b .run .now)) (b .first + b .s - 1))) (sym e)
 
 pub ask-step-spec : {M : Type 1} → statement M
 ask-step-spec =

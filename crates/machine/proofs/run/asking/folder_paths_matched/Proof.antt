@@ -1,7 +1,7 @@
 use native.Mathlib.Omega.{arith}
 use mathlib.Core.Path.{sym, _∙_, ap}
 use Rattle.notation.specs.Reads.{folderTop}
-use Rattle.theory.specs.Words.{any}
+use Rattle.notation.specs.Form.{any}
 use borrow.Author.Needs.{needs}
 use Rattle.machine.proofs.run.asking.folder_paths_matched.Statement.{statement}
 use Rattle.machine.proofs.run.asking.folder_paths_matched.Tie as tie

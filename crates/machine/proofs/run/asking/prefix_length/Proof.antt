@@ -4,9 +4,9 @@ use mathlib.Core.Bool.{true}
 use Prim.Native.Nat.{ℕ}
 use Rattle.stored.specs.Tables.{sizeOf}
 use Rattle.stored.specs.RunCalls.{depthOf, stateAt}
-use Rattle.stored.specs.Asking.{askRefusal, askPrefix, measured}
-use Rattle.stored.specs.declared.answers.Length.{Length}
-use Rattle.stored.proofs.Laws.Running.Answered.{refused-length}
+use Rattle.notation.specs.Answers.{value, said}
+use Rattle.notation.proofs.Laws.Said.{said-refused}
+use Rattle.stored.specs.Asking.{askRefusal, askPrefix}
 use Rattle.stored.proofs.Laws.Shapes.Given.{may-ask}
 use Rattle.stored.proofs.Laws.Shapes.RunShape.{run-shape}
 use borrow.Author.Needs.{needs}
@@ -18,7 +18,7 @@ ask-refusal-requires c κs = search needs
 
 returns : tie.Need-returns
 unfolding askPrefix
-returns c = rw (← c .before .ask-refusal .ensures) (refused-length (c .before .ask-refusal .result) _ (c .if1 .taken))
+returns c = rw (← c .before .ask-refusal .ensures) (sym (said-refused (c .before .ask-refusal .result) _ (c .if1 .taken)))
 
 depth-requires : tie.Need-depth-requires
 depth-requires c κs = search needs
@@ -35,7 +35,7 @@ returns-2 : tie.Need-returns-2
 unfolding askPrefix
 returns-2 c = let b = c .before .before .before .before .before .before .before .args in
     let z : askRefusal (b .a .now) (b .run .now) true ≡ 0 = sym (c .before .before .before .before .ask-refusal .ensures) ∙ c .before .before .before .if1 .left in
-    ap (λ (n : ℕ). Length.Symbols n) (c .size-of .ensures .0 ∙ ap (sizeOf (b .a .now)) (c .before .state-at .ensures .0 ∙ ap (stateAt (b .run .now)) (c .before .before .depth .ensures .0))) ∙ ap (λ (r : ℕ). measured r (sizeOf (b .a .now) (stateAt (b .run .now) (depthOf (b .run .now))))) (sym z)
+    ap (λ (n : ℕ). value n) (c .size-of .ensures .0 ∙ ap (sizeOf (b .a .now)) (c .before .state-at .ensures .0 ∙ ap (stateAt (b .run .now)) (c .before .before .depth .ensures .0))) ∙ ap (λ (r : ℕ). said r (sizeOf (b .a .now) (stateAt (b .run .now) (depthOf (b .run .now))))) (sym z)
 
 pub prefix-length-spec : {M : Type 1} → statement M
 prefix-length-spec =

@@ -5,7 +5,7 @@ use Prim.Native.Nat.{_+_, _≤_}
 use lib.Dec.{eqb}
 use Rattle.notation.specs.Limits.{maxPaths, maxSteps}
 use Rattle.notation.specs.Reads.{word16, labelEntryAt}
-use Rattle.theory.specs.Words.{any}
+use Rattle.notation.specs.Form.{any}
 use Rattle.stored.specs.Automaton.{maskSize}
 use Rattle.stored.specs.Chain.{chainLabels}
 use Rattle.stored.specs.RunCalls.{usedBytes}

@@ -3,10 +3,10 @@ use mathlib.Core.Bool.{false}
 use Prim.Native.Nat.{ℕ}
 use lib.Dec.{eqb}
 use borrow.Author.Tests.{ne-eqb}
+use Rattle.notation.specs.Answers.{refused}
+use Rattle.notation.proofs.Laws.Said.{said-refused}
 use Rattle.stored.specs.RunCalls.{openRefusal}
-use Rattle.stored.specs.declared.answers.Opened.{Opened}
 use Rattle.stored.proofs.Laws.Shapes.Given.{lent-usable, open-lent}
-use Rattle.stored.proofs.Laws.Shapes.CounterShape.{refused-answer}
 use borrow.Author.Needs.{needs}
 use Rattle.machine.proofs.run.open.open_by.Statement.{statement}
 use Rattle.machine.proofs.run.open.open_by.Tie as tie
@@ -23,7 +23,7 @@ returns c = let b = c .before .before .before .before .before .before .args in
     let f : openRefusal (b .a .now) (b .run .now) (b .counters) (b .e .now) ≡ c .before .lent-refusal .result = open-lent (b .a .now) (b .run .now) (b .counters) (b .e .now) (λ z. c .if1 .taken (s ∙ z)) ∙ sym s in
     let y : openRefusal (b .a .now) (b .run .now) (b .counters) (b .e .now) ≡ 0 → ⊥ = λ z. c .if1 .taken (sym f ∙ z) in
     let n : eqb (openRefusal (b .a .now) (b .run .now) (b .counters) (b .e .now)) 0 ≡ false = ne-eqb _ _ y in
-    record { answers = ap (λ (r : ℕ). Opened.Refused r) (sym f) ∙ refused-answer (openRefusal (b .a .now) (b .run .now) (b .counters) (b .e .now)) _ y; runAfter = rw n; countersAfter = rw n }
+    record { answers = ap (λ (r : ℕ). refused r) (sym f) ∙ sym (said-refused (openRefusal (b .a .now) (b .run .now) (b .counters) (b .e .now)) _ y); runAfter = rw n; countersAfter = rw n }
 
 open-usable-requires : tie.Need-open-usable-requires
 open-usable-requires c κs = let b = c .before .before .before .before .before .before .before .args in

@@ -8,7 +8,7 @@ use Rattle.notation.specs.Limits.{maxPaths, maxSteps}
 use Rattle.notation.specs.Reads.{labelCount}
 use Rattle.stored.specs.Automaton.{maskSize}
 use Rattle.stored.specs.RunCalls.{depthOf, stateAt, usedBytes, usedBits, nowActive, nowSeen, nowMatched}
-use Rattle.stored.specs.OpenSteps.{storedBits, nameStored}
+use Rattle.stored.specs.Code.OpenSteps.{storedBits, nameStored}
 use Rattle.stored.specs.Openable.{Openable}
 use Rattle.stored.specs.Tables.{walkOver}
 use Rattle.stored.proofs.Laws.Shapes.RunShape.{run-shape}

@@ -5,12 +5,13 @@ use Prim.Native.Nat.{ℕ, _+_}
 use lib.Dec.{eqb}
 use borrow.Author.Tests.{eq-eqb, ne-eqb}
 use Rattle.notation.specs.Limits.{maxSteps}
+use Rattle.notation.specs.Answers.{refused, value}
+use Rattle.notation.proofs.Laws.Said.{said-value, said-refused}
 use Rattle.theory.specs.Limits.{maxOpens}
 use Rattle.stored.specs.RunCalls.{openRefusal, openCounters}
-use Rattle.stored.specs.declared.answers.Opened.{Opened}
 use Rattle.stored.specs.declared.walk.Walk.{Walk}
 use Rattle.stored.proofs.Laws.Shapes.Given.{may-open, open-others}
-use Rattle.stored.proofs.Laws.Shapes.CounterShape.{moves-fit, refused-answer, accepted-answer}
+use Rattle.stored.proofs.Laws.Shapes.CounterShape.{moves-fit}
 use borrow.Author.Needs.{needs}
 use Rattle.machine.proofs.run.open.open_usable.Statement.{statement}
 use Rattle.machine.proofs.run.open.open_usable.Tie as tie
@@ -28,7 +29,7 @@ returns c = let p = c .before .before .before .before .before .before in
     let s : c .before .open-others .result ≡ openRefusal (b .a .now) (b .run .now) (b .counters) (b .e .now) = c .before .open-others .ensures ∙ sym (open-others (b .a .now) (b .run .now) (b .counters) (b .e .now) (p .pre)) in
     let y : R ≡ 0 → ⊥ = λ z. c .if1 .taken (s ∙ z) in
     let n : eqb (openRefusal (b .a .now) (b .run .now) (b .counters) (b .e .now)) 0 ≡ false = ne-eqb _ _ y in
-    record { answers = ap (λ (r : ℕ). Opened.Refused r) s ∙ refused-answer (openRefusal (b .a .now) (b .run .now) (b .counters) (b .e .now)) _ y; runAfter = rw n; countersAfter = rw n }
+    record { answers = ap (λ (r : ℕ). refused r) s ∙ sym (said-refused (openRefusal (b .a .now) (b .run .now) (b .counters) (b .e .now)) _ y); runAfter = rw n; countersAfter = rw n }
 
 open-on-requires : tie.Need-open-on-requires
 open-on-requires c κs = let p = c .before .before .before .before .before .before .before in
@@ -60,7 +61,7 @@ returns-2 c = let p = c .before .before .before .before .before .before .before 
     let n : eqb (openRefusal (b .a .now) (b .run .now) (b .counters) (b .e .now)) 0 ≡ true = eq-eqb _ _ z in
     let w = c .before .before .before .before .before .open-on in
     let e = w .ensures .0 in
-    record { answers = ap (λ (x : Walk). Opened.Accepted (x .moves)) e ∙ accepted-answer (openRefusal (b .a .now) (b .run .now) (b .counters) (b .e .now)) _ z; runAfter = rw n (w .ensures .1 .1); countersAfter = rw n (ap (λ (x : Walk). record { opens = b .counters .opens + 1; closes = b .counters .closes; moves = b .counters .moves + x .moves }) e) }
+    record { answers = ap (λ (x : Walk). value (x .moves)) e ∙ sym (said-value (openRefusal (b .a .now) (b .run .now) (b .counters) (b .e .now)) _ z); runAfter = rw n (w .ensures .1 .1); countersAfter = rw n (ap (λ (x : Walk). record { opens = b .counters .opens + 1; closes = b .counters .closes; moves = b .counters .moves + x .moves }) e) }
 
 pub open-usable-spec : {M : Type 1} → statement M
 open-usable-spec =

@@ -5,7 +5,8 @@ use native.Mathlib.Omega.{arith}
 use Prim.Native.Nat.{ℕ}
 use borrow.Author.Tests.{eq-eqb, ne-eqb, not-true, not-false}
 use Rattle.notation.specs.Activity.{sameName}
-use Rattle.stored.specs.RunCalls.{given, storedName, depthOf}
+use Rattle.theory.specs.Order.{first, given}
+use Rattle.stored.specs.RunCalls.{storedName, depthOf}
 use Rattle.stored.proofs.Laws.Shapes.Given.{close-name, close-named}
 use borrow.Author.Needs.{needs}
 use Rattle.machine.proofs.run.refusals.close_others.Statement.{statement}
@@ -22,7 +23,7 @@ depth-requires : tie.Need-depth-requires
 depth-requires c κs = search needs
 
 returns-2 : tie.Need-returns-2
-unfolding given
+unfolding given first
 returns-2 c = let b = c .before .before .before .before .before .before .before .args in
     rw (close-named (b .run .now) (b .e .now) (sym (c .before .before .before .name-refusal .ensures) ∙ c .before .before .if1 .left), ← c .before .depth .ensures .0, eq-eqb _ _ (c .if2 .taken))
 
@@ -34,13 +35,13 @@ same-name-requires : tie.Need-same-name-requires
 same-name-requires c κs = search needs
 
 returns-3 : tie.Need-returns-3
-unfolding given
+unfolding given first
 returns-3 c = let b = c .before .before .before .before .before .before .before .before .before .before .args in
     let t : sameName (storedName (b .run .now) (depthOf (b .run .now))) (b .e .now) ≡ false = ap (λ (n : ℕ). sameName (storedName (b .run .now) n) (b .e .now)) (sym (c .before .before .before .before .depth .ensures .0)) ∙ ap (λ (n : List ℕ). sameName n (b .e .now)) (sym (c .before .before .stored-name .ensures)) ∙ sym (c .before .same-name .ensures) ∙ not-true _ (c .if3 .taken) in
     rw (close-named (b .run .now) (b .e .now) (sym (c .before .before .before .before .before .before .name-refusal .ensures) ∙ c .before .before .before .before .before .if1 .left), t, ← c .before .before .before .before .depth .ensures .0, ne-eqb _ _ (c .before .before .before .if2 .left))
 
 returns-4 : tie.Need-returns-4
-unfolding given
+unfolding given first
 returns-4 c = let b = c .before .before .before .before .before .before .before .before .before .before .args in
     let t : sameName (storedName (b .run .now) (depthOf (b .run .now))) (b .e .now) ≡ true = ap (λ (n : ℕ). sameName (storedName (b .run .now) n) (b .e .now)) (sym (c .before .before .before .before .depth .ensures .0)) ∙ ap (λ (n : List ℕ). sameName n (b .e .now)) (sym (c .before .before .stored-name .ensures)) ∙ sym (c .before .same-name .ensures) ∙ not-false _ (c .if3 .left) in
     rw (close-named (b .run .now) (b .e .now) (sym (c .before .before .before .before .before .before .name-refusal .ensures) ∙ c .before .before .before .before .before .if1 .left), t, ← c .before .before .before .before .depth .ensures .0, ne-eqb _ _ (c .before .before .before .if2 .left))

@@ -1,6 +1,6 @@
 use mathlib.Core.Path.{sym, _∙_}
 use borrow.Author.Tests.{not-true, not-false}
-use Rattle.stored.specs.RunCalls.{given}
+use Rattle.theory.specs.Order.{first, given}
 use borrow.Author.Needs.{needs}
 use Rattle.machine.proofs.run.refusals.name_refusal.Statement.{statement}
 use Rattle.machine.proofs.run.refusals.name_refusal.Tie as tie
@@ -9,18 +9,18 @@ name-form-requires : tie.Need-name-form-requires
 name-form-requires c κs = search needs
 
 returns : tie.Need-returns
-unfolding given
+unfolding given first
 returns c = rw (sym (c .before .name-form .ensures) ∙ not-true _ (c .if1 .taken))
 
 too-long-requires : tie.Need-too-long-requires
 too-long-requires c κs = search needs
 
 returns-2 : tie.Need-returns-2
-unfolding given
+unfolding given first
 returns-2 c = rw (sym (c .before .before .before .name-form .ensures) ∙ not-false _ (c .before .before .if1 .left), sym (c .before .too-long .ensures) ∙ c .if2 .taken)
 
 returns-3 : tie.Need-returns-3
-unfolding given
+unfolding given first
 returns-3 c = rw (sym (c .before .before .before .name-form .ensures) ∙ not-false _ (c .before .before .if1 .left), sym (c .before .too-long .ensures) ∙ c .if2 .left)
 
 pub name-refusal-spec : {M : Type 1} → statement M

@@ -1,7 +1,7 @@
 use mathlib.Core.Path.{sym, _∙_}
 use borrow.Author.Tests.{le-leb, lt-leb}
 use Rattle.theory.specs.Limits.{maxDepth, maxOpens}
-use Rattle.stored.specs.RunCalls.{given}
+use Rattle.theory.specs.Order.{first, given}
 use Rattle.stored.proofs.Laws.Shapes.Given.{open-name, open-named}
 use borrow.Author.Needs.{needs}
 use Rattle.machine.proofs.run.refusals.open_others.Statement.{statement}
@@ -18,7 +18,7 @@ root-shut-requires : tie.Need-root-shut-requires
 root-shut-requires c κs = search needs
 
 returns-2 : tie.Need-returns-2
-unfolding given
+unfolding given first
 returns-2 c = let b = c .before .before .before .before .before .before .args in
     rw (open-named (b .run .now) (b .c) (b .e .now) (sym (c .before .before .before .name-refusal .ensures) ∙ c .before .before .if1 .left), sym (c .before .root-shut .ensures) ∙ c .if2 .taken)
 
@@ -26,17 +26,17 @@ depth-requires : tie.Need-depth-requires
 depth-requires c κs = search needs
 
 returns-3 : tie.Need-returns-3
-unfolding given maxDepth
+unfolding given first maxDepth
 returns-3 c = let b = c .before .before .before .before .before .before .before .before .args in
     rw (open-named (b .run .now) (b .c) (b .e .now) (sym (c .before .before .before .before .before .name-refusal .ensures) ∙ c .before .before .before .before .if1 .left), sym (c .before .before .before .root-shut .ensures) ∙ c .before .before .if2 .left, ← c .before .depth .ensures .0, le-leb _ _ (c .if3 .taken))
 
 returns-4 : tie.Need-returns-4
-unfolding given maxDepth maxOpens
+unfolding given first maxDepth maxOpens
 returns-4 c = let b = c .before .before .before .before .before .before .before .before .before .before .args in
     rw (open-named (b .run .now) (b .c) (b .e .now) (sym (c .before .before .before .before .before .before .before .name-refusal .ensures) ∙ c .before .before .before .before .before .before .if1 .left), sym (c .before .before .before .before .before .root-shut .ensures) ∙ c .before .before .before .before .if2 .left, ← c .before .before .before .depth .ensures .0, lt-leb _ _ (c .before .before .if3 .left), le-leb _ _ (c .if4 .taken))
 
 returns-5 : tie.Need-returns-5
-unfolding given maxDepth maxOpens
+unfolding given first maxDepth maxOpens
 returns-5 c = let b = c .before .before .before .before .before .before .before .before .before .before .args in
     rw (open-named (b .run .now) (b .c) (b .e .now) (sym (c .before .before .before .before .before .before .before .name-refusal .ensures) ∙ c .before .before .before .before .before .before .if1 .left), sym (c .before .before .before .before .before .root-shut .ensures) ∙ c .before .before .before .before .if2 .left, ← c .before .before .before .depth .ensures .0, lt-leb _ _ (c .before .before .if3 .left), lt-leb _ _ (c .if4 .left))
 

@@ -1,6 +1,6 @@
 use mathlib.Core.Path.{_∙_}
 use Rattle.stored.specs.Run.{stateIn}
-use Rattle.stored.specs.OpenSteps.{rowNamed}
+use Rattle.stored.specs.Code.OpenSteps.{rowNamed}
 use Rattle.stored.proofs.Laws.Running.Written.{head-written}
 use borrow.Author.Needs.{needs}
 use Rattle.machine.proofs.run.row.write_row.Statement.{statement}

@@ -4,7 +4,7 @@ use mathlib.Core.List.{List}
 use Prim.Native.Nat.{ℕ, _-_, _≤_, _<_}
 use lib.ListN.{length}
 use Rattle.stored.specs.Automaton.{maskSize}
-use Rattle.stored.specs.OpenSteps.{byteMarked, bitsMarked}
+use Rattle.stored.specs.Code.OpenSteps.{byteMarked, bitsMarked}
 use Rattle.stored.proofs.Laws.Running.Marked.{none-marked, one-more}
 use Rattle.machine.proofs.run.steps.mark_bits.Statement.{statement}
 use Rattle.machine.proofs.run.steps.mark_bits.Tie as tie

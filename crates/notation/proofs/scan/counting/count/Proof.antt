@@ -1,4 +1,4 @@
-use Rattle.notation.specs.Scan.{counted}
+use Rattle.notation.specs.Code.Scan.{counted}
 use borrow.Author.Needs.{needs}
 use Rattle.notation.proofs.scan.counting.count.Statement.{statement}
 use Rattle.notation.proofs.scan.counting.count.Tie as tie

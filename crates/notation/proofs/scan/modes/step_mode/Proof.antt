@@ -1,5 +1,5 @@
-use Rattle.notation.specs.Safe.{SmallMode}
-use Rattle.notation.specs.Scan.{next}
+use Rattle.notation.specs.Code.Safe.{SmallMode}
+use Rattle.notation.specs.Code.Scan.{next}
 use mathlib.Core.Path.{subst}
 use borrow.Author.Needs.{needs}
 use Rattle.notation.proofs.scan.modes.step_mode.Statement.{statement}

@@ -9,10 +9,10 @@ use Rattle.notation.specs.Accepted.{Accepted}
 use Rattle.notation.specs.Layout.{setSize, setPart}
 use Rattle.notation.specs.Reads.{stepCount, labelCount}
 use Rattle.stored.specs.Automaton.{automatonSize}
-use Rattle.stored.specs.Chains.{chained}
-use Rattle.stored.specs.Parents.{parented, outset}
-use Rattle.stored.specs.Fails.{failedTo}
-use Rattle.stored.specs.Masks.{withMasks, withStart}
+use Rattle.stored.specs.Code.Chains.{chained}
+use Rattle.stored.specs.Code.Parents.{parented, outset}
+use Rattle.stored.specs.Code.Fails.{failedTo}
+use Rattle.stored.specs.Code.Masks.{withMasks, withStart}
 
 -- zeros behind the set
 unfoldable pub cleared : List ℕ → List ℕ

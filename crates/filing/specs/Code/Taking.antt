@@ -9,19 +9,12 @@ use Rattle.notation.specs.Refusals.{torn, numberOf}
 use Rattle.stored.specs.RunCalls.{startRun}
 use Rattle.stored.specs.Demand3.{Left}
 use Rattle.stored.specs.declared.counters.Counters.{Counters}
-use Rattle.stored.specs.declared.answers.Opened.{Opened}
-use Rattle.stored.specs.declared.answers.Opened.the-variants.{Accepted, Refused}
 use Rattle.filing.specs.declared.tokens.Found.{Found}
 use Rattle.filing.specs.declared.tokens.Found.the-variants.{Nothing, Declaration, Comment, Start, Empty, End, Text}
 use Rattle.documents.specs.Tokens.{Token}
 use Rattle.documents.specs.Reading.{Read, fail, got}
 use Rattle.filing.specs.Seen.{foundEnd, declares}
 use Rattle.filing.specs.FileCall.{Outcome, refusedWith, leaving, numberLeft, thenGo, outcome, leftIn, openOutcome, closeOutcome, textOutcome, tokensOutcome}
-
--- the refusal of an open's answer, 0 for none
-abbrev pub openNumber : Opened → ℕ
-openNumber (Accepted moves) = 0
-openNumber (Refused n) = n
 
 -- refusal, run and counters as the code has them
 abbrev pub so : ℕ → List ℕ → Counters → Outcome

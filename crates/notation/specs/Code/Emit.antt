@@ -5,7 +5,7 @@ use mathlib.Core.List.{List, [], _∷_, _++_}
 use lib.Dec.{eqb}
 use Rattle.notation.specs.Names.{inName}
 use Rattle.notation.specs.Layout.{Tables, folderEntry, pathEntry, labelEntry, layout}
-use Rattle.notation.specs.Scan.{scanned, start}
+use Rattle.notation.specs.Code.Scan.{scanned, start}
 use Rattle.notation.specs.declared.scan.Mode.{Mode}
 use Rattle.notation.specs.declared.scan.Mode.the-variants.{Header, LineStart, Word, NumberStart, Number, PathOpen, PathStart, Slash, Slashes, Label, Star, PathEnd, LineEnd, LastLine, Done, Bent}
 use Rattle.notation.specs.declared.scan.Tally.{Tally}

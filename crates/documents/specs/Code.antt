@@ -1,0 +1,2 @@
+-- Definitions that follow the code. Laws tie each to the plain one; no contract of a public call reaches them.
+pub mod Events

@@ -1,0 +1,17 @@
+-- What is printed, by what is stored: a listing of what was filed, or a refusal's line.
+use Prim.Native.Nat.{ℕ, zero, suc}
+use mathlib.Core.Path.{_≡_}
+use mathlib.Core.List.{List}
+use Rattle.stored.specs.RunCalls.{noCounters}
+use Rattle.stored.specs.declared.answers.Written.{Written}
+use Rattle.stored.specs.declared.counters.Counters.{Counters}
+use Rattle.filing.specs.FileCall.{fileAnswer, fileLeft}
+use Rattle.filing.specs.Listed.{ListingWritten, RefusedWritten}
+
+abbrev pub OutcomeWritten : ℕ → List ℕ → List ℕ → Counters → List ℕ → Written → List ℕ → Type 0
+OutcomeWritten zero a run c before answer after = ListingWritten a run c before answer after
+OutcomeWritten (suc n) a run c before answer after = RefusedWritten (suc n) before answer after
+
+pub record FiledAndListed (a run report out : List ℕ) (answer : Written) (run' out' : List ℕ) : Type 0 where
+  pub runAfter : run' ≡ fileLeft a run noCounters report .bytes
+  pub written : OutcomeWritten (fileAnswer a run report) a run' (fileLeft a run noCounters report .counters) out answer out'

@@ -1,0 +1,66 @@
+-- Why a report is refused, with any automaton and run, by what is stored (paper 01: Service codes, the order of a report). Each refusal
+-- stands with none of those before it.
+use Prim.Native.Nat.{ℕ}
+use mathlib.Core.Path.{_≡_}
+use mathlib.Core.Bool.{Bool, true, false, not, _&&_, _||_}
+use mathlib.Core.List.{List, [], _∷_, _++_, List·Memᴰ}
+use lib.Dec.{eqb, ltb}
+use lib.ListN.{length}
+use Rattle.notation.specs.Form.{every}
+use Rattle.notation.specs.Refusals.{Refusal, shortBuffer, oversize, foreignByte, torn, looseEnd, strangeShape, numberOf}
+use Rattle.theory.specs.Order.{Condition, gives, holds, FirstOf}
+use Rattle.stored.specs.RunCalls.{depthOf, startConditions, openOthers, closeOthers}
+use Rattle.stored.specs.Demand3.{Left, started}
+use Rattle.documents.specs.Tokens.{blank, listed, RunOfTokens}
+use Rattle.documents.specs.Document.{Event, opening, closing, textHere, commentHere, eventsOf}
+use Rattle.filing.specs.Limits.{maxReportBytes}
+use Rattle.filing.specs.FileCall.{leaving, eventsOutcome}
+
+-- no condition of an order holds
+abbrev pub Unmet : List Condition → Type 0
+Unmet order = (c : Condition) → List·Memᴰ c order → holds c ≡ false
+
+-- 1, 14 (automaton only), 2, 8
+abbrev pub reportConditions : List ℕ → List ℕ → List ℕ → List Condition
+reportConditions a run report =
+    startConditions a run ++ (gives (ltb maxReportBytes (length report)) oversize ∷ gives (not (every listed report)) foreignByte ∷ [])
+
+-- those of an event, on run and counters as left before it: an open's and a close's of name and run; text outside the root is blank
+abbrev pub eventConditions : Left → Event → List Condition
+eventConditions t (opening n) = openOthers (t .bytes) (t .counters) n
+eventConditions t (closing n) = closeOthers (t .bytes) n
+eventConditions t (textHere b) = gives (eqb (depthOf (t .bytes)) 0 && not (every blank b)) looseEnd ∷ []
+eventConditions t (commentHere b) = []
+
+-- the first event that is refused; those before it are all taken
+pub record StopsAtEvent (a : List ℕ) (t : Left) (es : List Event) (r : Refusal) : Type 0 where
+  pub before : List Event
+  pub event : Event
+  pub later : List Event
+  pub joined : before ++ (event ∷ later) ≡ es
+  pub left : Left
+  pub taken : eventsOutcome a t before ≡ leaving left
+  pub stops : FirstOf (eventConditions left event) r
+
+-- there was no root, or an element is open
+abbrev pub unfinishedIn : Left → Bool
+unfinishedIn t = eqb (t .counters .opens) 0 || not (eqb (depthOf (t .bytes)) 0)
+
+-- refused: by a condition of the four; no run of tokens (9); at an event; at the end
+pub data RefusedReport (a run report : List ℕ) (r : Refusal) : Type 0 where
+  atOnce : FirstOf (reportConditions a run report) r → RefusedReport a run report r
+  noTokens : r ≡ torn → Unmet (reportConditions a run report) → (RunOfTokens report → ⊥) → RefusedReport a run report r
+  atEvent : Unmet (reportConditions a run report) → (ts : RunOfTokens report) → StopsAtEvent a (started a run) (eventsOf (ts .tokens)) r → RefusedReport a run report r
+  atEnd : r ≡ looseEnd → Unmet (reportConditions a run report) → (ts : RunOfTokens report) → (t : Left)
+      → eventsOutcome a (started a run) (eventsOf (ts .tokens)) ≡ leaving t → unfinishedIn t ≡ true → RefusedReport a run report r
+
+-- filed, with run and counters so left
+pub record TakenReport (a run report : List ℕ) (t : Left) : Type 0 where
+  pub unmet : Unmet (reportConditions a run report)
+  pub tokens : RunOfTokens report
+  pub taken : eventsOutcome a (started a run) (eventsOf (tokens .tokens)) ≡ leaving t
+  pub finished : unfinishedIn t ≡ false
+
+-- 1 and 14 are of what is lent; any other number is of the report
+abbrev pub ofLent : Refusal → Bool
+ofLent r = eqb (numberOf r) (numberOf shortBuffer) || eqb (numberOf r) (numberOf strangeShape)
