@@ -9,10 +9,10 @@ use borrow.Author.Tests.{eqb-true, not-true}
 use native.Mathlib.Omega.{arith}
 use Rattle.notation.specs.Form.{every}
 use Rattle.notation.specs.Refusals.{Refusal, shortBuffer, oversize, foreignByte, strangeShape, numberOf}
-use Rattle.theory.specs.Order.{Condition, gives, refusalOf, FirstOf}
+use Rattle.theory.specs.Order.{Condition, gives, refusalOf, FirstOf, first, given}
 use Rattle.theory.proofs.Laws.Basics.{cases, both, clash}
 use Rattle.stored.specs.Shape.{automatonShaped}
-use Rattle.stored.specs.RunCalls.{given, tooShort, startRefusal}
+use Rattle.stored.specs.RunCalls.{tooShort, startRefusal}
 use Rattle.stored.specs.Demand3.{Left, started}
 use Rattle.stored.specs.declared.counters.Counters.{Counters}
 use Rattle.documents.specs.Tokens.{listed}
@@ -20,7 +20,7 @@ use Rattle.documents.specs.Document.{Event, opening, closing, textHere, comment
 use Rattle.filing.specs.Limits.{maxReportBytes}
 use Rattle.filing.specs.FileCall.{Outcome, refusedWith, leaving, numberLeft, leftIn, reportOutcome, fileAnswer, fileLeft}
 use Rattle.filing.specs.ReportRefusals.{reportConditions, eventConditions, RefusedReport, atOnce, noTokens, atEvent, atEnd, ofLent}
-use Rattle.filing.proofs.Laws.Filing.FromBytes.{some-number}
+use Rattle.notation.proofs.Laws.Refused.Numbers.{some-number}
 use Rattle.filing.proofs.Laws.Demand1.Orders.{given-number}
 
 -- no event gives 1 or 14
@@ -44,7 +44,7 @@ event-own t (commentHere b) = refl
 
 module _ (a run report : List ℕ) where
   start-lent : (r : Refusal) → startRefusal a run ≡ numberOf r → ofLent r ≡ true
-  unfolding startRefusal given
+  unfolding startRefusal given first
   start-lent r = go (tooShort a run) (not (automatonShaped a)) (numberOf r) (some-number r)
     where
       go : (b c : Bool) (n : ℕ) → (n ≡ 0 → ⊥) → given (gives b shortBuffer ∷ gives c strangeShape ∷ []) ≡ n → (eqb n 1 || eqb n 14) ≡ true
@@ -53,7 +53,7 @@ module _ (a run report : List ℕ) where
       go false false n z e = absurd (z (sym e))
 
   once-own : (r : Refusal) → startRefusal a run ≡ 0 → given (reportConditions a run report) ≡ numberOf r → ofLent r ≡ false
-  unfolding startRefusal given
+  unfolding startRefusal given first
   once-own r = go (tooShort a run) (not (automatonShaped a)) (ltb maxReportBytes (length report)) (not (every listed report)) (numberOf r)
     where
       go : (b c d e : Bool) (n : ℕ) → given (gives b shortBuffer ∷ gives c strangeShape ∷ []) ≡ 0

@@ -10,10 +10,10 @@ use borrow.Author.Tests.{ne-eqb}
 use native.Mathlib.Omega.{arith}
 use Rattle.notation.specs.Form.{every}
 use Rattle.notation.specs.Refusals.{Refusal, shortBuffer, oversize, foreignByte, torn, looseEnd, strangeShape, numberOf}
-use Rattle.theory.specs.Order.{Condition, gives, FirstOf}
+use Rattle.theory.specs.Order.{Condition, gives, FirstOf, first, given}
 use Rattle.stored.specs.Shape.{automatonShaped}
 use Rattle.theory.proofs.Laws.Basics.{cases}
-use Rattle.stored.specs.RunCalls.{depthOf, given, tooShort, startRefusal, openRun, openCounters, closeRun, closeCounters}
+use Rattle.stored.specs.RunCalls.{depthOf, tooShort, startRefusal, openRun, openCounters, closeRun, closeCounters}
 use Rattle.stored.specs.Openable.{Usable}
 use Rattle.stored.specs.Demand3.{Left, started}
 use Rattle.stored.proofs.Laws.Shapes.Given.{open-others, close-others}
@@ -25,9 +25,9 @@ use Rattle.documents.proofs.Laws.Read.ReadSound.{found-run, run-found, none-fou
 use Rattle.filing.specs.Limits.{maxReportBytes}
 use Rattle.filing.specs.FileCall.{Outcome, refusedWith, leaving, numberLeft, thenGo, outcome, eventOutcome, eventsOutcome, tokensOutcome, endOutcome, runOutcome, reportOutcome, fileAnswer}
 use Rattle.filing.specs.ReportRefusals.{Unmet, reportConditions, eventConditions, StopsAtEvent, unfinishedIn, RefusedReport, atOnce, noTokens, atEvent, atEnd, TakenReport}
-use Rattle.filing.proofs.Laws.Filing.FilingOrder.{clash}
+use Rattle.filing.proofs.Laws.Filing.FilingParts.{clash}
 use Rattle.filing.proofs.Laws.Filing.Taking.{go-same}
-use Rattle.filing.proofs.Laws.Filing.FromBytes.{some-number}
+use Rattle.notation.proofs.Laws.Refused.Numbers.{some-number}
 use Rattle.filing.proofs.Laws.Demand1.Orders.{decided, given-number, given-zero}
 
 -- outcomes
@@ -62,12 +62,12 @@ module _ (a : List ℕ) where
   eventLeaves t (commentHere b) = t
 
   text-outcome : (c : Bool) (t : Left) → cond c (refusedWith (numberOf looseEnd)) (leaving t) ≡ outcome (given (gives c looseEnd ∷ [])) t
-  unfolding given
+  unfolding given first
   text-outcome true t = refl
   text-outcome false t = refl
 
   event-is : (t : Left) (e : Event) → Fit t → eventOutcome a t e ≡ outcome (given (eventConditions t e)) (eventLeaves t e)
-  unfolding given
+  unfolding given first
   event-is t (opening n) u = rw (open-others a (t .bytes) (t .counters) n u)
   event-is t (closing n) u = rw (close-others a (t .bytes) (t .counters) n u)
   event-is t (textHere b) u = text-outcome (eqb (depthOf (t .bytes)) 0 && not (every blank b)) t
@@ -155,7 +155,7 @@ module _ (a run report : List ℕ) where
   number = fileAnswer a run report
 
   number-is : number ≡ cond (eqb (given order) 0) (numberLeft rest) (given order)
-  unfolding startRefusal reportOutcome given
+  unfolding startRefusal reportOutcome given first
   number-is = go (tooShort a run) (not (automatonShaped a)) (ltb maxReportBytes (length report)) (not (every listed report))
     where
       go : (b c d e : Bool)
@@ -168,7 +168,7 @@ module _ (a run report : List ℕ) where
       go false false false false = refl
 
   starts : given order ≡ 0 → startRefusal a run ≡ 0
-  unfolding startRefusal given
+  unfolding startRefusal given first
   starts = go (tooShort a run) (not (automatonShaped a)) (ltb maxReportBytes (length report)) (not (every listed report))
     where
       go : (b c d e : Bool) → given (gives b shortBuffer ∷ gives c strangeShape ∷ gives d oversize ∷ gives e foreignByte ∷ []) ≡ 0 → given (gives b shortBuffer ∷ gives c strangeShape ∷ []) ≡ 0

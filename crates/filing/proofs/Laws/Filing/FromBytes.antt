@@ -24,7 +24,6 @@ use Rattle.stored.specs.RunCalls.{startRefusal, startRun, noCounters}
 use Rattle.stored.specs.Asking.{askPath, askFolder}
 use Rattle.stored.specs.Demand3.{Left, started, Answers, HasFolder, HasMatchedPath}
 use Rattle.stored.specs.declared.counters.Counters.{Counters}
-use Rattle.notation.proofs.Laws.Refused.Numbers.{one-refusal, some-number}
 use Rattle.theory.proofs.Laws.Basics.{is-any}
 use Rattle.theory.proofs.Laws.Machine.Matches.{run-matched}
 use Rattle.theory.proofs.Laws.Machine.Moves.{Few, fresh-few}

@@ -10,7 +10,8 @@ use Rattle.documents.proofs.Laws.Trees.OneDocument.{one-document}
 use Rattle.filing.specs.Filing.{refused, filed}
 use Rattle.filing.specs.Listing.{refusedLine}
 use Rattle.filing.specs.Printed.{Selecting, noPaths, chosen, left, LinesFor, noFolders, line, noLine, PrintedFor, PrintedOf, itsNumber, itsListing}
-use Rattle.filing.proofs.Laws.Filing.FilingOrder.{clash, refused-is, filed-is}
+use Rattle.filing.proofs.Laws.Filing.FilingOrder.{refused-is, filed-is}
+use Rattle.filing.proofs.Laws.Filing.FilingParts.{clash}
 use Rattle.filing.proofs.Laws.Filing.FilingMoves.{moves-once}
 
 pub selecting-once : {d : Document} {ps qs rs : List Path} → Selecting d ps qs → Selecting d ps rs → qs ≡ rs

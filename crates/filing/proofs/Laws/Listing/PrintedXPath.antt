@@ -12,6 +12,7 @@ use Rattle.notation.specs.Sets.{Path, folder, FolderSet}
 use Rattle.notation.specs.Form.{pathsOf}
 use Rattle.notation.specs.Print.{footer}
 use Rattle.notation.specs.Accepted.{Accepted}
+use Rattle.notation.specs.Judged.{accepts}
 use Rattle.theory.specs.Calls.{State, fresh, run as after}
 use Rattle.theory.proofs.Laws.Basics.{cases, clash}
 use Rattle.stored.specs.declared.answers.Written.{Written}
@@ -91,7 +92,7 @@ report-printed s report = go (fileReport s report) refl
 module _ (text report a run out : List ℕ) (answer : Written) (a' run' out' : List ℕ) (p : Prints text report a run out answer a' run' out')
     (room : tooSmall a run out ≡ false) (s : FolderSet) (acc : Accepted text s) where
   prints-text : PrintsText (filerPrints s report) out answer out'
-  prints-text = p .filedSet room s acc .0
+  prints-text = p .judged room (accepts s) acc .0
 
   pub prints-of : (bytes : List ℕ) × PrintedOf s report bytes × PrintsText bytes out answer out'
   prints-of = (filerPrints s report, report-printed s report, prints-text)
