@@ -10,4 +10,5 @@ pub mod Listing
 pub mod Listed
 pub mod Filer
 pub mod Printed
+pub mod Demand1
 pub mod Code

@@ -3,22 +3,18 @@
 use Prim.Native.Nat.{ℕ}
 use mathlib.Core.Path.{_≡_}
 use mathlib.Core.Bool.{Bool, true, false, not, _&&_, _||_}
-use mathlib.Core.List.{List, [], _∷_, _++_, List·Memᴰ}
+use mathlib.Core.List.{List, [], _∷_, _++_}
 use lib.Dec.{eqb, ltb}
 use lib.ListN.{length}
 use Rattle.notation.specs.Form.{every}
-use Rattle.notation.specs.Refusals.{Refusal, shortBuffer, oversize, foreignByte, torn, looseEnd, strangeShape, numberOf}
-use Rattle.theory.specs.Order.{Condition, gives, holds, FirstOf}
+use Rattle.notation.specs.Refusals.{Refusal, oversize, foreignByte, torn, looseEnd}
+use Rattle.theory.specs.Order.{Condition, gives, Unmet, FirstOf}
 use Rattle.stored.specs.RunCalls.{depthOf, startConditions, openOthers, closeOthers}
 use Rattle.stored.specs.Demand3.{Left, started}
 use Rattle.documents.specs.Tokens.{blank, listed, RunOfTokens}
 use Rattle.documents.specs.Document.{Event, opening, closing, textHere, commentHere, eventsOf}
 use Rattle.filing.specs.Limits.{maxReportBytes}
 use Rattle.filing.specs.FileCall.{leaving, eventsOutcome}
-
--- no condition of an order holds
-abbrev pub Unmet : List Condition → Type 0
-Unmet order = (c : Condition) → List·Memᴰ c order → holds c ≡ false
 
 -- 1, 14 (automaton only), 2, 8
 abbrev pub reportConditions : List ℕ → List ℕ → List ℕ → List Condition
@@ -60,7 +56,3 @@ pub record TakenReport (a run report : List ℕ) (t : Left) : Type 0 where
   pub tokens : RunOfTokens report
   pub taken : eventsOutcome a (started a run) (eventsOf (tokens .tokens)) ≡ leaving t
   pub finished : unfinishedIn t ≡ false
-
--- 1 and 14 are of what is lent; any other number is of the report
-abbrev pub ofLent : Refusal → Bool
-ofLent r = eqb (numberOf r) (numberOf shortBuffer) || eqb (numberOf r) (numberOf strangeShape)

@@ -10,7 +10,7 @@ use lib.ListN.{length, take, drop, length-append, length-drop}
 use lib.Seq.{take-append-seam, drop-append-seam, drop-drop}
 use Rattle.notation.specs.Names.{Name, nameForm}
 use Rattle.documents.specs.Tokens.{Token, printAttributes, printToken, formedTag, formedToken, isText}
-use Rattle.documents.specs.Reading.{Read, fail, got, readToken}
+use Rattle.documents.specs.Reading.{fail, got, readToken}
 use Rattle.documents.specs.TagAt.{Tag, start, empty, end, WholeTag, NoTag, TagAt, whole, none}
 use Rattle.documents.proofs.Laws.Read.Bytes.{left}
 use Rattle.documents.proofs.Laws.Printed.ReadBack.{token-back}

@@ -4,12 +4,11 @@ use mathlib.Core.Option.{Option, none, some}
 use mathlib.Core.Logic.{_⊎_, inl, inr}
 use mathlib.Core.List.{List}
 use Rattle.notation.specs.Refusals.{Refusal, numberOf}
-use Rattle.theory.specs.Order.{Condition, FirstOf, first, given}
+use Rattle.theory.specs.Order.{Condition, Unmet, FirstOf, first, given}
 use Rattle.theory.proofs.Laws.Machine.Order.{first-is, first-none, given-by}
-use Rattle.filing.specs.ReportRefusals.{Unmet}
 
 pub given-number : (order : List Condition) (r : Refusal) → FirstOf order r → given order ≡ numberOf r
-given-number order r f = given-by order .refused r .1 f
+given-number order r f = given-by order .refusals r .1 f
 
 pub given-zero : (order : List Condition) → Unmet order → given order ≡ 0
 given-zero order u = given-by order .accepted .1 u

@@ -19,9 +19,13 @@ use Rattle.documents.specs.Tokens.{listed}
 use Rattle.documents.specs.Document.{Event, opening, closing, textHere, commentHere}
 use Rattle.filing.specs.Limits.{maxReportBytes}
 use Rattle.filing.specs.FileCall.{Outcome, refusedWith, leaving, numberLeft, leftIn, reportOutcome, fileAnswer, fileLeft}
-use Rattle.filing.specs.ReportRefusals.{reportConditions, eventConditions, RefusedReport, atOnce, noTokens, atEvent, atEnd, ofLent}
+use Rattle.filing.specs.ReportRefusals.{reportConditions, eventConditions, RefusedReport, atOnce, noTokens, atEvent, atEnd}
 use Rattle.notation.proofs.Laws.Refused.Numbers.{some-number}
 use Rattle.filing.proofs.Laws.Demand1.Orders.{given-number}
+
+-- 1 and 14 are of what is lent; any other number is of the report
+abbrev pub ofLent : Refusal → Bool
+ofLent r = eqb (numberOf r) (numberOf shortBuffer) || eqb (numberOf r) (numberOf strangeShape)
 
 -- no event gives 1 or 14
 abbrev own : Condition → Bool

@@ -10,7 +10,7 @@ use borrow.Author.Tests.{ne-eqb}
 use native.Mathlib.Omega.{arith}
 use Rattle.notation.specs.Form.{every}
 use Rattle.notation.specs.Refusals.{Refusal, shortBuffer, oversize, foreignByte, torn, looseEnd, strangeShape, numberOf}
-use Rattle.theory.specs.Order.{Condition, gives, FirstOf, first, given}
+use Rattle.theory.specs.Order.{Condition, gives, Unmet, FirstOf, first, given}
 use Rattle.stored.specs.Shape.{automatonShaped}
 use Rattle.theory.proofs.Laws.Basics.{cases}
 use Rattle.stored.specs.RunCalls.{depthOf, tooShort, startRefusal, openRun, openCounters, closeRun, closeCounters}
@@ -24,7 +24,7 @@ use Rattle.documents.specs.Document.{Event, opening, closing, textHere, comment
 use Rattle.documents.proofs.Laws.Read.ReadSound.{found-run, run-found, none-found}
 use Rattle.filing.specs.Limits.{maxReportBytes}
 use Rattle.filing.specs.FileCall.{Outcome, refusedWith, leaving, numberLeft, thenGo, outcome, eventOutcome, eventsOutcome, tokensOutcome, endOutcome, runOutcome, reportOutcome, fileAnswer}
-use Rattle.filing.specs.ReportRefusals.{Unmet, reportConditions, eventConditions, StopsAtEvent, unfinishedIn, RefusedReport, atOnce, noTokens, atEvent, atEnd, TakenReport}
+use Rattle.filing.specs.ReportRefusals.{reportConditions, eventConditions, StopsAtEvent, unfinishedIn, RefusedReport, atOnce, noTokens, atEvent, atEnd, TakenReport}
 use Rattle.filing.proofs.Laws.Filing.FilingParts.{clash}
 use Rattle.filing.proofs.Laws.Filing.Taking.{go-same}
 use Rattle.notation.proofs.Laws.Refused.Numbers.{some-number}

@@ -1,6 +1,6 @@
 -- The token at an offset gives the offsets of a tag's name; so every offset of every bytes has exactly one pair of them.
 use Prim.Native.Nat.{ℕ, _-_}
-use mathlib.Core.Path.{_≡_, refl, sym}
+use mathlib.Core.Path.{_≡_, refl}
 use mathlib.Core.List.{List}
 use lib.ListN.{length, drop}
 use Rattle.notation.specs.Names.{Name}

@@ -2,14 +2,16 @@
 -- order gives is its number.
 use mathlib.Core.Path.{_≡_, refl, sym, _∙_, ap}
 use mathlib.Core.Bool.{Bool, true, false, cond}
-use mathlib.Core.Logic.{inl, inr, _↔_}
+use mathlib.Core.Logic.{_⊎_, inl, inr, _↔_}
 use mathlib.Core.Option.{Option, none, some, Option·none-ne-some, Option·some-injective, Option·some-ne-none}
 use mathlib.Core.List.{List, [], _∷_, _++_, List·Memᴰ, List·Memᴰ·head, List·Memᴰ·tail, List·Memᴰ·not-nil, List·Memᴰ·cases-cons}
 use lib.Dec.{eqb}
 use borrow.Author.Tests.{eq-eqb, ne-eqb}
 use Rattle.notation.specs.Refusals.{Refusal, numberOf}
+use Rattle.notation.specs.Answers.{Answer, refused, said}
 use Rattle.notation.proofs.Laws.Refused.Numbers.{one-refusal, some-number}
-use Rattle.theory.specs.Order.{Condition, gives, holds, FirstOf, first, isNone, numberIn, given, GivenBy}
+use Rattle.notation.proofs.Laws.Said.{said-value, said-refused, value-said, refused-said}
+use Rattle.theory.specs.Order.{Condition, gives, holds, FirstOf, first, isNone, numberIn, given, GivenBy, AnswersBy}
 use Rattle.theory.proofs.Laws.Basics.{clash}
 
 pub is-none : (o : Option Refusal) → isNone o ≡ true → o ≡ none
@@ -70,10 +72,14 @@ pub number-zero : (o : Option Refusal) → (numberIn o ≡ 0) ↔ (o ≡ none)
 number-zero none = (λ e. refl, λ e. refl)
 number-zero (some q) = (λ e. absurd (some-number q e), λ e. absurd (Option·some-ne-none q e))
 
+number-either : (o : Option Refusal) → (numberIn o ≡ 0) ⊎ ((r : Refusal) × (numberIn o ≡ numberOf r))
+number-either none = inl refl
+number-either (some r) = inr (r, refl)
+
 pub given-by : (order : List Condition) → GivenBy order (given order)
 unfolding given
 given-by order = record {
-  refused = λ r.
+  refusals = λ r.
       let n = number-some (first order) r in
       let f = first-is order r in
       (λ e. f .0 (n .0 e), λ h. n .1 (f .1 h));
@@ -81,7 +87,27 @@ given-by order = record {
       let n = number-zero (first order) in
       let f = first-none order in
       (λ e. f .0 (n .0 e), λ h. n .1 (f .1 h));
+  either = number-either (first order);
 }
+
+-- an answer that an order gives, or a value
+pub answers-by : {A : Type 0} (order : List Condition) (v : A) (says : Answer A) → says ≡ said (given order) v → AnswersBy order says
+answers-by order v says is =
+    let g = given-by order in
+    record {
+      refusals = λ r. (
+        λ e. g .refusals r .0 (sym (refused-said (given order) (numberOf r) v (sym e ∙ is) .0)),
+        λ f. let n = g .refusals r .1 f in is ∙ said-refused (given order) v (λ z. some-number r (sym n ∙ z)) ∙ ap refused n,
+      );
+      answered = (
+        λ e. g .accepted .0 (value-said (given order) (e .0) v (sym (e .1) ∙ is) .0),
+        λ u. (v, is ∙ said-value (given order) v (g .accepted .1 u)),
+      );
+      either = elim (g .either) [
+        | inl z ↦ inl (v, is ∙ said-value (given order) v z)
+        | inr (r, n) ↦ inr (r, is ∙ said-refused (given order) v (λ z. some-number r (sym n ∙ z)) ∙ ap refused n)
+      ];
+    }
 
 -- condition by condition
 pub given-none : given [] ≡ 0

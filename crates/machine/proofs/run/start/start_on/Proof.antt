@@ -1,6 +1,6 @@
 use mathlib.Core.Path.{_∙_, ap}
 use mathlib.Core.List.{List, _++_}
-use Prim.Native.Nat.{ℕ, _+_}
+use Prim.Native.Nat.{ℕ}
 use lib.ListN.{drop, replicate}
 use lib.Seq.{sets}
 use Rattle.notation.specs.Layout.{le16}

@@ -1,0 +1,103 @@
+-- Demand 1 of the letter, as one statement: whatever a public call is lent, it brings its answer or one of fourteen numbered refusals, each
+-- exactly where its condition holds and no earlier one of the call's order does; and what a refused call leaves. Of each call the contract
+-- alone is used.
+use Prim.Native.Nat.{ℕ, _≤_, _<_}
+use mathlib.Core.Path.{_≡_}
+use mathlib.Core.Bool.{true}
+use mathlib.Core.Logic.{_↔_, _⊎_}
+use mathlib.Core.List.{List, [], _∷_}
+use lib.Dec.{ltb}
+use lib.ListN.{length}
+use Rattle.notation.specs.Names.{Name}
+use Rattle.notation.specs.Sets.{FolderSet}
+use Rattle.notation.specs.Refusals.{Refusal, shortBuffer, strangeShape, numberOf}
+use Rattle.notation.specs.Answers.{numberSaid, writtenSays as textSays}
+use Rattle.notation.specs.Judged.{RefusedText}
+use Rattle.notation.specs.Accepted.{Accepted}
+use Rattle.notation.specs.Layout.{setSize}
+use Rattle.notation.specs.Reads.{textOf, pathAt, folderOf}
+use Rattle.notation.specs.ReadSet.{ReadSet}
+use Rattle.notation.specs.WriteText.{WriteText}
+use Rattle.notation.specs.declared.PathPlace.{PathPlace}
+use Rattle.notation.specs.declared.FolderNumber.{FolderNumber}
+use Rattle.notation.specs.declared.write.Written.{Written as TextWritten}
+use Rattle.theory.specs.Order.{gives, GivenBy, AnswersBy}
+use Rattle.stored.specs.Automaton.{automatonSize}
+use Rattle.stored.specs.Answers.{openedSays, askedSays, lengthSays, writtenSays}
+use Rattle.stored.specs.Build.{Built, SetWritten, writeConditions}
+use Rattle.stored.specs.RunCalls.{startConditions, openConditions, closeConditions, startRun, noCounters}
+use Rattle.stored.specs.RunContracts.{Starts, Opens, Closes}
+use Rattle.stored.specs.Asking.{askConditions, hasPath, hasFolder, hasStep, hasDepth, askPath, askFolder, askStep, askPrefix, nameRefusal, askName}
+use Rattle.stored.specs.Demand3.{Left}
+use Rattle.stored.specs.declared.counters.Counters.{Counters}
+use Rattle.stored.specs.declared.answers.Opened.{Opened}
+use Rattle.stored.specs.declared.answers.Asked.{Asked}
+use Rattle.stored.specs.declared.answers.Length.{Length}
+use Rattle.stored.specs.declared.answers.Written.{Written}
+use Rattle.filing.specs.Limits.{listingSize}
+use Rattle.filing.specs.FileCall.{Files}
+use Rattle.filing.specs.ReportRefusals.{RefusedReport, TakenReport}
+use Rattle.filing.specs.Listed.{listingConditions, ListingWritten, RefusedWritten}
+use Rattle.filing.specs.Filer.{tooSmall, Prints}
+
+-- with any number but 0 this is so
+abbrev pub IfRefused : ℕ → Type 0 → Type 0
+IfRefused number left = (number ≡ 0 → ⊥) → left
+
+-- a set's text is refused: 1 for a buffer below this size, then for the text's own fault
+pub data SetRefused (size : ℕ) (text before : List ℕ) (r : Refusal) : Type 0 where
+  shortFirst : r ≡ shortBuffer → length before < size → SetRefused size text before r
+  ofText : size ≤ length before → RefusedText text r → SetRefused size text before r
+
+-- what a call that judges a set's text answers, and that a refusal changes nothing
+pub record SetJudged (size : ℕ) (text before : List ℕ) (answer : ℕ) (after : List ℕ) : Type 0 where
+  pub refusals : (r : Refusal) → (answer ≡ numberOf r) ↔ SetRefused size text before r
+  pub accepted : (answer ≡ 0) ↔ ((size ≤ length before) × ((s : FolderSet) × Accepted text s))
+  pub either : (answer ≡ 0) ⊎ ((r : Refusal) × (answer ≡ numberOf r))
+  pub untouched : IfRefused answer (after ≡ before)
+
+-- what filing a report answers, and what a refused one leaves: all as it was where 1 or 14 is given, else a fresh run and zero counters
+pub record ReportJudged (a run : List ℕ) (c : Counters) (report : List ℕ) (answer : ℕ) (run' : List ℕ) (c' : Counters) : Type 0 where
+  pub refusals : (r : Refusal) → (answer ≡ numberOf r) ↔ RefusedReport a run report r
+  pub accepted : (answer ≡ 0) ↔ ((t : Left) × TakenReport a run report t)
+  pub either : (answer ≡ 0) ⊎ ((r : Refusal) × (answer ≡ numberOf r))
+  pub untouched : (answer ≡ numberOf shortBuffer) ⊎ (answer ≡ numberOf strangeShape) → (run' ≡ run) × (c' ≡ c)
+  pub fresh : (answer ≡ numberOf shortBuffer → ⊥) → (answer ≡ numberOf strangeShape → ⊥) → IfRefused answer ((run' ≡ startRun a run) × (c' ≡ noCounters))
+
+pub record Demand1 : Type 0 where
+  -- the numbers are 1 to 14, each that of one refusal
+  pub fourteen : (r : Refusal) → (1 ≤ numberOf r) × (numberOf r ≤ 14)
+  pub different : (q r : Refusal) → numberOf q ≡ numberOf r → q ≡ r
+  -- a set is read, built, and written back
+  pub reads : (text before : List ℕ) (answer : ℕ) (after : List ℕ) → ReadSet text before answer after → SetJudged setSize text before answer after
+  pub builds : (text before : List ℕ) (answer : ℕ) (after : List ℕ) → Built text before answer after → SetJudged automatonSize text before answer after
+  pub writesText : (part before : List ℕ) (answer : TextWritten) (after : List ℕ) → WriteText part before answer after
+      → AnswersBy (gives (ltb (length before) (length (textOf part))) shortBuffer ∷ []) (textSays answer) × IfRefused (numberSaid (textSays answer)) (after ≡ before)
+  pub writesSet : (a before : List ℕ) (answer : Written) (after : List ℕ) → SetWritten a before answer after
+      → AnswersBy (writeConditions a before) (writtenSays answer) × IfRefused (numberSaid (writtenSays answer)) (after ≡ before)
+  -- a run is started; elements are opened and closed
+  pub starts : (a run : List ℕ) (c : Counters) (answer : ℕ) (run' : List ℕ) (c' : Counters) → Starts a run c answer run' c'
+      → GivenBy (startConditions a run) answer × IfRefused answer ((run' ≡ run) × (c' ≡ c))
+  pub opens : (a run : List ℕ) (c : Counters) (e : Name) (answer : Opened) (run' : List ℕ) (c' : Counters) → Opens a run c e answer run' c'
+      → AnswersBy (openConditions a run c e) (openedSays answer) × IfRefused (numberSaid (openedSays answer)) ((run' ≡ run) × (c' ≡ c))
+  pub closes : (a run : List ℕ) (c : Counters) (e : Name) (answer : ℕ) (run' : List ℕ) (c' : Counters) → Closes a run c e answer run' c'
+      → GivenBy (closeConditions a run c e) answer × IfRefused answer ((run' ≡ run) × (c' ≡ c))
+  -- a run is asked; nothing is lent to be changed
+  pub paths : (a run : List ℕ) (place : PathPlace) (answer : Asked) → askedSays answer ≡ askPath a run place
+      → AnswersBy (askConditions a run (hasPath (pathAt a place))) (askedSays answer)
+  pub folders : (a run : List ℕ) (number : FolderNumber) (answer : Asked) → askedSays answer ≡ askFolder a run number
+      → AnswersBy (askConditions a run (hasFolder (folderOf a number))) (askedSays answer)
+  pub steps : (a run : List ℕ) (place : PathPlace) (s : ℕ) (answer : Asked) → askedSays answer ≡ askStep a run place s
+      → AnswersBy (askConditions a run (hasStep (pathAt a place) s)) (askedSays answer)
+  pub prefixes : (a run : List ℕ) (answer : Length) → lengthSays answer ≡ askPrefix a run → AnswersBy (askConditions a run true) (lengthSays answer)
+  pub names : (a run : List ℕ) (d number : ℕ) (shown : Name) → number ≡ nameRefusal a run d → shown ≡ askName a run d
+      → GivenBy (askConditions a run (hasDepth run d)) number × IfRefused number (shown ≡ [])
+  -- a report is filed, listed, and both as one call
+  pub files : (a run : List ℕ) (c : Counters) (report : List ℕ) (answer : ℕ) (run' : List ℕ) (c' : Counters) → Files a run c report answer run' c'
+      → ReportJudged a run c report answer run' c'
+  pub lists : (a run : List ℕ) (c : Counters) (before : List ℕ) (answer : Written) (after : List ℕ) → ListingWritten a run c before answer after
+      → AnswersBy (listingConditions a run c before) (writtenSays answer) × IfRefused (numberSaid (writtenSays answer)) (after ≡ before)
+  pub listsRefusal : (n : ℕ) (before : List ℕ) (answer : Written) (after : List ℕ) → RefusedWritten n before answer after
+      → AnswersBy (gives (ltb (length before) listingSize) shortBuffer ∷ []) (writtenSays answer) × IfRefused (numberSaid (writtenSays answer)) (after ≡ before)
+  pub prints : (text report a run out : List ℕ) (answer : Written) (a' run' out' : List ℕ) → Prints text report a run out answer a' run' out'
+      → AnswersBy (gives (tooSmall a run out) shortBuffer ∷ []) (writtenSays answer) × IfRefused (numberSaid (writtenSays answer)) ((a' ≡ a) × ((run' ≡ run) × (out' ≡ out)))
