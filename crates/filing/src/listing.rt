@@ -201,7 +201,8 @@ fn lent_refusal(a: &[u8], run: &[u8], c: Counters) -> u8
 fn refusal(a: &[u8], run: &[u8], c: Counters, out: &mut [u8]) -> u8
     ensures { λ r. ⌜ (r ≡ listingRefusal (now (a .entry)) (now (run .entry)) c (now (out .entry))) × (now (out .exit) ≡ now (out .entry)) ⌝ }
 {
-    if out.len() < LISTING_SIZE {
+    let size = out.len();
+    if size < LISTING_SIZE {
         return 1;
     }
     let lent = lent_refusal(a, run, c);

@@ -1,4 +1,5 @@
 -- `listing::refusal`: a short buffer, what is lent, and the length of the listing.
+use native.Mathlib.Omega.{arith}
 use mathlib.Core.Path.{refl, sym, _∙_}
 use Rattle.notation.specs.Limits.{maxSetBytes}
 use Rattle.filing.specs.Limits.{maxMovesLine, listingSize}
@@ -10,7 +11,7 @@ use Rattle.filing.proofs.listing.refusal.Tie as tie
 returns : tie.Need-returns
 unfolding listingSize maxSetBytes maxMovesLine
 returns c = let a = c .before .before .before .before .args in
-    (sym (out-short (a .a .now) (a .run .now) (a .c) (a .out .now) (c .if1 .taken)), refl)
+    (sym (out-short (a .a .now) (a .run .now) (a .c) (a .out .now) (omega arith)), refl)
 
 lent-refusal-requires : tie.Need-lent-refusal-requires
 lent-refusal-requires c κs = search needs
@@ -19,7 +20,7 @@ returns-2 : tie.Need-returns-2
 unfolding listingSize maxSetBytes maxMovesLine
 returns-2 c = let a = c .before .before .before .before .before .before .args in
     let e = c .before .lent-refusal .ensures in
-    (e ∙ sym (lent-refused (a .a .now) (a .run .now) (a .c) (a .out .now) (c .before .before .if1 .left) (λ z. c .if2 .taken (e ∙ z))), refl)
+    (e ∙ sym (lent-refused (a .a .now) (a .run .now) (a .c) (a .out .now) (omega (arith, c .before .before .if1 .left)) (λ z. c .if2 .taken (e ∙ z))), refl)
 
 compose-requires : tie.Need-compose-requires
 compose-requires c κs = search needs
@@ -32,7 +33,7 @@ unfolding listingSize maxSetBytes maxMovesLine
 returns-3 c = let a = c .before .before .before .before .before .before .before .before .before .before .before .args in
     let x = c .before .before .before .compose .ensures in
     let z = sym (c .before .before .before .before .before .before .lent-refusal .ensures) ∙ c .before .before .before .before .before .if2 .left in
-    (sym (dry-says (a .a .now) (a .run .now) (a .c) (a .out .now) (c .before .before .before .before .before .before .before .if1 .left) z x ∙ rw (c .if3 .taken)), x .kept refl)
+    (sym (dry-says (a .a .now) (a .run .now) (a .c) (a .out .now) (omega (arith, c .before .before .before .before .before .before .before .if1 .left)) z x ∙ rw (c .if3 .taken)), x .kept refl)
 
 same-length-2 : tie.Need-same-length-2
 same-length-2 c = search needs
@@ -42,7 +43,7 @@ unfolding listingSize maxSetBytes maxMovesLine
 returns-4 c = let a = c .before .before .before .before .before .before .before .before .before .before .before .args in
     let x = c .before .before .before .compose .ensures in
     let z = sym (c .before .before .before .before .before .before .lent-refusal .ensures) ∙ c .before .before .before .before .before .if2 .left in
-    (sym (dry-says (a .a .now) (a .run .now) (a .c) (a .out .now) (c .before .before .before .before .before .before .before .if1 .left) z x ∙ rw (c .if3 .left)), x .kept refl)
+    (sym (dry-says (a .a .now) (a .run .now) (a .c) (a .out .now) (omega (arith, c .before .before .before .before .before .before .before .if1 .left)) z x ∙ rw (c .if3 .left)), x .kept refl)
 
 pub refusal-spec : {M : Type 1} → statement M
 refusal-spec =
