@@ -105,6 +105,7 @@ fn left() {
     say::left(b"<a><a/></a>");
     say::short(b"<a");
     say::strange(b"<a");
+    say::long(b"<a><b/></a>");
 }
 
 fn main() {

@@ -5,6 +5,9 @@ use filing::listing::write_refused;
 use filing::report::Taken;
 use filing::report::file_by;
 use machine::build::build;
+use notation::layout::PATH_SIZE;
+use notation::layout::PATHS_AT;
+use notation::layout::TEXT_LEN_AT;
 use stored::answers::Written;
 use stored::counters::Counters;
 
@@ -121,6 +124,41 @@ pub fn strange(report: &[u8]) {
     a[3] = 255;
     let done = file_by(&a, &mut run, none(), report);
     print_answer(done.refusal);
+}
+
+// What a buffer of this size is answered by.
+fn lend(a: &[u8], run: &[u8], c: Counters, size: usize) {
+    let mut out = [0u8; 40000];
+    if out.len() < size {
+        return;
+    }
+    io::print_decimal(1, size as u64);
+    io::write_all(1, b" lent: ");
+    let from = 0;
+    match write_listing(a, run, c, &mut out[from..size]) {
+        Written::Bytes(n) => {
+            io::print_decimal(1, n as u64);
+            io::write_all(1, b" bytes\n");
+        }
+        Written::Refused(n) => print_answer(n),
+    }
+}
+
+// An automaton of the right shape whose listing is longer than any built set's: text and both paths are said to be 63 * 256 bytes longer, so
+// that the paths overlap. The listing has 7 + (8 + 1 + 2 * (2 + 16131 + 1) + 2) + 12 + 2 bytes, 32300.
+pub fn long(report: &[u8]) {
+    let mut a = [0u8; 65536];
+    let mut run = [0u8; 65536];
+    line(report);
+    build(b"(folders\n(folder 1 (//a) (//b))\n)\n", &mut a);
+    let done = file_by(&a, &mut run, none(), report);
+    a[TEXT_LEN_AT + 1] = 63;
+    a[PATHS_AT + 7] = 63;
+    a[PATHS_AT + PATH_SIZE + 7] = 63;
+    let c = done.counters;
+    lend(&a, &run, c, 32299);
+    lend(&a, &run, c, 32300);
+    lend(&a, &run, c, 32301);
 }
 
 // A run that is too short: 1 comes before all else.

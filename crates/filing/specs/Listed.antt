@@ -1,13 +1,12 @@
 -- What the calls that write a listing promise, of any automaton, run and counters, by what is stored.
-use Prim.Native.Nat.{ℕ}
+use Prim.Native.Nat.{ℕ, max}
 use mathlib.Core.Bool.{not, _||_, cond}
-use mathlib.Core.Option.{Option, none, some}
 use mathlib.Core.List.{List, [], _∷_, _++_}
 use lib.Dec.{ltb}
 use lib.ListN.{length}
 use Rattle.notation.specs.Print.{decimal, folderWord, footer}
 use Rattle.notation.specs.Reads.{folderCount, folderAt, pathText}
-use Rattle.notation.specs.Refusals.{shortBuffer, strangeShape, numberOf}
+use Rattle.notation.specs.Refusals.{shortBuffer, strangeShape}
 use Rattle.notation.specs.WriteText.{TextWritten}
 use Rattle.notation.specs.declared.reads.FolderAt.{FolderAt}
 use Rattle.notation.specs.Form.{any}
@@ -53,19 +52,15 @@ unfoldable pub listingIn : List ℕ → List ℕ → Counters → List ℕ
 listingIn a run c =
     filedHeader ++ (foldersListed a run (countFrom 0 (folderCount a)) ++ (movesLine (c .opens) (c .moves) ++ footer))
 
--- 1 and 14 (automaton, run and counters) of what is lent, and of the size of the buffer
-abbrev pub lentConditions : List ℕ → List ℕ → Counters → ℕ → List Condition
-lentConditions a run c size =
-    gives (tooShort a run || ltb size listingSize) shortBuffer ∷ gives (not (shaped a run c)) strangeShape ∷ []
+-- bytes that a listing needs: those that suffice for every built set; of an automaton of the right shape that was made otherwise, what is stored
+-- makes if it is longer
+unfoldable pub listingRoom : List ℕ → List ℕ → Counters → ℕ
+listingRoom a run c = cond (shaped a run c) (max listingSize (length (listingIn a run c))) listingSize
 
--- the same, and 1 again where a listing that no built set has is longer than the buffer need be
+-- 1 and 14 (automaton, run and counters)
 abbrev pub listingConditions : List ℕ → List ℕ → Counters → List ℕ → List Condition
 listingConditions a run c out =
-    lentConditions a run c (length out) ++ (gives (ltb listingSize (length (listingIn a run c))) shortBuffer ∷ [])
-
--- the last of them by itself
-unfoldable pub heldRefusal : List ℕ → ℕ
-heldRefusal text = given (gives (ltb listingSize (length text)) shortBuffer ∷ [])
+    gives (tooShort a run || ltb (length out) (listingRoom a run c)) shortBuffer ∷ gives (not (shaped a run c)) strangeShape ∷ []
 
 unfoldable pub listingRefusal : List ℕ → List ℕ → Counters → List ℕ → ℕ
 listingRefusal a run c out = given (listingConditions a run c out)
@@ -76,15 +71,6 @@ Writes refusal text before answer after = TextWritten refusal text before (writt
 
 abbrev pub ListingWritten : List ℕ → List ℕ → Counters → List ℕ → Written → List ℕ → Type 0
 ListingWritten a run c before answer after = Writes (listingRefusal a run c before) (listingIn a run c) before answer after
-
--- what a page holds is written, or 1 where it was too short for it
-abbrev pub pageRefusal : Option (List ℕ) → ℕ
-pageRefusal none = numberOf shortBuffer
-pageRefusal (some w) = 0
-
-abbrev pub pageText : Option (List ℕ) → List ℕ
-pageText none = []
-pageText (some w) = w
 
 -- the line of a refusal: 1 for a short buffer
 unfoldable pub refusedRefusal : List ℕ → ℕ

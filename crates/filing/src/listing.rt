@@ -12,21 +12,20 @@ use machine::shape::automaton_shaped;
 use notation::PathPlace;
 use notation::reads;
 use notation::reads::FolderAt;
-use notation::store::copy;
 use stored::answers::Written;
 use stored::counters::Counters;
 ghost use mathlib.Core.Path.{_≡_};
+ghost use mathlib.Core.Bool.{false};
 ghost use mathlib.Core.List.{_++_};
 ghost use Prim.Native.Nat.{_≤_};
-ghost use lib.ListN.{length};
 ghost use Rattle.notation.specs.Print.{decimal, folderWord};
 ghost use Rattle.notation.specs.Reads.{folderAt, folderCount};
 ghost use Rattle.theory.specs.Folders.{countFrom};
 ghost use Rattle.theory.specs.Order.{given};
-ghost use Rattle.filing.specs.Limits.{listingSize};
-ghost use Rattle.filing.specs.Code.Page.{On, Adds, Holds, soFar};
+ghost use Rattle.stored.specs.RunCalls.{lentConditions};
+ghost use Rattle.filing.specs.Code.Page.{On, Adds, Composes};
 ghost use Rattle.filing.specs.Listing.{movesWord, movesLine, refusedLine};
-ghost use Rattle.filing.specs.Listed.{pathListed, ifMatched, pathsListed, lineListed, lineAt, folderListed, foldersListed, listingIn, lentConditions, heldRefusal, Writes, ListingWritten, RefusedWritten, pageRefusal, pageText};
+ghost use Rattle.filing.specs.Listed.{pathListed, ifMatched, pathsListed, lineListed, lineAt, folderListed, foldersListed, listingIn, listingRefusal, ListingWritten, RefusedWritten};
 
 fn emit_path(a: &[u8], place: usize, page: &mut [u8], pen: Pen) -> Pen
     requires { ⌜ On (now page) pen ⌝ }
@@ -145,47 +144,47 @@ fn emit_moves(opens: usize, moves: usize, page: &mut [u8], pen: Pen) -> Pen
     emit(page, second, b")\n")
 }
 
-fn compose(a: &[u8], run: &[u8], c: Counters, page: &mut [u8]) -> Pen
-    ensures { λ r. ⌜ Holds (length (now (page .entry))) (listingIn (now (a .entry)) (now (run .entry)) c) (now (page .exit)) r ⌝ }
+fn compose(a: &[u8], run: &[u8], c: Counters, page: &mut [u8], dry: bool) -> Pen
+    ensures { λ r. ⌜ Composes dry (listingIn (now (a .entry)) (now (run .entry)) c) (now (page .entry)) (now (page .exit)) r ⌝ }
 {
-    let start = emit(page, Pen { at: 0, fits: true }, b"(filed\n");
+    let start = emit(
+        page,
+        Pen {
+            at: 0,
+            fits: true,
+            dry: dry,
+        },
+        b"(filed\n",
+    );
     let folders = emit_folders(a, run, page, start);
     let moves = emit_moves(c.opens, c.moves, page, folders);
     emit(page, moves, b")\n")
 }
 
 fn compose_refused(n: u8, page: &mut [u8]) -> Pen
-    ensures { λ r. ⌜ Holds (length (now (page .entry))) (refusedLine n) (now (page .exit)) r ⌝ }
+    ensures { λ r. ⌜ Composes false (refusedLine n) (now (page .entry)) (now (page .exit)) r ⌝ }
 {
-    let word = emit(page, Pen { at: 0, fits: true }, b"(refused ");
+    let word = emit(
+        page,
+        Pen {
+            at: 0,
+            fits: true,
+            dry: false,
+        },
+        b"(refused ",
+    );
     let number = emit_number(page, word, n as usize);
     emit(page, number, b")\n")
 }
 
-// The page's text to the first bytes of `out`.
-fn deliver(page: &[u8], pen: Pen, out: &mut [u8]) -> Written
-    requires { ⌜ (length (now page) ≤ length (now out)) × (On (now page) pen) ⌝ }
-    ensures { λ r. ⌜ Writes (pageRefusal (soFar (now (page .entry)) pen)) (pageText (soFar (now (page .entry)) pen)) (now (out .entry)) r (now (out .exit)) ⌝ }
-{
-    if !pen.fits {
-        return Written::Refused(1);
-    }
-    let at = pen.at;
-    copy(out, 0, &page[..at]);
-    Written::Bytes(at)
-}
-
-// 1 and 14.
-fn refusal(a: &[u8], run: &[u8], c: Counters, size: usize) -> u8
-    ensures { λ r. ⌜ r ≡ given (lentConditions (now (a .entry)) (now (run .entry)) c size) ⌝ }
+// 1 and 14 of automaton, run and counters.
+fn lent_refusal(a: &[u8], run: &[u8], c: Counters) -> u8
+    ensures { λ r. ⌜ r ≡ given (lentConditions (now (a .entry)) (now (run .entry)) c) ⌝ }
 {
     if a.len() < AUTOMATON_SIZE {
         return 1;
     }
     if run.len() < RUN_SIZE {
-        return 1;
-    }
-    if size < LISTING_SIZE {
         return 1;
     }
     if automaton_shaped(a) {
@@ -198,41 +197,45 @@ fn refusal(a: &[u8], run: &[u8], c: Counters, size: usize) -> u8
     14
 }
 
-fn write_page(a: &[u8], run: &[u8], c: Counters, page: &mut [u8], out: &mut [u8]) -> Written
-    requires { ⌜ (length (now page) ≡ listingSize) × (listingSize ≤ length (now out)) ⌝ }
-    ensures { λ r. ⌜ Writes (heldRefusal (listingIn (now (a .entry)) (now (run .entry)) c)) (listingIn (now (a .entry)) (now (run .entry)) c) (now (out .entry)) r (now (out .exit)) ⌝ }
+// 1 and 14. A dry pen finds out whether what is stored has room.
+fn refusal(a: &[u8], run: &[u8], c: Counters, out: &mut [u8]) -> u8
+    ensures { λ r. ⌜ (r ≡ listingRefusal (now (a .entry)) (now (run .entry)) c (now (out .entry))) × (now (out .exit) ≡ now (out .entry)) ⌝ }
 {
-    let pen = compose(a, run, c, page);
-    deliver(page, pen, out)
+    let size = out.len();
+    if size < LISTING_SIZE {
+        return 1;
+    }
+    let lent = lent_refusal(a, run, c);
+    if lent != 0 {
+        return lent;
+    }
+    let pen = compose(a, run, c, out, true);
+    if pen.fits {
+        return 0;
+    }
+    1
 }
 
-// Writes the listing of a run to the first bytes of `out` and answers its length, or the number of the refusal. Bytes past it stay.
+// Writes the listing of a run to the first bytes of `out` and answers its length, or the number of the refusal. Bytes past it stay. The
+// listing is gone through twice, once for its length, so that a refusal changes nothing.
 pub fn write_listing(a: &[u8], run: &[u8], c: Counters, out: &mut [u8]) -> Written
     ensures { λ r. ⌜ ListingWritten (now (a .entry)) (now (run .entry)) c (now (out .entry)) r (now (out .exit)) ⌝ }
 {
-    let refused = refusal(a, run, c, out.len());
+    let refused = refusal(a, run, c, out);
     if refused != 0 {
         return Written::Refused(refused);
     }
-    let mut page = [0; LISTING_SIZE];
-    write_page(a, run, c, &mut page, out)
+    let pen = compose(a, run, c, out, false);
+    Written::Bytes(pen.at)
 }
 
-fn refused_page(n: u8, page: &mut [u8], out: &mut [u8]) -> Written
-    requires { ⌜ (length (now page) ≡ listingSize) × (listingSize ≤ length (now out)) ⌝ }
-    ensures { λ r. ⌜ Writes (heldRefusal (refusedLine n)) (refusedLine n) (now (out .entry)) r (now (out .exit)) ⌝ }
-{
-    let pen = compose_refused(n, page);
-    deliver(page, pen, out)
-}
-
-// Writes the line of a refusal in the same way.
+// Writes the line of a refusal in the same way, at once: it always has room.
 pub fn write_refused(n: u8, out: &mut [u8]) -> Written
     ensures { λ r. ⌜ RefusedWritten n (now (out .entry)) r (now (out .exit)) ⌝ }
 {
     if out.len() < LISTING_SIZE {
         return Written::Refused(1);
     }
-    let mut page = [0; LISTING_SIZE];
-    refused_page(n, &mut page, out)
+    let pen = compose_refused(n, out);
+    Written::Bytes(pen.at)
 }

@@ -10,6 +10,8 @@ pub struct Pen {
     pub at: usize,
     // Every piece had room.
     pub fits: bool,
+    // Only how far the text goes is found out; nothing is written.
+    pub dry: bool,
 }
 
 pub fn emit(page: &mut [u8], pen: Pen, piece: &[u8]) -> Pen
@@ -25,13 +27,19 @@ pub fn emit(page: &mut [u8], pen: Pen, piece: &[u8]) -> Pen
         return Pen {
             at: at,
             fits: false,
+            dry: pen.dry,
         };
     }
-    copy(page, at, piece);
-    Pen {
+    let to = Pen {
         at: at + size,
         fits: true,
+        dry: pen.dry,
+    };
+    if pen.dry {
+        return to;
     }
+    copy(page, at, piece);
+    to
 }
 
 // A byte.
@@ -47,13 +55,19 @@ pub fn emit_byte(page: &mut [u8], pen: Pen, b: u8) -> Pen
         return Pen {
             at: at,
             fits: false,
+            dry: pen.dry,
         };
     }
-    page[at] = b;
-    Pen {
+    let to = Pen {
         at: at + 1,
         fits: true,
+        dry: pen.dry,
+    };
+    if pen.dry {
+        return to;
     }
+    page[at] = b;
+    to
 }
 
 // A digit.

@@ -1,80 +1,105 @@
--- From a page to the buffer: what is written, and what is answered.
-use Prim.Native.Nat.{ℕ, zero, suc, _≤_, _<_}
+-- From a composed text to the buffer: what is refused, what is written, and what is answered.
+use Prim.Native.Nat.{ℕ, zero, suc, _≤_, _<_, max}
 use native.Mathlib.Omega.{arith}
-use mathlib.Core.Path.{_≡_, refl, sym, _∙_}
-use mathlib.Core.Bool.{Bool, true, false, _||_, cond}
-use mathlib.Core.Option.{Option, none, some}
-use mathlib.Core.List.{List, []}
+use native.Mathlib.Nat.{zero-add}
+use mathlib.Core.Path.{_≡_, refl, _∙_}
+use mathlib.Core.Bool.{Bool, true, false, not, _||_, cond}
+use mathlib.Core.List.{List}
 use lib.Dec.{leb, ltb}
-use lib.ListN.{length, take, length-append}
-use lib.Seq.{sets, length-take-le}
-use borrow.Author.Tests.{leb-true, leb-false, lt-ltb, le-ltb, ltb-false}
+use lib.ListN.{length, length-append}
+use borrow.Author.Tests.{leb-true, leb-false, le-leb, lt-ltb, le-ltb, ltb-false, not-false}
 use Rattle.notation.specs.Limits.{maxSetBytes}
-use Rattle.notation.specs.Answers.{Answer}
-use Rattle.notation.specs.WriteText.{TextWritten}
 use Rattle.notation.specs.Print.{decimal, footer}
-use Rattle.notation.specs.Refusals.{shortBuffer}
+use Rattle.notation.specs.Refusals.{shortBuffer, strangeShape}
 use Rattle.theory.specs.Order.{first, given}
-use Rattle.stored.specs.RunCalls.{tooShort}
+use Rattle.stored.specs.RunCalls.{shaped, tooShort, lentConditions}
 use Rattle.stored.specs.declared.answers.Written.{Written}
 use Rattle.stored.specs.declared.counters.Counters.{Counters}
 use Rattle.theory.proofs.Laws.Basics.{cases, clash}
-use Rattle.theory.proofs.Laws.Machine.Order.{not-given, given-first, given-then}
+use Rattle.theory.proofs.Laws.Machine.Order.{not-given}
 use Rattle.filing.specs.declared.page.Pen.{Pen}
 use Rattle.filing.specs.Limits.{maxMovesLine, listingSize}
-use Rattle.filing.specs.Code.Page.{soFar, On}
+use Rattle.filing.specs.Code.Page.{Composes}
 use Rattle.filing.specs.Listing.{refusedWord, refusedLine}
-use Rattle.filing.specs.Listed.{listingIn, lentConditions, heldRefusal, listingRefusal, Writes, ListingWritten, pageRefusal, pageText, refusedRefusal, RefusedWritten}
+use Rattle.filing.specs.Listed.{listingIn, listingRoom, listingRefusal, Writes, refusedRefusal, RefusedWritten}
 use Rattle.filing.proofs.Laws.Listing.Numbers.{tens, decimal-few}
+use Rattle.filing.proofs.Laws.Listing.Pages.{went, fits-as}
 
-module _ (page out : List ℕ) (pen : Pen) where
-  pub not-held : pen .fits ≡ false → Writes (pageRefusal (soFar page pen)) (pageText (soFar page pen)) out (Written.Refused 1) out
-  not-held e = record { answers = rw e; leaves = rw e }
+or-true : (p : Bool) → (p || true) ≡ true
+or-true true = refl
+or-true false = refl
 
-  pub held : (after : List ℕ) → On page pen → pen .fits ≡ true → after ≡ sets out 0 (take (pen .at) page)
-      → Writes (pageRefusal (soFar page pen)) (pageText (soFar page pen)) out (Written.Bytes (pen .at)) after
-  held after on e h = record { answers = rw (e, length-take-le (pen .at) page on); leaves = rw e h }
+-- the refusals of a listing
+module _ (a run : List ℕ) (c : Counters) (out : List ℕ) where
+  room-least : listingSize ≤ listingRoom a run c
+  unfolding listingRoom
+  room-least = cases (shaped a run c) (λ t. rw t (omega arith)) (λ f. rw f (omega arith))
 
--- what a page of a listing's size holds is written
-pub from-page : (text out after : List ℕ) (r : Answer ℕ) (x : Option (List ℕ)) → x ≡ cond (leb (length text) listingSize) (some text) none
-    → TextWritten (pageRefusal x) (pageText x) out r after → TextWritten (heldRefusal text) text out r after
-unfolding heldRefusal given first
-from-page text out after r x e w =
-    cases (leb (length text) listingSize)
-    (λ t.
-    let l : ltb listingSize (length text) ≡ false = le-ltb listingSize (length text) (leb-true (length text) listingSize t) in
-    let y : x ≡ some text = rw t at e in
-    rw l (rw y at w))
-    (λ f.
-    let l : ltb listingSize (length text) ≡ true = lt-ltb listingSize (length text) (leb-false (length text) listingSize f) in
-    let y : x ≡ none = rw f at e in
-    let v : TextWritten 1 [] out r after = rw y at w in
-    rw l (record { answers = v .answers; leaves = v .leaves }))
+  lent-good : given (lentConditions a run c) ≡ 0 → (tooShort a run ≡ false) × (shaped a run c ≡ true)
+  lent-good z =
+      let t = not-given (tooShort a run) shortBuffer _ z in
+      (t .0, not-false (shaped a run c) (not-given (not (shaped a run c)) strangeShape _ (t .1) .0))
 
--- a refusal of what is lent is the listing's; without one there is only the last
-pub lent-none : (a run : List ℕ) (c : Counters) (out : List ℕ) → given (lentConditions a run c (length out)) ≡ 0 → listingRefusal a run c out ≡ heldRefusal (listingIn a run c)
-unfolding listingRefusal heldRefusal
-lent-none a run c out e = given-then (lentConditions a run c (length out)) _ e
+  -- a buffer that is too short for every listing
+  pub out-short : length out < listingSize → listingRefusal a run c out ≡ 1
+  unfolding listingRefusal given first
+  out-short h =
+      let t : ltb (length out) (listingRoom a run c) ≡ true = lt-ltb (length out) (listingRoom a run c) (omega (arith, room-least)) in
+      rw (t, or-true (tooShort a run))
 
-pub refused-first : (a run : List ℕ) (c : Counters) (out : List ℕ) (n : ℕ) → n ≡ given (lentConditions a run c (length out)) → (n ≡ 0 → ⊥)
-    → ListingWritten a run c out (Written.Refused n) out
-unfolding listingRefusal
-refused-first a run c out zero e z = absurd (z refl)
-refused-first a run c out (suc n) e z =
-    let l : listingRefusal a run c out ≡ suc n = given-first (lentConditions a run c (length out)) _ (λ k. z (e ∙ k)) ∙ sym e in
-    record { answers = rw l; leaves = rw l }
+  module _ (h : listingSize ≤ length out) where
+    -- automaton, run or counters are refused
+    pub lent-refused : (given (lentConditions a run c) ≡ 0 → ⊥) → listingRefusal a run c out ≡ given (lentConditions a run c)
+    unfolding listingRefusal listingRoom given first
+    lent-refused n =
+        cases (tooShort a run)
+        (λ t. rw t)
+        (λ f. cases (shaped a run c) (λ s. absurd (n (rw (f, s)))) (λ s. rw (f, s, le-ltb (length out) listingSize h)))
 
-pub then-held : (a run : List ℕ) (c : Counters) (out after : List ℕ) (r : Answer ℕ) → given (lentConditions a run c (length out)) ≡ 0
-    → TextWritten (heldRefusal (listingIn a run c)) (listingIn a run c) out r after → TextWritten (listingRefusal a run c out) (listingIn a run c) out r after
-then-held a run c out after r e w = rw (lent-none a run c out e) w
+    -- they are not: the length of what is stored is left
+    length-left : given (lentConditions a run c) ≡ 0 → listingRefusal a run c out ≡ cond (leb (length (listingIn a run c)) (length out)) 0 1
+    unfolding listingRefusal listingRoom given first
+    length-left z =
+        let (t, s) = lent-good z in
+        let text = length (listingIn a run c) in
+        cases (leb text (length out))
+        (λ y.
+        let l : ltb (length out) (max listingSize text) ≡ false = le-ltb (length out) (max listingSize text) (omega (arith, leb-true text (length out) y)) in
+        rw (t, s, l, y))
+        (λ y.
+        let l : ltb (length out) (max listingSize text) ≡ true = lt-ltb (length out) (max listingSize text) (omega (arith, leb-false text (length out) y)) in
+        rw (t, s, l, y))
 
--- where nothing lent is refused the buffer has a listing's size
-pub lent-room : (a run : List ℕ) (c : Counters) (size : ℕ) → given (lentConditions a run c size) ≡ 0 → listingSize ≤ size
-lent-room a run c size e = ltb-false size listingSize (go (tooShort a run) (ltb size listingSize) (not-given (tooShort a run || ltb size listingSize) shortBuffer _ e .0))
-  where
-    go : (p q : Bool) → (p || q) ≡ false → q ≡ false
-    go true q h = clash refl h
-    go false q h = h
+    pub dry-says : {after : List ℕ} {pen : Pen} → given (lentConditions a run c) ≡ 0 → Composes true (listingIn a run c) out after pen
+        → listingRefusal a run c out ≡ cond (pen .fits) 0 1
+    dry-says z x = rw (fits-as x) (length-left z)
+
+  -- where nothing is refused the listing has room
+  pub listing-room : listingRefusal a run c out ≡ 0 → length (listingIn a run c) ≤ length out
+  unfolding listingRefusal listingRoom
+  listing-room e =
+      let t = not-given (tooShort a run || ltb (length out) (listingRoom a run c)) shortBuffer _ e in
+      let s : shaped a run c ≡ true = not-false (shaped a run c) (not-given (not (shaped a run c)) strangeShape _ (t .1) .0) in
+      let l : listingRoom a run c ≤ length out = ltb-false (length out) (listingRoom a run c) (go (tooShort a run) (ltb (length out) (listingRoom a run c)) (t .0)) in
+      let m : max listingSize (length (listingIn a run c)) ≤ length out = rw s at l in
+      omega arith
+    where
+      go : (p q : Bool) → (p || q) ≡ false → q ≡ false
+      go true q k = clash refl k
+      go false q k = k
+
+-- a number is given, or the text has room
+module _ (text out : List ℕ) where
+  pub refused-with : (n r : ℕ) → n ≡ r → (n ≡ 0 → ⊥) → Writes r text out (Written.Refused n) out
+  refused-with zero r e z = absurd (z refl)
+  refused-with (suc n) r e z = rw (← e) (record { answers = refl; leaves = refl })
+
+  pub written-as : {after : List ℕ} {pen : Pen} (r : ℕ) → r ≡ 0 → length text ≤ length out → Composes false text out after pen
+      → Writes r text out (Written.Bytes (pen .at)) after
+  written-as {after} {pen} r z l x =
+      let f : pen .fits ≡ true = fits-as x ∙ le-leb (length text) (length out) l in
+      let e : pen .at ≡ length text = went x f ∙ zero-add (length text) in
+      record { answers = rw (z, e); leaves = rw z (x .wrote refl f) }
 
 -- the line of a refusal has room
 pub refused-short : (n : ℕ) → n < 256 → length (refusedLine n) ≤ listingSize
@@ -83,13 +108,12 @@ refused-short n h =
     let k : length (decimal n) ≤ 3 = decimal-few 2 n (omega arith) in
     omega (arith, length-append (decimal n) footer)
 
-pub line-written : (n : ℕ) (out after : List ℕ) (r : Answer ℕ) → n < 256 → listingSize ≤ length out
-    → TextWritten (heldRefusal (refusedLine n)) (refusedLine n) out r after → TextWritten (refusedRefusal out) (refusedLine n) out r after
-unfolding heldRefusal refusedRefusal given first
-line-written n out after r h l w =
-    let x : ltb listingSize (length (refusedLine n)) ≡ false = le-ltb listingSize (length (refusedLine n)) (refused-short n h) in
+pub line-written : (n : ℕ) (out : List ℕ) {after : List ℕ} {pen : Pen} → n < 256 → listingSize ≤ length out → Composes false (refusedLine n) out after pen
+    → RefusedWritten n out (Written.Bytes (pen .at)) after
+unfolding refusedRefusal given first
+line-written n out h l x =
     let y : ltb (length out) listingSize ≡ false = le-ltb (length out) listingSize l in
-    rw y (rw x at w)
+    written-as (refusedLine n) out (refusedRefusal out) (rw y) (omega (arith, refused-short n h)) x
 
 pub line-short : (n : ℕ) (out : List ℕ) → length out < listingSize → RefusedWritten n out (Written.Refused 1) out
 unfolding refusedRefusal given first

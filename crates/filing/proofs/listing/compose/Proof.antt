@@ -3,7 +3,7 @@ use borrow.Author.Needs.{needs}
 use Rattle.notation.specs.Print.{footer}
 use Rattle.filing.specs.Listing.{filedHeader}
 use Rattle.filing.specs.Listed.{listingIn}
-use Rattle.filing.proofs.Laws.Listing.Pages.{and-then, whole}
+use Rattle.filing.proofs.Laws.Listing.Pages.{and-then}
 use Rattle.filing.proofs.listing.compose.Statement.{statement}
 use Rattle.filing.proofs.listing.compose.Tie as tie
 
@@ -31,8 +31,7 @@ same-length c = search needs
 returns : tie.Need-returns
 unfolding listingIn filedHeader footer
 returns c =
-    whole
-    (and-then (c .before .before .before .before .before .before .before .before .before .before .before .before .before .before .before .emit .ensures) (and-then (c .before .before .before .before .before .before .before .before .before .before .before .emit-folders .ensures) (and-then (c .before .before .before .before .before .before .before .emit-moves .ensures) (c .before .before .emit2 .ensures))))
+    and-then (c .before .before .before .before .before .before .before .before .before .before .before .before .before .before .before .emit .ensures) (and-then (c .before .before .before .before .before .before .before .before .before .before .before .emit-folders .ensures) (and-then (c .before .before .before .before .before .before .before .emit-moves .ensures) (c .before .before .emit2 .ensures)))
 
 pub compose-spec : {M : Type 1} → statement M
 compose-spec =

@@ -1,7 +1,7 @@
 -- `listing::compose_refused`: word, number, and the line's end.
 use Rattle.notation.specs.Print.{footer}
 use Rattle.filing.specs.Listing.{refusedWord, refusedLine}
-use Rattle.filing.proofs.Laws.Listing.Pages.{and-then, whole}
+use Rattle.filing.proofs.Laws.Listing.Pages.{and-then}
 use borrow.Author.Needs.{needs}
 use Rattle.filing.proofs.listing.compose_refused.Statement.{statement}
 use Rattle.filing.proofs.listing.compose_refused.Tie as tie
@@ -26,7 +26,7 @@ same-length c = search needs
 
 returns : tie.Need-returns
 unfolding refusedLine refusedWord footer
-returns c = whole (and-then (c .before .before .before .before .before .before .before .before .before .before .before .emit .ensures) (and-then (c .before .before .before .before .before .before .before .emit-number .ensures) (c .before .before .emit2 .ensures)))
+returns c = and-then (c .before .before .before .before .before .before .before .before .before .before .before .emit .ensures) (and-then (c .before .before .before .before .before .before .before .emit-number .ensures) (c .before .before .emit2 .ensures))
 
 pub compose-refused-spec : {M : Type 1} → statement M
 compose-refused-spec =

@@ -1,64 +1,59 @@
--- `listing::refusal`: each test in its order.
-use mathlib.Core.Path.{sym, _∙_}
-use borrow.Author.Tests.{lt-ltb, le-ltb}
+-- `listing::refusal`: a short buffer, what is lent, and the length of the listing.
+use native.Mathlib.Omega.{arith}
+use mathlib.Core.Path.{refl, sym, _∙_}
 use Rattle.notation.specs.Limits.{maxSetBytes}
-use Rattle.stored.specs.Automaton.{automatonSize}
-use Rattle.stored.specs.Run.{runSize}
-use Rattle.theory.specs.Order.{first, given}
-use Rattle.stored.specs.RunCalls.{shaped}
 use Rattle.filing.specs.Limits.{maxMovesLine, listingSize}
+use Rattle.filing.proofs.Laws.Listing.Written.{out-short, lent-refused, dry-says}
 use borrow.Author.Needs.{needs}
 use Rattle.filing.proofs.listing.refusal.Statement.{statement}
 use Rattle.filing.proofs.listing.refusal.Tie as tie
 
 returns : tie.Need-returns
-unfolding given first automatonSize runSize listingSize maxSetBytes maxMovesLine
-returns c = rw (lt-ltb _ _ (c .if1 .taken))
+unfolding listingSize maxSetBytes maxMovesLine
+returns c = let a = c .before .before .before .before .args in
+    (sym (out-short (a .a .now) (a .run .now) (a .c) (a .out .now) (omega arith)), refl)
+
+lent-refusal-requires : tie.Need-lent-refusal-requires
+lent-refusal-requires c κs = search needs
 
 returns-2 : tie.Need-returns-2
-unfolding given first automatonSize runSize listingSize maxSetBytes maxMovesLine
-returns-2 c = rw (le-ltb _ _ (c .before .if1 .left), lt-ltb _ _ (c .if2 .taken))
+unfolding listingSize maxSetBytes maxMovesLine
+returns-2 c = let a = c .before .before .before .before .before .before .args in
+    let e = c .before .lent-refusal .ensures in
+    (e ∙ sym (lent-refused (a .a .now) (a .run .now) (a .c) (a .out .now) (omega (arith, c .before .before .if1 .left)) (λ z. c .if2 .taken (e ∙ z))), refl)
+
+compose-requires : tie.Need-compose-requires
+compose-requires c κs = search needs
+
+same-length : tie.Need-same-length
+same-length c = search needs
 
 returns-3 : tie.Need-returns-3
-unfolding given first automatonSize runSize listingSize maxSetBytes maxMovesLine
-returns-3 c = rw (le-ltb _ _ (c .before .before .if1 .left), le-ltb _ _ (c .before .if2 .left), lt-ltb _ _ (c .if3 .taken))
+unfolding listingSize maxSetBytes maxMovesLine
+returns-3 c = let a = c .before .before .before .before .before .before .before .before .before .before .before .args in
+    let x = c .before .before .before .compose .ensures in
+    let z = sym (c .before .before .before .before .before .before .lent-refusal .ensures) ∙ c .before .before .before .before .before .if2 .left in
+    (sym (dry-says (a .a .now) (a .run .now) (a .c) (a .out .now) (omega (arith, c .before .before .before .before .before .before .before .if1 .left)) z x ∙ rw (c .if3 .taken)), x .kept refl)
 
-automaton-shaped-requires : tie.Need-automaton-shaped-requires
-automaton-shaped-requires c κs = search needs
-
-run-shaped-requires : tie.Need-run-shaped-requires
-run-shaped-requires c κs = search needs
-
-counters-shaped-requires : tie.Need-counters-shaped-requires
-counters-shaped-requires c κs = search needs
+same-length-2 : tie.Need-same-length-2
+same-length-2 c = search needs
 
 returns-4 : tie.Need-returns-4
-unfolding given first automatonSize runSize listingSize maxSetBytes maxMovesLine shaped
-returns-4 c = rw (le-ltb _ _ (c .before .before .before .before .before .before .before .before .if1 .left), le-ltb _ _ (c .before .before .before .before .before .before .before .if2 .left), le-ltb _ _ (c .before .before .before .before .before .before .if3 .left), sym (c .before .before .before .before .before .automaton-shaped .ensures) ∙ c .before .before .before .before .if4 .taken, sym (c .before .before .before .run-shaped .ensures) ∙ c .before .before .if5 .taken, sym (c .before .counters-shaped .ensures) ∙ c .if6 .taken)
-
-returns-5 : tie.Need-returns-5
-unfolding given first automatonSize runSize listingSize maxSetBytes maxMovesLine shaped
-returns-5 c = rw (le-ltb _ _ (c .before .before .before .before .before .before .before .before .if1 .left), le-ltb _ _ (c .before .before .before .before .before .before .before .if2 .left), le-ltb _ _ (c .before .before .before .before .before .before .if3 .left), sym (c .before .before .before .before .before .automaton-shaped .ensures) ∙ c .before .before .before .before .if4 .taken, sym (c .before .before .before .run-shaped .ensures) ∙ c .before .before .if5 .taken, sym (c .before .counters-shaped .ensures) ∙ c .if6 .left)
-
-returns-6 : tie.Need-returns-6
-unfolding given first automatonSize runSize listingSize maxSetBytes maxMovesLine shaped
-returns-6 c = rw (le-ltb _ _ (c .before .before .before .before .before .before .if1 .left), le-ltb _ _ (c .before .before .before .before .before .if2 .left), le-ltb _ _ (c .before .before .before .before .if3 .left), sym (c .before .before .before .automaton-shaped .ensures) ∙ c .before .before .if4 .taken, sym (c .before .run-shaped .ensures) ∙ c .if5 .left)
-
-returns-7 : tie.Need-returns-7
-unfolding given first automatonSize runSize listingSize maxSetBytes maxMovesLine shaped
-returns-7 c = rw (le-ltb _ _ (c .before .before .before .before .if1 .left), le-ltb _ _ (c .before .before .before .if2 .left), le-ltb _ _ (c .before .before .if3 .left), sym (c .before .automaton-shaped .ensures) ∙ c .if4 .left)
+unfolding listingSize maxSetBytes maxMovesLine
+returns-4 c = let a = c .before .before .before .before .before .before .before .before .before .before .before .args in
+    let x = c .before .before .before .compose .ensures in
+    let z = sym (c .before .before .before .before .before .before .lent-refusal .ensures) ∙ c .before .before .before .before .before .if2 .left in
+    (sym (dry-says (a .a .now) (a .run .now) (a .c) (a .out .now) (omega (arith, c .before .before .before .before .before .before .before .if1 .left)) z x ∙ rw (c .if3 .left)), x .kept refl)
 
 pub refusal-spec : {M : Type 1} → statement M
 refusal-spec =
     tie.close
     (tie.spec
     returns
+    lent-refusal-requires
     returns-2
+    compose-requires
+    same-length
     returns-3
-    automaton-shaped-requires
-    run-shaped-requires
-    counters-shaped-requires
-    returns-4
-    returns-5
-    returns-6
-    returns-7)
+    same-length-2
+    returns-4)

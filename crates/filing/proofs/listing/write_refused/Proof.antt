@@ -1,7 +1,5 @@
 -- `listing::write_refused`: a short buffer, or the line.
 use native.Mathlib.Omega.{arith}
-use Prim.Native.Nat.{ℕ}
-use lib.ListN.{length-replicate}
 use Rattle.notation.specs.Limits.{maxSetBytes}
 use Rattle.filing.specs.Limits.{maxMovesLine, listingSize}
 use Rattle.filing.proofs.Laws.Listing.Written.{line-short, line-written}
@@ -13,22 +11,16 @@ returns : tie.Need-returns
 unfolding listingSize maxSetBytes maxMovesLine
 returns c = line-short _ _ (c .if1 .taken)
 
-slice-aggregate-refused-page : tie.Need-slice-aggregate-refused-page
-slice-aggregate-refused-page c = search needs
-
-refused-page-requires : tie.Need-refused-page-requires
-unfolding listingSize maxSetBytes maxMovesLine
-refused-page-requires c κs = (length-replicate {A = ℕ} 16406 0, c .before .before .if1 .left)
+compose-refused-requires : tie.Need-compose-refused-requires
+compose-refused-requires c κs = search needs
 
 same-length : tie.Need-same-length
 same-length c = search needs
 
 returns-2 : tie.Need-returns-2
 unfolding listingSize maxSetBytes maxMovesLine
-returns-2 c = let a = c .before .before .before .before .before .before .before .before .args in
-    line-written (a .n) (a .out .now) _ _ (omega (arith, c .before .before .before .before .before .before .before .before .fits .n)) (c .before .before .before .before .before .before .if1 .left) (c .before .before .before .refused-page .ensures)
+returns-2 c = let a = c .before .before .before .before .before .before .args in
+    line-written (a .n) (a .out .now) (omega (arith, c .before .before .before .before .before .before .fits .n)) (c .before .before .before .before .if1 .left) (c .before .before .compose-refused .ensures)
 
 pub write-refused-spec : {M : Type 1} → statement M
-write-refused-spec =
-    tie.close
-    (tie.spec returns slice-aggregate-refused-page refused-page-requires same-length returns-2)
+write-refused-spec = tie.close (tie.spec returns compose-refused-requires same-length returns-2)
