@@ -2,14 +2,14 @@
 use Prim.Native.Nat.{ℕ, _+_, _≤_}
 use native.Mathlib.Nat.{zero-add}
 use native.Mathlib.Omega.{arith}
-use mathlib.Core.Path.{_≡_, refl, ap, _∙_, subst}
+use mathlib.Core.Path.{_≡_, refl, ap, ap₂, _∙_, subst}
 use mathlib.Core.List.{List, _++_}
 use lib.ListN.{length, take, drop}
 use lib.Seq.{sets-eq, take-at, drop-at}
 use borrow.Author.Tests.{le-ltb}
 use Rattle.notation.specs.Limits.{maxSetBytes}
 use Rattle.notation.specs.Sets.{FolderSet}
-use Rattle.notation.specs.Answers.{value}
+use Rattle.notation.specs.Answers.{value, said}
 use Rattle.notation.specs.Accepted.{Accepted}
 use Rattle.notation.specs.Judged.{accepts}
 use Rattle.notation.specs.Reads.{textOf}
@@ -48,7 +48,7 @@ module _ (text : List ℕ) (s : FolderSet) (acc : Accepted text s) (rest : List 
     module _ (answer : Written) (after : List ℕ) (w : SetWritten (automatonOf s ++ rest) out answer after) where
       -- the text's length
       pub written-length : writtenSays answer ≡ value (length text)
-      written-length = w .answers ∙ rw (none-refused, stored-text)
+      written-length = w .answers ∙ ap₂ (λ (r n : ℕ). said r n) none-refused (ap length stored-text)
 
       written-bytes : after ≡ text ++ drop (length text) out
       written-bytes =

@@ -1,6 +1,6 @@
 -- The bits that an open computes are those of the names with one more: active steps, steps seen, matches.
 use Prim.Native.Nat.{ℕ, zero, suc, _+_, _*_, _≤_, _<_}
-use mathlib.Core.Path.{_≡_, refl, sym, _∙_, ap, subst}
+use mathlib.Core.Path.{_≡_, refl, sym, _∙_, ap, ap₂, subst}
 use mathlib.Core.Bool.{Bool, true, false, not, _&&_, _||_}
 use mathlib.Core.List.{List, [], _∷_, _++_}
 use native.Mathlib.Omega.{arith}
@@ -170,7 +170,7 @@ module _ (s : FolderSet) (a : List ℕ) (m : Means s a) (names : List Name) (mat
   -- the active steps
   pub now-active : (i : ℕ) → i < 8 * maskSize → nowActive a run e i ≡ activeBits s (names ++ (e ∷ [])) i
   unfolding nowActive
-  now-active i h = rw (candidate-is i h, permitted-is i h) (cases (ltb i (length (stepsOf ps))) (λ t. inside (locate ps i (ltb-true i (length (stepsOf ps)) t))) (λ t. past (ltb-false i (length (stepsOf ps)) t)))
+  now-active i h = ap₂ _&&_ (candidate-is i h) (permitted-is i h) ∙ (cases (ltb i (length (stepsOf ps))) (λ t. inside (locate ps i (ltb-true i (length (stepsOf ps)) t))) (λ t. past (ltb-false i (length (stepsOf ps)) t)))
     where
       past : length (stepsOf ps) ≤ i → (takenBit i && allowedBit i) ≡ activeBits s (names ++ (e ∷ [])) i
       past le = rw (role-past isStarRole ps i le, role-past (isLabelRole e) ps i le, bit-past (λ p k. active p k (names ++ (e ∷ []))) ps i le)
@@ -192,8 +192,8 @@ module _ (s : FolderSet) (a : List ℕ) (m : Means s a) (names : List Name) (mat
   pub now-seen : (i : ℕ) → i < 8 * maskSize → nowSeen a run e i ≡ seenBits s (names ++ (e ∷ [])) i
   unfolding nowSeen
   now-seen i h =
-      rw (depth-read s names matched deep short rest, seen-here i h, now-active i h)
-      (cases (ltb i (length (stepsOf ps))) (λ t. inside (locate ps i (ltb-true i (length (stepsOf ps)) t))) (λ t. past (ltb-false i (length (stepsOf ps)) t)))
+      ap₂ _||_ (ap (λ (d : ℕ). seenAt run d i) (depth-read s names matched deep short rest) ∙ seen-here i h) (now-active i h)
+      ∙ (cases (ltb i (length (stepsOf ps))) (λ t. inside (locate ps i (ltb-true i (length (stepsOf ps)) t))) (λ t. past (ltb-false i (length (stepsOf ps)) t)))
     where
       past : length (stepsOf ps) ≤ i → (seenBits s names i || activeBits s (names ++ (e ∷ [])) i) ≡ seenBits s (names ++ (e ∷ [])) i
       past le = rw (bit-past (λ p k. seen p k names) ps i le, bit-past (λ p k. active p k (names ++ (e ∷ []))) ps i le, bit-past (λ p k. seen p k (names ++ (e ∷ []))) ps i le)
@@ -227,8 +227,8 @@ module _ (s : FolderSet) (a : List ℕ) (m : Means s a) (names : List Name) (mat
   pub now-matched : (i : ℕ) → i < 8 * maskSize → nowMatched a run e i ≡ matchBit nowFit 0 ps i
   unfolding nowMatched
   now-matched i h =
-      rw (matched-read s names matched deep short rest i h, now-active i h, last-bit i h)
-      (cases (ltb i (length (stepsOf ps))) (λ t. inside (locate ps i (ltb-true i (length (stepsOf ps)) t))) (λ t. past (ltb-false i (length (stepsOf ps)) t)))
+      ap₂ _||_ (matched-read s names matched deep short rest i h) (ap₂ _&&_ (now-active i h) (last-bit i h))
+      ∙ (cases (ltb i (length (stepsOf ps))) (λ t. inside (locate ps i (ltb-true i (length (stepsOf ps)) t))) (λ t. past (ltb-false i (length (stepsOf ps)) t)))
     where
       past : length (stepsOf ps) ≤ i → (matchBit matched 0 ps i || (activeBits s (names ++ (e ∷ [])) i && roleAt isLastRole (roles s) i)) ≡ matchBit nowFit 0 ps i
       past le = rw (match-past matched ps 0 i le, match-past nowFit ps 0 i le, bit-past (λ p k. active p k (names ++ (e ∷ []))) ps i le)
