@@ -43,7 +43,7 @@ openOutcome a t e =
 
 abbrev pub closeOutcome : List ℕ → Left → Name → Outcome
 closeOutcome a t e =
-    outcome (closeRefusal a (t .bytes) (t .counters) e) (record { bytes = closeRun a (t .bytes); counters = closeCounters (t .counters) })
+    outcome (closeRefusal a (t .bytes) (t .counters) e) (record { bytes = closeRun (t .bytes); counters = closeCounters (t .counters) })
 
 -- text, blank or not: outside the root it is blank
 abbrev pub textOutcome : Left → Bool → Outcome

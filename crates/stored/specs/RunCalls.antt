@@ -152,33 +152,31 @@ usedBits a f = tabulate (byteOf f) (usedBytes a)
 abbrev pub openWalk : List ℕ → List ℕ → Name → Walk
 openWalk a run e = walkOver a (stateAt run (depthOf run)) e
 
--- the new row
-unfoldable pub rowWritten : List ℕ → List ℕ → Name → List ℕ → List ℕ
-rowWritten a run e row =
-    sets (sets (sets row 0 (length e ∷ (padded maxName e ++ le16 (openWalk a run e .state))))
-    activeIn (usedBits a (nowActive a run e)))
-    seenIn (usedBits a (nowSeen a run e))
+-- the bits of all steps: zeros behind those used
+abbrev pub stepBits : List ℕ → (ℕ → Bool) → List ℕ
+stepBits a f = padded maskSize (usedBits a f)
+
+-- the new row, all of it
+unfoldable pub rowOpened : List ℕ → List ℕ → Name → List ℕ
+rowOpened a run e =
+    length e ∷ (padded maxName e ++ (le16 (openWalk a run e .state)
+    ++ (stepBits a (nowActive a run e) ++ stepBits a (nowSeen a run e))))
+
+-- a run with this row at a depth, and all else as it was
+abbrev pub withRow : List ℕ → ℕ → List ℕ → List ℕ
+withRow run d row = take (rowAt d) run ++ (row ++ drop (rowAt d + rowSize) run)
 
 unfoldable pub openRun : List ℕ → List ℕ → Name → List ℕ
 openRun a run e =
-    let at = rowAt (suc (depthOf run)) in
-    sets (sets (take at run ++ (rowWritten a run e (take rowSize (drop at run)) ++ drop (at + rowSize) run))
-    matchesAt (usedBits a (nowMatched a run e)))
+    sets (sets (withRow run (suc (depthOf run)) (rowOpened a run e)) matchesAt (usedBits a (nowMatched a run e)))
     0 (le16 (suc (depthOf run)))
 
 unfoldable pub openCounters : List ℕ → List ℕ → Counters → Name → Counters
 openCounters a run c e = record { opens = c .opens + 1; closes = c .closes; moves = c .moves + openWalk a run e .moves }
 
--- what an accepted close leaves: the used part of its row is zero
-
-unfoldable pub rowCleared : List ℕ → List ℕ → List ℕ
-rowCleared a row =
-    sets (sets (sets row 0 (replicate activeIn 0)) activeIn (replicate (usedBytes a) 0)) seenIn (replicate (usedBytes a) 0)
-
-unfoldable pub closeRun : List ℕ → List ℕ → List ℕ
-closeRun a run =
-    let at = rowAt (depthOf run) in
-    sets (take at run ++ (rowCleared a (take rowSize (drop at run)) ++ drop (at + rowSize) run)) 0 (le16 (pred (depthOf run)))
+-- what an accepted close leaves: its row is zero
+unfoldable pub closeRun : List ℕ → List ℕ
+closeRun run = sets (withRow run (depthOf run) (replicate rowSize 0)) 0 (le16 (pred (depthOf run)))
 
 unfoldable pub closeCounters : Counters → Counters
 closeCounters c = record { opens = c .opens; closes = c .closes + 1; moves = c .moves }

@@ -28,7 +28,7 @@ pub record Opens (a run : List ℕ) (c : Counters) (e : Name) (answer : Opened) 
 
 pub record Closes (a run : List ℕ) (c : Counters) (e : Name) (answer : ℕ) (run' : List ℕ) (c' : Counters) : Type 0 where
   pub answers : answer ≡ closeRefusal a run c e
-  pub runAfter : run' ≡ cond (eqb (closeRefusal a run c e) 0) (closeRun a run) run
+  pub runAfter : run' ≡ cond (eqb (closeRefusal a run c e) 0) (closeRun run) run
   pub countersAfter : c' ≡ cond (eqb (closeRefusal a run c e) 0) (closeCounters c) c
 
 -- the same with counters by value

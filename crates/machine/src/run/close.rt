@@ -8,21 +8,24 @@ use notation::store::put16;
 use stored::answers::ClosedBy;
 use stored::counters::Counters;
 ghost use mathlib.Core.Path.{_≡_};
-ghost use Prim.Native.Nat.{_<_};
+ghost use Prim.Native.Nat.{_≤_, _<_};
+ghost use lib.ListN.{length};
+ghost use Rattle.theory.specs.Limits.{maxDepth};
 ghost use Rattle.stored.specs.RunContracts.{Closes, ClosesBy};
-ghost use Rattle.stored.specs.Openable.{Ready, Usable};
+ghost use Rattle.stored.specs.Openable.{Usable};
+ghost use Rattle.stored.specs.Run.{runSize};
 ghost use Rattle.stored.specs.RunCalls.{depthOf, closeRun};
 
-// A close that is accepted: for callers that know the shape of automaton and run, and that an element is open. The row of the innermost
-// element is lent to the function that clears it.
-fn close_on(a: &[u8], run: &mut [u8])
-    requires { ⌜ (Ready (now a) (now run)) × (0 < depthOf (now run)) ⌝ }
-    ensures { λ _. ⌜ now (run .exit) ≡ closeRun (now (a .entry)) (now (run .entry)) ⌝ }
+// A close that is accepted: for callers that know the size and the depth of the run, and that an element is open. The row of the innermost
+// element, a part from the middle of the run, is lent to the function that clears it.
+fn close_on(run: &mut [u8])
+    requires { ⌜ (runSize ≤ length (now run)) × ((0 < depthOf (now run)) × (depthOf (now run) ≤ maxDepth)) ⌝ }
+    ensures { λ _. ⌜ now (run .exit) ≡ closeRun (now (run .entry)) ⌝ }
 {
     let d = shape::depth(run);
     let at = rows::row_at(d);
     let end = at + ROW_SIZE;
-    row::clear_row(a, &mut run[at..end]);
+    row::clear_row(&mut run[at..end]);
     put16(run, 0, d - 1);
 }
 
@@ -38,7 +41,7 @@ pub fn close_usable(a: &[u8], run: &mut [u8], counters: Counters, e: &[u8]) -> C
             counters: counters,
         };
     }
-    close_on(a, run);
+    close_on(run);
     ClosedBy {
         refusal: 0,
         counters: Counters {

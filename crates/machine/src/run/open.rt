@@ -2,6 +2,7 @@
 use crate::hash::hash_of;
 use crate::layout::MASK_SIZE;
 use crate::run::candidates;
+use crate::run::layout::MATCHES_AT;
 use crate::run::layout::ROW_SIZE;
 use crate::run::refusals;
 use crate::run::row;
@@ -9,6 +10,7 @@ use crate::run::rows;
 use crate::run::shape;
 use crate::run::steps;
 use crate::walk;
+use notation::store::copy;
 use notation::store::put16;
 use stored::answers::Opened;
 use stored::answers::OpenedBy;
@@ -16,34 +18,51 @@ use stored::counters::Counters;
 use stored::walk::Walk;
 ghost use mathlib.Core.Path.{_≡_};
 ghost use Prim.Native.Nat.{suc, _≤_, _<_};
+ghost use mathlib.Core.List.{_∷_, _++_};
 ghost use lib.ListN.{length};
 ghost use Rattle.notation.specs.Limits.{maxName, maxSteps};
+ghost use Rattle.notation.specs.Layout.{le16, padded};
 ghost use Rattle.theory.specs.Limits.{maxDepth};
-ghost use Rattle.stored.specs.Automaton.{hash};
+ghost use Rattle.stored.specs.Automaton.{maskSize, hash};
 ghost use Rattle.stored.specs.RunContracts.{Opens, OpensBy};
 ghost use Rattle.stored.specs.Openable.{Openable, Ready, Usable};
 ghost use Rattle.stored.specs.Run.{runSize};
-ghost use Rattle.stored.specs.RunCalls.{depthOf, usedBits, nowActive, nowSeen, nowMatched, openRun, openWalk};
-ghost use Rattle.stored.specs.Code.OpenSteps.{storedBits, nameStored};
+ghost use Rattle.stored.specs.RunCalls.{depthOf, withRow, openRun, openWalk};
 
-// The bits of the new element, in its row and in the matches. `h` is the hash of its name, and d the depth before.
-fn mark(a: &[u8], run: &mut [u8], e: &[u8], h: usize, d: usize)
-    requires { ⌜ (Openable (now a)) × ((d < maxDepth) × ((d ≡ depthOf (now run)) × ((h ≡ hash (now e)) × (runSize ≤ length (now run))))) ⌝ }
-    ensures { λ _. ⌜ now (run .exit) ≡ storedBits (now (run .entry)) d (usedBits (now (a .entry)) (nowActive (now (a .entry)) (now (run .entry)) (now (e .entry)))) (usedBits (now (a .entry)) (nowSeen (now (a .entry)) (now (run .entry)) (now (e .entry)))) (usedBits (now (a .entry)) (nowMatched (now (a .entry)) (now (run .entry)) (now (e .entry)))) ⌝ }
-{
-    let mut taken = [0; MASK_SIZE];
-    candidates::mark_labels(&mut taken, a, e, h);
-    steps::mark_bits(a, run, &taken, d, row::used_bytes(a));
-}
-
-// Name and state of the new row: the row, a part from the middle of the run, is lent to the function that writes it. Then the depth.
-fn store(run: &mut [u8], d: usize, e: &[u8], state: usize)
-    requires { ⌜ (d < maxDepth) × ((length (now e) ≤ maxName) × (runSize ≤ length (now run))) ⌝ }
-    ensures { λ _. ⌜ now (run .exit) ≡ nameStored (now (run .entry)) d (now (e .entry)) state ⌝ }
+// The new element's row, a part from the middle of the run, is lent to the function that writes it. d is the depth before.
+fn store(run: &mut [u8], d: usize, e: &[u8], state: usize, active: &[u8], seen: &[u8])
+    requires { ⌜ (d < maxDepth) × ((runSize ≤ length (now run)) × ((length (now e) ≤ maxName) × ((length (now active) ≡ maskSize) × (length (now seen) ≡ maskSize)))) ⌝ }
+    ensures { λ _. ⌜ now (run .exit) ≡ withRow (now (run .entry)) (suc d) (length (now (e .entry)) ∷ (padded maxName (now (e .entry)) ++ (le16 state ++ (now (active .entry) ++ now (seen .entry))))) ⌝ }
 {
     let at = rows::row_at(d + 1);
     let end = at + ROW_SIZE;
-    row::write_row(&mut run[at..end], e, state);
+    row::write_row(&mut run[at..end], e, state, active, seen);
+}
+
+// What an open writes: the new row, the matches, the depth, which was d. `h` is the hash of the name, `state` the state that the walk ends in.
+fn write(a: &[u8], run: &mut [u8], e: &[u8], h: usize, d: usize, state: usize)
+    requires { ⌜ (Openable (now a)) × ((runSize ≤ length (now run)) × ((d < maxDepth) × (length (now e) ≤ maxName))) ⌝ }
+    requires { ⌜ (h ≡ hash (now e)) × ((d ≡ depthOf (now run)) × (state ≡ openWalk (now a) (now run) (now e) .state)) ⌝ }
+    ensures { λ _. ⌜ now (run .exit) ≡ openRun (now (a .entry)) (now (run .entry)) (now (e .entry)) ⌝ }
+{
+    let mut taken = [0; MASK_SIZE];
+    let mut active = [0; MASK_SIZE];
+    let mut seen = [0; MASK_SIZE];
+    let mut matched = [0; MASK_SIZE];
+    let used = steps::used_bytes(a);
+    candidates::mark_labels(&mut taken, a, e, h);
+    steps::mark_bits(
+        a,
+        run,
+        &taken,
+        d,
+        used,
+        &mut active,
+        &mut seen,
+        &mut matched,
+    );
+    store(run, d, e, state, &active, &seen);
+    copy(run, MATCHES_AT, &matched[..used]);
     put16(run, 0, d + 1);
 }
 
@@ -55,8 +74,7 @@ fn open_on(a: &[u8], run: &mut [u8], e: &[u8]) -> Walk
     let h = hash_of(e);
     let d = shape::depth(run);
     let walked = walk::walk_from(a, rows::state_at(run, d), e, h);
-    mark(a, run, e, h, d);
-    store(run, d, e, walked.state);
+    write(a, run, e, h, d, walked.state);
     walked
 }
 
@@ -73,12 +91,13 @@ pub fn open_usable(a: &[u8], run: &mut [u8], counters: Counters, e: &[u8]) -> Op
         };
     }
     let walked = open_on(a, run, e);
+    let moves = walked.moves;
     OpenedBy {
-        answer: Opened::Accepted(walked.moves),
+        answer: Opened::Accepted(moves),
         counters: Counters {
             opens: counters.opens + 1,
             closes: counters.closes,
-            moves: counters.moves + walked.moves,
+            moves: counters.moves + moves,
         },
     }
 }

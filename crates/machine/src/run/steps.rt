@@ -1,24 +1,31 @@
-// The bits of an open, a byte of eight steps at a time: the active steps and the steps seen in the new row, and the matches.
+// The bits of an open, a byte of eight steps at a time: the active steps, the steps seen, and the matches.
 use crate::bits;
 use crate::layout::MASK_SIZE;
 use crate::layout::MASKS_AT;
 use crate::run::layout::ACTIVE_IN;
 use crate::run::layout::MATCHES_AT;
-use crate::run::layout::ROW_SIZE;
 use crate::run::layout::SEEN_IN;
-use crate::run::row;
 use crate::run::rows;
+use notation::reads;
 ghost use mathlib.Core.Path.{_≡_};
 ghost use mathlib.Core.Bool.{_&&_, _||_};
-ghost use Prim.Native.Nat.{ℕ, suc, _+_, _*_, _≤_, _<_};
+ghost use Prim.Native.Nat.{ℕ, _+_, _*_, _≤_, _<_};
 ghost use lib.Dec.{eqb};
-ghost use lib.ListN.{length, getD, set};
+ghost use lib.ListN.{length, getD};
+ghost use lib.Seq.{sets};
 ghost use Rattle.theory.specs.Limits.{maxDepth};
-ghost use Rattle.stored.specs.Automaton.{maskSize, automatonSize};
+ghost use Rattle.stored.specs.Automaton.{maskSize, automatonSize, bitBytes};
 ghost use Rattle.stored.specs.Bits.{bitOf, bitIn, bitAt};
-ghost use Rattle.stored.specs.Run.{runSize, rowAt, activeIn, seenIn, matchesAt};
-ghost use Rattle.stored.specs.RunCalls.{maskBit, shifted, permitted, seenAt, matchedAt};
-ghost use Rattle.stored.specs.Code.OpenSteps.{byteMarked, bitsMarked};
+ghost use Rattle.stored.specs.Run.{runSize};
+ghost use Rattle.stored.specs.RunCalls.{maskBit, shifted, permitted, seenAt, matchedAt, usedBytes};
+ghost use Rattle.stored.specs.Code.OpenSteps.{takenActive, takenSeen, takenMatched};
+
+// Bytes of a row of bits that the automaton's steps use.
+pub fn used_bytes(a: &[u8]) -> usize
+    ensures { λ r. ⌜ r ≡ usedBytes (now (a .entry)) ⌝ }
+{
+    (reads::steps(a) + 7) / 8
+}
 
 fn narrow(b: usize) -> u8
     requires { ⌜ b < 256 ⌝ }
@@ -115,36 +122,29 @@ fn match_byte(a: &[u8], run: &[u8], j: usize, active: usize) -> usize
     bits::either(bits_byte(run, MATCHES_AT, j), ended)
 }
 
-// Byte j of the row of depth d + 1 and of the matches.
-fn put_byte(run: &mut [u8], d: usize, j: usize, active: usize, seen: usize, matched: usize)
-    requires { ⌜ (runSize ≤ length (now run)) × ((d < maxDepth) × ((j < maskSize) × ((active < 256) × ((seen < 256) × (matched < 256))))) ⌝ }
-    ensures { λ _. ⌜ now (run .exit) ≡ set (set (set (now (run .entry)) (rowAt (suc d) + activeIn + j) active) (rowAt (suc d) + seenIn + j) seen) (matchesAt + j) matched ⌝ }
-{
-    let at = rows::row_at(d + 1);
-    let end = at + ROW_SIZE;
-    row::write_bits(&mut run[at..end], j, narrow(active), narrow(seen));
-    run[MATCHES_AT + j] = narrow(matched);
-}
-
-// The bits of steps 8 j to 8 j + 7.
-fn mark_byte(a: &[u8], run: &mut [u8], taken: &[u8], d: usize, j: usize)
-    requires { ⌜ (automatonSize ≤ length (now a)) × ((runSize ≤ length (now run)) × ((maskSize ≤ length (now taken)) × ((d < maxDepth) × (j < maskSize)))) ⌝ }
-    ensures { λ _. ⌜ now (run .exit) ≡ byteMarked (now (a .entry)) (now (run .entry)) (now (taken .entry)) d j ⌝ }
-{
-    let active = active_byte(a, run, taken, d, j);
-    let seen = seen_byte(run, d, j, active);
-    let matched = match_byte(a, run, j, active);
-    put_byte(run, d, j, active, seen, matched);
-}
-
 // The bits of all steps, in one pass over the bytes used. `taken` has the labels of the new element's name, and d is the depth before.
-pub fn mark_bits(a: &[u8], run: &mut [u8], taken: &[u8], d: usize, used: usize)
-    requires { ⌜ (automatonSize ≤ length (now a)) × ((runSize ≤ length (now run)) × ((maskSize ≤ length (now taken)) × ((d < maxDepth) × (used ≤ maskSize)))) ⌝ }
-    ensures { λ _. ⌜ now (run .exit) ≡ bitsMarked (now (a .entry)) (now (run .entry)) (now (taken .entry)) d used ⌝ }
+pub fn mark_bits(
+    a: &[u8],
+    run: &[u8],
+    taken: &[u8],
+    d: usize,
+    used: usize,
+    active: &mut [u8],
+    seen: &mut [u8],
+    matched: &mut [u8],
+)
+    requires { ⌜ (automatonSize ≤ length (now a)) × ((runSize ≤ length (now run)) × ((maskSize ≤ length (now taken)) × ((d ≤ maxDepth) × (used ≤ maskSize)))) ⌝ }
+    requires { ⌜ (maskSize ≤ length (now active)) × ((maskSize ≤ length (now seen)) × (maskSize ≤ length (now matched))) ⌝ }
+    ensures { λ _. ⌜ now (active .exit) ≡ sets (now (active .entry)) 0 (bitBytes (takenActive (now (a .entry)) (now (run .entry)) (now (taken .entry)) d) used) ⌝ }
+    ensures { λ _. ⌜ now (seen .exit) ≡ sets (now (seen .entry)) 0 (bitBytes (takenSeen (now (a .entry)) (now (run .entry)) (now (taken .entry)) d) used) ⌝ }
+    ensures { λ _. ⌜ now (matched .exit) ≡ sets (now (matched .entry)) 0 (bitBytes (takenMatched (now (a .entry)) (now (run .entry)) (now (taken .entry)) d) used) ⌝ }
 {
     let mut j = 0;
     while j < used {
-        mark_byte(a, run, taken, d, j);
+        let here = active_byte(a, run, taken, d, j);
+        active[j] = narrow(here);
+        seen[j] = narrow(seen_byte(run, d, j, here));
+        matched[j] = narrow(match_byte(a, run, j, here));
         j += 1;
     }
 }

@@ -9,7 +9,6 @@ pub mod OpenBits
 pub mod Opening
 pub mod Starting
 pub mod Written
-pub mod Apart
 pub mod Marked
 pub mod Answered
 pub mod Asking

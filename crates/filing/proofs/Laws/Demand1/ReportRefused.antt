@@ -57,7 +57,7 @@ module _ (a : List ℕ) where
   -- what an event that is taken leaves
   abbrev eventLeaves : Left → Event → Left
   eventLeaves t (opening n) = record { bytes = openRun a (t .bytes) n; counters = openCounters a (t .bytes) (t .counters) n }
-  eventLeaves t (closing n) = record { bytes = closeRun a (t .bytes); counters = closeCounters (t .counters) }
+  eventLeaves t (closing n) = record { bytes = closeRun (t .bytes); counters = closeCounters (t .counters) }
   eventLeaves t (textHere b) = t
   eventLeaves t (commentHere b) = t
 

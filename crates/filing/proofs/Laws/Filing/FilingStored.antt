@@ -89,7 +89,7 @@ module _ (s : FolderSet) (a : List ℕ) (means : Means s a) (rest : List ℕ) wh
   event-stored (closing n) st few =
       let t = leftOf s rest st in
       call-stored s rest (refusal st (closeCall asLeft n)) (closeRefusal a (t .bytes) (t .counters) n)
-      (record { bytes = closeRun a (t .bytes); counters = closeCounters (t .counters) })
+      (record { bytes = closeRun (t .bytes); counters = closeCounters (t .counters) })
       t (step s st (closeCall asLeft n)) (close-refused s a means st few rest asLeft n) (one-leaves s a means rest st few (closeCall asLeft n))
   event-stored (textHere b) st few = rw (stored-depth s a means st few rest, none-open (st .levels)) (test-stored s rest (looseText st b) st)
   event-stored (commentHere b) st few = refl

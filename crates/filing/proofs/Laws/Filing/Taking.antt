@@ -76,8 +76,8 @@ pub close-taken : (a run : List ℕ) (c : Counters) (e : Name) (n : ℕ) (run' :
     → Takes a run (closeOutcome a (record { bytes = run; counters = c }) e) n run' c'
 close-taken a run c e n run' c' o =
     record {
-      outcomes = ap (λ (m : ℕ). so m run' c') (o .answers) ∙ settled (closeRefusal a run c e) run' (closeRun a run) run c' (closeCounters c) c (o .runAfter) (o .countersAfter);
-      restarts = restarted a (closeRefusal a run c e) run' (closeRun a run) run (o .runAfter) (close-restart a run c e);
+      outcomes = ap (λ (m : ℕ). so m run' c') (o .answers) ∙ settled (closeRefusal a run c e) run' (closeRun run) run c' (closeCounters c) c (o .runAfter) (o .countersAfter);
+      restarts = restarted a (closeRefusal a run c e) run' (closeRun run) run (o .runAfter) (close-restart a run c e);
     }
 
 -- calls, and nothing more after a refusal; or then others
@@ -299,7 +299,7 @@ open-fit : (a : List ℕ) (t : Left) (e : Name) → Usable a (t .bytes) (t .coun
 open-fit a t e u = so-fit a (openRefusal a (t .bytes) (t .counters) e) (openRun a (t .bytes) e) (openCounters a (t .bytes) (t .counters) e) (open-usable a (t .bytes) (t .counters) e u)
 
 close-fit : (a : List ℕ) (t : Left) (e : Name) → Usable a (t .bytes) (t .counters) → Fit a (closeOutcome a t e)
-close-fit a t e u = so-fit a (closeRefusal a (t .bytes) (t .counters) e) (closeRun a (t .bytes)) (closeCounters (t .counters)) (close-usable a (t .bytes) (t .counters) e u)
+close-fit a t e u = so-fit a (closeRefusal a (t .bytes) (t .counters) e) (closeRun (t .bytes)) (closeCounters (t .counters)) (close-usable a (t .bytes) (t .counters) e u)
 
 either-fit : (a : List ℕ) (t : Left) (n : ℕ) (b : Bool) → Usable a (t .bytes) (t .counters) → Fit a (cond b (refusedWith n) (leaving t))
 either-fit a t n true u = tt

@@ -23,7 +23,7 @@ pub rest-behind : (vs l : List ℕ) (i n : ℕ) → i + length vs ≤ n → drop
 rest-behind [] l i n h = refl
 rest-behind (v ∷ vs) l i n h = rest-behind vs (set l i v) (suc i) n (omega arith) ∙ drop-set-lt n l i v (omega arith)
 
-pub stored-stands : (vs l : List ℕ) (i : ℕ) → i + length vs ≤ length l → Stands i vs (sets l i vs)
+stored-stands : (vs l : List ℕ) (i : ℕ) → i + length vs ≤ length l → Stands i vs (sets l i vs)
 stored-stands vs l i h = record { before = take i l; after = drop (i + length vs) l; split = sets-eq vs l i h ∙ append-assoc (take i l) vs (drop (i + length vs) l); size = length-take-le i l (omega arith) }
 
 pub word-stored : (l : List ℕ) (i v : ℕ) → i + 2 ≤ length l → v < 65536 → word16 (sets l i (le16 v)) i ≡ v

@@ -81,7 +81,7 @@ module _ (s : FolderSet) (a : List ℕ) (m : Means s a) (rest : List ℕ) where
     opened-counters e = rw (add-one (st .opens), opened-moves e)
 
     -- an accepted close
-    closed-run : (e : Name) → Closable st e → closeRun a (runOf s st ++ rest) ≡ runOf s (closed st) ++ rest
+    closed-run : (e : Name) → Closable st e → closeRun (runOf s st ++ rest) ≡ runOf s (closed st) ++ rest
     unfolding closedFrom
     closed-run e c =
         let outer = namesOf (c .outer) in
@@ -89,8 +89,8 @@ module _ (s : FolderSet) (a : List ℕ) (m : Means s a) (rest : List ℕ) where
         let short : Short (outer ++ (e ∷ [])) = subst Short is (names-short s st g) in
         let d : length names ≡ suc (length outer) = ap length is ∙ length-append outer (e ∷ []) ∙ add-one (length outer) in
         let deep : length outer < maxDepth = omega (arith, names-deep s st g) in
-        ap (λ (l : List Name). closeRun a (runWith s l (st .matched) ++ rest)) is
-        ∙ close-run s a m outer e (st .matched) deep (short-close outer e short) (short e (Memᴰ·append-right outer (List·Memᴰ·head refl))) rest
+        ap (λ (l : List Name). closeRun (runWith s l (st .matched) ++ rest)) is
+        ∙ close-run s outer e (st .matched) deep (short-close outer e short) (short e (Memᴰ·append-right outer (List·Memᴰ·head refl))) rest
         ∙ ap (λ (l : List Level). runOf s (closedFrom l st) ++ rest) (sym (c .innermost))
 
     closed-counters : (e : Name) → Closable st e → closeCounters (countersOf st) ≡ countersOf (closed st)

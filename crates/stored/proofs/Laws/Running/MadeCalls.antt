@@ -26,7 +26,7 @@ leaves a t (openCall asLeft e) =
     t
 leaves a t (closeCall asLeft e) =
     cond (eqb (closeRefusal a (t .bytes) (t .counters) e) 0)
-    (record { bytes = closeRun a (t .bytes); counters = closeCounters (t .counters) })
+    (record { bytes = closeRun (t .bytes); counters = closeCounters (t .counters) })
     t
 leaves a t (openCall otherwise e) = t
 leaves a t (closeCall otherwise e) = t
@@ -48,7 +48,7 @@ module _ (a : List ℕ) where
 
   close-left : {t u : Left} {e : Name} {answer : ℕ} → Closes a (t .bytes) (t .counters) e answer (u .bytes) (u .counters) → u ≡ leaves a t (closeCall asLeft e)
   close-left {t} {u} {e} o =
-      both-left (eqb (closeRefusal a (t .bytes) (t .counters) e) 0) t u (closeRun a (t .bytes)) (closeCounters (t .counters)) (o .runAfter) (o .countersAfter)
+      both-left (eqb (closeRefusal a (t .bytes) (t .counters) e) 0) t u (closeRun (t .bytes)) (closeCounters (t .counters)) (o .runAfter) (o .countersAfter)
 
   -- the contracts determine what is left
   pub calls-left : {t v : Left} {made : List Made} → Calls a t made v → v ≡ leftAfter a t (callsOf made)
@@ -96,7 +96,7 @@ opens-so a t e =
 closes-so : (a : List ℕ) (t : Left) (e : Name) → (u : Left) × Closes a (t .bytes) (t .counters) e (closeRefusal a (t .bytes) (t .counters) e) (u .bytes) (u .counters)
 closes-so a t e =
     let ok = eqb (closeRefusal a (t .bytes) (t .counters) e) 0 in (
-      record { bytes = cond ok (closeRun a (t .bytes)) (t .bytes); counters = cond ok (closeCounters (t .counters)) (t .counters) },
+      record { bytes = cond ok (closeRun (t .bytes)) (t .bytes); counters = cond ok (closeCounters (t .counters)) (t .counters) },
       record { answers = refl; runAfter = refl; countersAfter = refl },
     )
 

@@ -31,6 +31,6 @@ open-restart a run c e z =
     let m = may-open a run c e z in
     same-start a (openRun a run e) run (open-behind a run e (m .ready) (m .depth) (m .name))
 
-pub close-restart : (a run : List ℕ) (c : Counters) (e : Name) → closeRefusal a run c e ≡ 0 → startRun a (closeRun a run) ≡ startRun a run
+pub close-restart : (a run : List ℕ) (c : Counters) (e : Name) → closeRefusal a run c e ≡ 0 → startRun a (closeRun run) ≡ startRun a run
 close-restart a run c e z =
-    same-start a (closeRun a run) run (close-behind a run (may-close a run c e z .ready))
+    same-start a (closeRun run) run (close-behind a run (may-close a run c e z .ready))

@@ -1,34 +1,29 @@
 -- A row lent out of the middle of a run and put back.
-use Prim.Native.Nat.{ℕ, _+_, _-_, _≤_, pred}
-use mathlib.Core.Path.{_≡_, ap}
-use mathlib.Core.List.{List, _++_}
+use Prim.Native.Nat.{ℕ, _+_, _-_, _≤_, pred, min}
+use mathlib.Core.Path.{_≡_, sym, ap, _∙_}
+use mathlib.Core.List.{List, _++_, append-nil}
 use native.Mathlib.Omega.{arith}
-use lib.ListN.{length, take, drop, length-take, length-drop}
-use lib.Seq.{sets}
-use borrow.Rule.Slice.PartMut.{midOf, putMid, post-is, same-len-mid}
+use lib.ListN.{length, take, drop, replicate}
+use lib.Seq.{sets, drop-length}
+use borrow.Rule.Slice.PartMut.{midOf, putMid, post-is, mid-len}
 use Rattle.notation.specs.Layout.{le16}
 use Rattle.stored.specs.Run.{rowAt, rowSize}
-use Rattle.stored.specs.RunCalls.{depthOf, rowCleared, closeRun}
+use Rattle.stored.specs.RunCalls.{depthOf, withRow, closeRun}
 
-width : (at size : ℕ) → at + size - at ≡ size
-width at size = omega arith
+pub row-back : (run row : List ℕ) (d at : ℕ) → at ≡ rowAt d → putMid at (at + rowSize - at) run row ≡ withRow run d row
+row-back run row d at e = ap (λ (l : List ℕ). take at run ++ (row ++ l)) (post-is at (at + rowSize) run (omega arith)) ∙ ap (λ (n : ℕ). take n run ++ (row ++ drop (n + rowSize) run)) e
 
-pub row-back : (at size : ℕ) (run ys : List ℕ) → putMid at (at + size - at) run ys ≡ take at run ++ (ys ++ drop (at + size) run)
-row-back at size run ys = ap (λ (l : List ℕ). take at run ++ (ys ++ l)) (post-is at (at + size) run (omega arith))
+pub row-width : (run : List ℕ) (at : ℕ) → at + rowSize ≤ length run → length (midOf at (at + rowSize - at) run) ≡ rowSize
+row-width run at h = let e : at + rowSize - at ≡ rowSize = omega arith in mid-len at (at + rowSize) run h ∙ e
 
-pub row-lent : (at size : ℕ) (run : List ℕ) → midOf at (at + size - at) run ≡ take size (drop at run)
-row-lent at size run = ap (λ (n : ℕ). take n (drop at run)) (width at size)
+pub cleared : (row : List ℕ) (n : ℕ) → length row ≡ n → replicate (min n (length row)) 0 ++ drop n row ≡ replicate n 0
+cleared row n e =
+    let m : min n (length row) ≡ n = omega arith in
+    rw m (ap (λ (l : List ℕ). replicate n 0 ++ l) (ap (λ (k : ℕ). drop k row) (sym e) ∙ drop-length row) ∙ append-nil (replicate n 0))
 
-pub closed : (a run row : List ℕ) (d at : ℕ) → d ≡ depthOf run → at ≡ rowAt d → row ≡ rowCleared a (midOf at (at + rowSize - at) run)
-    → sets (putMid at (at + rowSize - at) run row) 0 (le16 (d - 1)) ≡ closeRun a run
+pub closed : (run row : List ℕ) (d at : ℕ) → d ≡ depthOf run → at ≡ rowAt d → row ≡ replicate rowSize 0
+    → sets (putMid at (at + rowSize - at) run row) 0 (le16 (d - 1)) ≡ closeRun run
 unfolding closeRun
-closed a run row d at e f g =
+closed run row d at e f g =
     let less : depthOf run - 1 ≡ pred (depthOf run) = omega arith in
-    rw (row-back at rowSize run row, g, row-lent at rowSize run, f, e, less)
-
-pub row-width : (at size : ℕ) (run : List ℕ) → at + size ≤ length run → size ≤ length (midOf at (at + size - at) run)
-row-width at size run h = rw row-lent (simp (length-take, length-drop) (omega arith))
-
--- what is put back has the lent row's length, and the run keeps its own
-pub run-kept : (at size : ℕ) (run row : List ℕ) → length row ≡ length (midOf at (at + size - at) run) → length (putMid at (at + size - at) run row) ≡ length run
-run-kept at size run row h = same-len-mid at (at + size - at) run row h
+    rw (row-back run row d at f, g, e, less)

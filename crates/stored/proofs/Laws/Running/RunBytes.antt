@@ -6,12 +6,12 @@ use mathlib.Core.List.{List, [], _∷_, _++_, append-assoc, append-nil, List·Me
 use native.Mathlib.Omega.{arith}
 use native.Mathlib.Nat.{le-of-suc-le-suc, add-zero}
 use lib.ListN.{length, getD, take, drop, replicate, length-append}
-use Rattle.notation.specs.Limits.{maxName, maxLabels}
+use Rattle.notation.specs.Limits.{maxName, maxPaths, maxSteps, maxLabels}
 use Rattle.notation.specs.Names.{Name}
 use Rattle.notation.specs.Sets.{FolderSet}
 use Rattle.notation.specs.Form.{pathsOf}
 use Rattle.notation.specs.Layout.{le16, joined, padded}
-use Rattle.notation.specs.Reads.{word16}
+use Rattle.notation.specs.Reads.{word16, stepCount}
 use Rattle.notation.proofs.Laws.Stored.Stands.{Stands, left, right, read, slice}
 use Rattle.notation.proofs.Laws.Fill.Padded.{length-padded}
 use Rattle.notation.proofs.Laws.Stored.Entries.{OfWidth, none, more, joined-length, entry}
@@ -22,7 +22,7 @@ use Rattle.theory.specs.Prefix.{prefixOf}
 use Rattle.stored.specs.Automaton.{maskSize, stateOf, bitBytes, byteOf}
 use Rattle.stored.specs.Bits.{bitIn}
 use Rattle.stored.specs.Run.{matchesAt, rowsAt, nameIn, stateIn, activeIn, seenIn, rowSize, rowAt, runSize, matchBit, activeBits, seenBits, rowOf, rowsFrom, runWith}
-use Rattle.stored.specs.RunCalls.{depthOf, nameLength, storedName, stateAt, activeAt, seenAt, matchedAt}
+use Rattle.stored.specs.RunCalls.{depthOf, nameLength, storedName, stateAt, activeAt, seenAt, matchedAt, usedBytes}
 use Rattle.stored.proofs.Laws.Bytes.Tabulate.{tabulate-length}
 use Rattle.stored.proofs.Laws.Bytes.Bits.{bits-bit}
 use Rattle.theory.proofs.Laws.Keywords.Prefix.{current-prefix}
@@ -131,6 +131,11 @@ zerosFrom n = replicate (runSize - n) 0
 pub rows-fit : (d : ℕ) → d ≤ maxDepth → rowAt (suc d) ≤ runSize
 unfolding rowsAt rowSize runSize maxDepth matchesAt maskSize seenIn activeIn stateIn nameIn maxName
 rows-fit d h = omega arith
+
+-- the bytes that the steps of an automaton use are few enough
+pub used-room : (a : List ℕ) → stepCount a ≤ maxPaths * maxSteps → usedBytes a ≤ maskSize
+unfolding maskSize maxPaths maxSteps
+used-room a h = omega arith
 
 two-more : rowsAt ≡ 2 + maskSize
 unfolding rowsAt matchesAt

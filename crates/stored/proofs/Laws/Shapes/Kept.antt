@@ -1,19 +1,19 @@
 -- Start, open and close that are accepted leave a run and counters that pass the shape test, of any automaton and run that do.
 use Prim.Native.Nat.{ℕ, suc, _+_, _*_, _≤_, _<_, pred}
 use mathlib.Core.Path.{_≡_, refl, sym, _∙_, ap}
-use mathlib.Core.Bool.{true, _&&_}
-use mathlib.Core.List.{List, [], _∷_, _++_, append-nil}
+use mathlib.Core.Bool.{Bool, true, _&&_}
+use mathlib.Core.List.{List, _∷_, _++_}
 use native.Mathlib.Omega.{arith}
-use native.Mathlib.Nat.{zero-add, add-zero, add-assoc}
+use native.Mathlib.Nat.{add-zero, add-assoc}
 use lib.Dec.{leb, eqb}
-use lib.ListN.{length, getD, take, drop, replicate, length-append, length-drop, length-replicate, getD-replicate, List·getD-append}
-use lib.Seq.{sets, length-sets, length-take-le}
+use lib.ListN.{length, getD, drop, replicate, length-append, length-drop, length-replicate, getD-replicate, List·getD-append}
+use lib.Seq.{sets, length-sets}
 use borrow.Author.Tests.{leb-true, leb-false, le-leb, eqb-true, eq-eqb, eqb-false}
 use Rattle.notation.specs.Names.{Name}
-use Rattle.notation.specs.Limits.{maxName, maxPaths, maxSteps, maxLabels}
+use Rattle.notation.specs.Limits.{maxName, maxSteps, maxLabels}
 use Rattle.notation.specs.Layout.{le16, padded}
-use Rattle.notation.specs.Reads.{word16, stepCount, labelCount}
-use Rattle.notation.proofs.Laws.Stored.Stands.{Stands, read, right}
+use Rattle.notation.specs.Reads.{word16, labelCount}
+use Rattle.notation.proofs.Laws.Stored.Stands.{Stands}
 use Rattle.notation.proofs.Laws.Stored.Words.{word-read}
 use Rattle.notation.proofs.Laws.Fill.Padded.{length-padded}
 use Rattle.theory.specs.Limits.{maxDepth, maxOpens}
@@ -21,15 +21,15 @@ use Rattle.stored.specs.Automaton.{maskSize, byteOf}
 use Rattle.stored.specs.Tables.{startOf}
 use Rattle.stored.specs.Shape.{automatonShaped}
 use Rattle.stored.specs.Run.{matchesAt, rowsAt, nameIn, stateIn, activeIn, seenIn, rowSize, rowAt, runSize}
-use Rattle.stored.specs.RunCalls.{depthOf, nameLength, stateAt, rowShaped, runShaped, countersShaped, startRefusal, openRefusal, closeRefusal, startRun, noCounters, usedBytes, usedBits, nowActive, nowSeen, nowMatched, openWalk, rowWritten, openRun, openCounters, rowCleared, closeRun, closeCounters}
+use Rattle.stored.specs.RunCalls.{depthOf, nameLength, stateAt, rowShaped, runShaped, countersShaped, startRefusal, openRefusal, closeRefusal, startRun, noCounters, usedBytes, usedBits, nowActive, nowSeen, nowMatched, openWalk, stepBits, rowOpened, withRow, openRun, openCounters, closeRun, closeCounters}
 use Rattle.stored.specs.Openable.{Ready, Usable}
 use Rattle.stored.specs.declared.counters.Counters.{Counters}
 use Rattle.theory.proofs.Laws.Basics.{cases, both, both-true}
 use Rattle.stored.proofs.Laws.Bytes.AllBelow.{is-all}
 use Rattle.stored.proofs.Laws.Bytes.Tabulate.{tabulate-length}
-use Rattle.stored.proofs.Laws.Bytes.Beside.{byte-before, byte-behind, rest-behind, stored-stands, word-stored, word-same, put-length, put-before, put-within, put-behind}
+use Rattle.stored.proofs.Laws.Bytes.Beside.{byte-before, byte-behind, rest-behind, word-stored, word-same, put-length, put-before, put-within, put-behind}
 use Rattle.stored.proofs.Laws.Tables.Fuel.{size-within, over-state, over-moves}
-use Rattle.stored.proofs.Laws.Running.RunBytes.{rows-fit}
+use Rattle.stored.proofs.Laws.Running.RunBytes.{rows-fit, used-room}
 use Rattle.stored.proofs.Laws.Shapes.Shaped.{shaped-is, shaped-walkable}
 use Rattle.stored.proofs.Laws.Shapes.RunShape.{RunShape, run-shape}
 use Rattle.stored.proofs.Laws.Shapes.Given.{may-start, may-open, may-close, within-run}
@@ -96,10 +96,6 @@ row-alike run run' d same = (
       (same (rowAt d + stateIn + 1) (omega arith) (omega (arith, row-places .state, row-places .seen, row-places .end))),
 )
 
-used-room : (a : List ℕ) → stepCount a ≤ maxPaths * maxSteps → usedBytes a ≤ maskSize
-unfolding maskSize maxPaths maxSteps
-used-room a h = omega arith
-
 -- a start
 start-length : (a run : List ℕ) → runSize ≤ length run → length (startRun a run) ≡ length run
 unfolding startRun
@@ -164,34 +160,42 @@ module _ (a run : List ℕ) (e : Name) (r : Ready a run) (room : depthOf run < m
   abbrev at : ℕ
   at = rowAt (suc (depthOf run))
 
-  abbrev old : List ℕ
-  old = take rowSize (drop at run)
-
-  abbrev head : List ℕ
-  head = length e ∷ (padded maxName e ++ le16 (openWalk a run e .state))
-
   abbrev row : List ℕ
-  row = rowWritten a run e old
+  row = rowOpened a run e
+
+  abbrev held : List ℕ
+  held = withRow run (suc (depthOf run)) row
 
   fits : at + rowSize ≤ length run
   fits = omega (arith, row-fits (suc (depthOf run)) room, r .runLength)
 
-  old-length : length old ≡ rowSize
-  old-length = length-take-le rowSize (drop at run) (omega (arith, length-drop at run, fits))
+  few : usedBytes a ≤ maskSize
+  few = used-room a (shaped-is a (r .shaped) .counts .steps)
+
+  bits-length : (f : ℕ → Bool) → length (stepBits a f) ≡ maskSize
+  bits-length f = length-padded maskSize (usedBits a f) (omega (arith, few, tabulate-length (byteOf f) (usedBytes a)))
+
+  abbrev bits : List ℕ
+  bits = stepBits a (nowActive a run e) ++ stepBits a (nowSeen a run e)
 
   row-length : length row ≡ rowSize
-  unfolding rowWritten
+  unfolding rowOpened
   row-length =
-      length-sets (sets (sets old 0 head) activeIn (usedBits a (nowActive a run e))) seenIn (usedBits a (nowSeen a run e))
-      ∙ length-sets (sets old 0 head) activeIn (usedBits a (nowActive a run e))
-      ∙ length-sets old 0 head
-      ∙ old-length
-
-  abbrev held : List ℕ
-  held = take at run ++ (row ++ drop (at + rowSize) run)
+      omega (
+        arith,
+        row-places .name,
+        row-places .state,
+        row-places .seen,
+        row-places .end,
+        length-padded maxName e short,
+        length-append (padded maxName e) (le16 (openWalk a run e .state) ++ bits),
+        length-append (stepBits a (nowActive a run e)) (stepBits a (nowSeen a run e)),
+        bits-length (nowActive a run e),
+        bits-length (nowSeen a run e),
+      )
 
   matches-length : matchesAt + length (usedBits a (nowMatched a run e)) ≤ rowsAt
-  matches-length = omega (arith, matches-end, tabulate-length (byteOf (nowMatched a run e)) (usedBytes a), used-room a (shaped-is a (r .shaped) .counts .steps))
+  matches-length = omega (arith, matches-end, tabulate-length (byteOf (nowMatched a run e)) (usedBytes a), few)
 
   pub open-length : length (openRun a run e) ≡ length run
   unfolding openRun
@@ -228,21 +232,12 @@ module _ (a run : List ℕ) (e : Name) (r : Ready a run) (room : depthOf run < m
       (λ j l i. open-rows j (omega (arith, row-begins k)) ∙ put-before run row at rowSize fits row-length j (omega (arith, rows-apart k (suc (depthOf run)) (omega arith))))
 
   -- the new row
-  head-length : length head ≡ activeIn
-  head-length = omega (arith, row-places .state, row-places .name, length-append (padded maxName e) (le16 (openWalk a run e .state)), length-padded maxName e short)
-
-  row-byte : (k : ℕ) → k < activeIn → getD (openRun a run e) (at + k) 0 ≡ getD head k 0
-  unfolding rowWritten
-  row-byte k h =
-      open-rows (at + k) (omega (arith, row-begins (suc (depthOf run))))
-      ∙ put-within run row at rowSize fits row-length k (omega (arith, row-places .seen, row-places .end))
-      ∙ byte-before (usedBits a (nowSeen a run e)) (sets (sets old 0 head) activeIn (usedBits a (nowActive a run e))) seenIn k (omega (arith, row-places .seen))
-      ∙ byte-before (usedBits a (nowActive a run e)) (sets old 0 head) activeIn k h
-      ∙ ap (λ (n : ℕ). getD (sets old 0 head) n 0) (sym (zero-add k))
-      ∙ read k (omega (arith, head-length)) (stored-stands head old 0 (omega (arith, head-length, old-length, row-places .seen, row-places .end)))
+  row-byte : (k : ℕ) → k < rowSize → getD (openRun a run e) (at + k) 0 ≡ getD row k 0
+  row-byte k h = open-rows (at + k) (omega (arith, row-begins (suc (depthOf run)))) ∙ put-within run row at rowSize fits row-length k h
 
   new-name : nameLength (openRun a run e) (suc (depthOf run)) ≡ length e
-  new-name = ap (λ (n : ℕ). getD (openRun a run e) n 0) (sym (add-zero at)) ∙ row-byte 0 (omega (arith, row-places .state))
+  unfolding rowOpened
+  new-name = ap (λ (n : ℕ). getD (openRun a run e) n 0) (sym (add-zero at)) ∙ row-byte 0 (omega (arith, row-places .name, row-places .state, row-places .seen, row-places .end))
 
   state-bound : openWalk a run e .state ≤ suc (labelCount a)
   state-bound = over-state a (shaped-walkable a (r .shaped)) (stateAt run (depthOf run)) e (run-shape a run (r .runIsShaped) .state (depthOf run) (omega arith))
@@ -253,20 +248,16 @@ module _ (a run : List ℕ) (e : Name) (r : Ready a run) (room : depthOf run < m
       let w = shaped-walkable a (r .shaped) in
       omega (arith, over-moves a w (stateAt run (depthOf run)) e q, size-within a (w .falling) (stateAt run (depthOf run)) q)
 
-  head-stands : Stands 0 head head
-  head-stands = record { before = []; after = []; split = sym (append-nil head); size = refl }
-
-  state-stands : Stands stateIn (le16 (openWalk a run e .state)) head
-  state-stands =
-      right (padded maxName e) (le16 (openWalk a run e .state)) 1 stateIn (omega (arith, row-places .name, length-padded maxName e short))
-      (right (length e ∷ []) (padded maxName e ++ le16 (openWalk a run e .state)) 0 1 refl head-stands)
+  state-stands : Stands stateIn (le16 (openWalk a run e .state)) row
+  unfolding rowOpened
+  state-stands = record { before = length e ∷ padded maxName e; after = bits; split = refl; size = omega (arith, row-places .name, length-padded maxName e short) }
 
   new-state : stateAt (openRun a run e) (suc (depthOf run)) ≡ openWalk a run e .state
   unfolding maxLabels
   new-state =
-      word-same (openRun a run e) head (at + stateIn) stateIn
-      (row-byte stateIn (omega (arith, row-places .state)))
-      (ap (λ (n : ℕ). getD (openRun a run e) n 0) (add-assoc at stateIn 1) ∙ row-byte (stateIn + 1) (omega (arith, row-places .state)))
+      word-same (openRun a run e) row (at + stateIn) stateIn
+      (row-byte stateIn (omega (arith, row-places .state, row-places .seen, row-places .end)))
+      (ap (λ (n : ℕ). getD (openRun a run e) n 0) (add-assoc at stateIn 1) ∙ row-byte (stateIn + 1) (omega (arith, row-places .state, row-places .seen, row-places .end)))
       ∙ word-read (openWalk a run e .state) stateIn (omega (arith, state-bound, shaped-is a (r .shaped) .counts .labels)) state-stands
 
   open-shape : RunShape a (openRun a run e)
@@ -301,69 +292,58 @@ module _ (a run : List ℕ) (r : Ready a run) where
   abbrev from : ℕ
   from = rowAt (depthOf run)
 
-  abbrev last : List ℕ
-  last = take rowSize (drop from run)
-
   abbrev none : List ℕ
-  none = rowCleared a last
+  none = replicate rowSize 0
+
+  none-length : length none ≡ rowSize
+  none-length = length-replicate rowSize 0
 
   inside : from + rowSize ≤ length run
   inside = omega (arith, row-fits (depthOf run) (run-shape a run (r .runIsShaped) .deepest), r .runLength)
 
-  last-length : length last ≡ rowSize
-  last-length = length-take-le rowSize (drop from run) (omega (arith, length-drop from run, inside))
-
-  none-length : length none ≡ rowSize
-  unfolding rowCleared
-  none-length =
-      length-sets (sets (sets last 0 (replicate activeIn 0)) activeIn (replicate (usedBytes a) 0)) seenIn (replicate (usedBytes a) 0)
-      ∙ length-sets (sets last 0 (replicate activeIn 0)) activeIn (replicate (usedBytes a) 0)
-      ∙ length-sets last 0 (replicate activeIn 0)
-      ∙ last-length
-
   abbrev kept : List ℕ
-  kept = take from run ++ (none ++ drop (from + rowSize) run)
+  kept = withRow run (depthOf run) none
 
-  pub close-length : length (closeRun a run) ≡ length run
+  pub close-length : length (closeRun run) ≡ length run
   unfolding closeRun
   close-length = length-sets kept 0 (le16 (pred (depthOf run))) ∙ put-length run none from rowSize inside none-length
 
-  pub close-behind : drop runSize (closeRun a run) ≡ drop runSize run
+  pub close-behind : drop runSize (closeRun run) ≡ drop runSize run
   unfolding closeRun
   close-behind =
       rest-behind (le16 (pred (depthOf run))) kept 0 runSize (omega (arith, row-fits 0 (omega arith), matches-end, depth-end))
       ∙ put-behind run none from rowSize inside none-length runSize (row-fits (depthOf run) (run-shape a run (r .runIsShaped) .deepest))
 
-  close-depth : depthOf (closeRun a run) ≡ pred (depthOf run)
+  close-depth : depthOf (closeRun run) ≡ pred (depthOf run)
   unfolding closeRun maxDepth
   close-depth =
       word-stored kept 0 (pred (depthOf run))
       (omega (arith, put-length run none from rowSize inside none-length, inside, row-begins (depthOf run), matches-end, depth-end))
       (omega (arith, run-shape a run (r .runIsShaped) .deepest))
 
-  close-rows : (k : ℕ) → k < depthOf run → (nameLength (closeRun a run) k ≡ nameLength run k) × (stateAt (closeRun a run) k ≡ stateAt run k)
+  close-rows : (k : ℕ) → k < depthOf run → (nameLength (closeRun run) k ≡ nameLength run k) × (stateAt (closeRun run) k ≡ stateAt run k)
   unfolding closeRun
   close-rows k h =
-      row-alike run (closeRun a run) k
+      row-alike run (closeRun run) k
       (λ j l i. byte-behind (le16 (pred (depthOf run))) kept 0 j (omega (arith, row-begins k, matches-end, depth-end)) ∙ put-before run none from rowSize inside none-length j (omega (arith, rows-apart k (depthOf run) h)))
 
-  close-shape : 0 < depthOf run → RunShape a (closeRun a run)
+  close-shape : 0 < depthOf run → RunShape a (closeRun run)
   close-shape some =
       let s = run-shape a run (r .runIsShaped) in
-      let less : (k : ℕ) → k ≤ depthOf (closeRun a run) → k < depthOf run = λ k h. omega (arith, close-depth, some) in
+      let less : (k : ℕ) → k ≤ depthOf (closeRun run) → k < depthOf run = λ k h. omega (arith, close-depth, some) in
       record {
         deepest = omega (arith, close-depth, s .deepest);
         name = λ k h. rw (close-rows k (less k h) .0) (s .name k (omega (arith, less k h)));
         state = λ k h. rw (close-rows k (less k h) .1) (s .state k (omega (arith, less k h)));
       }
 
-pub close-usable : (a run : List ℕ) (c : Counters) (e : Name) → Usable a run c → closeRefusal a run c e ≡ 0 → Usable a (closeRun a run) (closeCounters c)
+pub close-usable : (a run : List ℕ) (c : Counters) (e : Name) → Usable a run c → closeRefusal a run c e ≡ 0 → Usable a (closeRun run) (closeCounters c)
 unfolding closeCounters
 close-usable a run c e u z =
     let r = u .ready in
     let some : 0 < depthOf run = omega (arith, eqb-false (depthOf run) 0 (may-close a run c e z .depth)) in
     let f = counter-facts run c (u .counts) in
     record {
-      ready = record { size = r .size; shaped = r .shaped; runLength = rw (close-length a run r) (r .runLength); runIsShaped = is-run-shaped a (closeRun a run) (close-shape a run r some) };
-      counts = are-counters-shaped (closeRun a run) (closeCounters c) (record { few = f .few; balance = omega (arith, close-depth a run r, f .balance, some); moved = f .moved });
+      ready = record { size = r .size; shaped = r .shaped; runLength = rw (close-length a run r) (r .runLength); runIsShaped = is-run-shaped a (closeRun run) (close-shape a run r some) };
+      counts = are-counters-shaped (closeRun run) (closeCounters c) (record { few = f .few; balance = omega (arith, close-depth a run r, f .balance, some); moved = f .moved });
     }

@@ -1,9 +1,7 @@
-use Rattle.stored.proofs.Laws.Shapes.RunShape.{run-shape}
-use Rattle.stored.proofs.Laws.Shapes.Shaped.{shaped-is}
-use Rattle.stored.proofs.Laws.Running.Rows.{row-width, closed}
 use native.Mathlib.Omega.{arith}
 use mathlib.Core.Path.{_∙_}
 use Rattle.stored.specs.Run.{rowSize, runSize}
+use Rattle.stored.proofs.Laws.Running.Rows.{row-width, closed}
 use borrow.Author.Needs.{needs}
 use Rattle.machine.proofs.run.close.close_on.Statement.{statement}
 use Rattle.machine.proofs.run.close.close_on.Tie as tie
@@ -12,8 +10,7 @@ depth-requires : tie.Need-depth-requires
 depth-requires c κs = search needs
 
 row-at-requires : tie.Need-row-at-requires
-row-at-requires c κs = let b = c .before .before .before .before in
-    omega (arith, c .depth .ensures .0, run-shape (b .args .a .now) (b .args .run .now) (b .pre .0 .runIsShaped) .deepest)
+row-at-requires c κs = search needs
 
 add-end : tie.Need-add-end
 add-end c = search needs
@@ -30,8 +27,7 @@ part-clear-row-end c = omega arith
 
 clear-row-requires : tie.Need-clear-row-requires
 unfolding rowSize runSize
-clear-row-requires c κs = let b = c .before .before .before .before .before .before in
-    (shaped-is (b .args .a .now) (b .pre .0 .shaped) .counts .steps, row-width (c .before .row-at .result) rowSize (b .args .run .now) (omega arith))
+clear-row-requires c κs = row-width (c .before .before .before .before .before .args .run .now) (c .before .row-at .result) (omega arith)
 
 sub-put16 : tie.Need-sub-put16
 sub-put16 c = search needs
@@ -45,8 +41,8 @@ same-length c = search needs
 returns : tie.Need-returns
 unfolding rowSize
 returns c = let b = c .before .before .before .before .before .before .before .before in
-    let a = b .before .before .before .before .before .args in
-    c .before .before .put16 .ensures ∙ closed (a .a .now) (a .run .now) _ (b .before .depth .result) (b .row-at .result) (b .before .depth .ensures .0) (b .row-at .ensures .0) (c .before .before .before .before .before .before .clear-row .ensures)
+    let run = b .before .before .before .before .args .run .now in
+    c .before .before .put16 .ensures ∙ closed run _ (b .before .depth .result) (b .row-at .result) (b .before .depth .ensures .0) (b .row-at .ensures .0) (c .before .before .before .before .before .before .clear-row .ensures)
 
 pub close-on-spec : {M : Type 1} → statement M
 close-on-spec =

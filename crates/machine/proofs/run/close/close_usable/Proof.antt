@@ -5,6 +5,7 @@ use lib.Dec.{eqb}
 use borrow.Author.Tests.{eq-eqb, ne-eqb, eqb-false}
 use Rattle.stored.specs.RunCalls.{closeRefusal, closeCounters, depthOf}
 use Rattle.stored.proofs.Laws.Shapes.Given.{may-close, close-others}
+use Rattle.stored.proofs.Laws.Shapes.RunShape.{run-shape}
 use Rattle.stored.proofs.Laws.Shapes.CounterShape.{closes-fit}
 use borrow.Author.Needs.{needs}
 use Rattle.machine.proofs.run.close.close_usable.Statement.{statement}
@@ -27,7 +28,7 @@ close-on-requires : tie.Need-close-on-requires
 close-on-requires c κs = let p = c .before .before .before .before .before .before .before in
     let b = p .args in
     let z = close-others (b .a .now) (b .run .now) (b .counters) (b .e .now) (p .pre) ∙ sym (c .before .before .close-others .ensures) ∙ c .before .if1 .left in
-    (p .pre .ready, omega (arith, eqb-false (depthOf (b .run .now)) 0 (may-close (b .a .now) (b .run .now) (b .counters) (b .e .now) z .depth)))
+    (p .pre .ready .runLength, (omega (arith, eqb-false (depthOf (b .run .now)) 0 (may-close (b .a .now) (b .run .now) (b .counters) (b .e .now) z .depth)), run-shape (b .a .now) (b .run .now) (p .pre .ready .runIsShaped) .deepest))
 
 add-t12 : tie.Need-add-t12
 add-t12 c = let p = c .before .before .before .before .before .before .before .before .before .before .before in

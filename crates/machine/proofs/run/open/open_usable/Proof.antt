@@ -38,28 +38,28 @@ open-on-requires c κs = let p = c .before .before .before .before .before .befo
     let m = may-open (b .a .now) (b .run .now) (b .counters) (b .e .now) z in
     (m .ready, (m .depth, m .name))
 
-add-t14 : tie.Need-add-t14
+add-t15 : tie.Need-add-t15
 unfolding maxOpens
-add-t14 c = let p = c .before .before .before .before .before .before .before .before .before .before .before in
+add-t15 c = let p = c .before .before .before .before .before .before .before .before .before .before .before in
     let b = p .args in
     let z = open-others (b .a .now) (b .run .now) (b .counters) (b .e .now) (p .pre) ∙ sym (c .before .before .before .before .before .before .open-others .ensures) ∙ c .before .before .before .before .before .if1 .left in
     omega (arith, may-open (b .a .now) (b .run .now) (b .counters) (b .e .now) z .opens)
 
-add-t15 : tie.Need-add-t15
+add-t16 : tie.Need-add-t16
 unfolding maxSteps
-add-t15 c = let p = c .before .before .before .before .before .before .before .before .before .before .before .before .before in
-    omega (arith, moves-fit (p .args .run .now) (p .args .counters) (p .pre .counts), c .before .before .before .before .before .open-on .ensures .1 .0)
+add-t16 c = let p = c .before .before .before .before .before .before .before .before .before .before .before .before in
+    omega (arith, moves-fit (p .args .run .now) (p .args .counters) (p .pre .counts), c .before .before .before .before .open-on .ensures .1 .0)
 
 same-length-2 : tie.Need-same-length-2
 same-length-2 c = search needs
 
 returns-2 : tie.Need-returns-2
 unfolding openCounters
-returns-2 c = let p = c .before .before .before .before .before .before .before .before .before .before .before .before .before in
+returns-2 c = let p = c .before .before .before .before .before .before .before .before .before .before .before .before in
     let b = p .args in
-    let z : openRefusal (b .a .now) (b .run .now) (b .counters) (b .e .now) ≡ 0 = open-others (b .a .now) (b .run .now) (b .counters) (b .e .now) (p .pre) ∙ sym (c .before .before .before .before .before .before .before .before .open-others .ensures) ∙ c .before .before .before .before .before .before .before .if1 .left in
+    let z : openRefusal (b .a .now) (b .run .now) (b .counters) (b .e .now) ≡ 0 = open-others (b .a .now) (b .run .now) (b .counters) (b .e .now) (p .pre) ∙ sym (c .before .before .before .before .before .before .before .open-others .ensures) ∙ c .before .before .before .before .before .before .if1 .left in
     let n : eqb (openRefusal (b .a .now) (b .run .now) (b .counters) (b .e .now)) 0 ≡ true = eq-eqb _ _ z in
-    let w = c .before .before .before .before .before .open-on in
+    let w = c .before .before .before .before .open-on in
     let e = w .ensures .0 in
     record { answers = ap (λ (x : Walk). value (x .moves)) e ∙ sym (said-value (openRefusal (b .a .now) (b .run .now) (b .counters) (b .e .now)) _ z); runAfter = rw n (w .ensures .1 .1); countersAfter = rw n (ap (λ (x : Walk). record { opens = b .counters .opens + 1; closes = b .counters .closes; moves = b .counters .moves + x .moves }) e) }
 
@@ -71,7 +71,7 @@ open-usable-spec =
     same-length
     returns
     open-on-requires
-    add-t14
     add-t15
+    add-t16
     same-length-2
     returns-2)

@@ -1,9 +1,10 @@
 use native.Mathlib.Omega.{arith}
+use native.Mathlib.Numerals.{add-one}
 use mathlib.Core.Path.{_∙_}
+use Prim.Native.Nat.{_+_}
 use Rattle.theory.specs.Limits.{maxDepth}
 use Rattle.stored.specs.Run.{rowSize, runSize}
-use Rattle.stored.proofs.Laws.Running.Rows.{row-width}
-use Rattle.stored.proofs.Laws.Running.Written.{stored}
+use Rattle.stored.proofs.Laws.Running.Rows.{row-width, row-back}
 use borrow.Author.Needs.{needs}
 use Rattle.machine.proofs.run.open.store.Statement.{statement}
 use Rattle.machine.proofs.run.open.store.Tie as tie
@@ -30,25 +31,18 @@ part-write-row-end c = omega arith
 
 write-row-requires : tie.Need-write-row-requires
 unfolding rowSize runSize
-write-row-requires c κs = let a = c .before .before .before .before in
-    (a .pre .1 .0, row-width (c .before .row-at .result) rowSize (a .args .run .now) (omega arith))
-
-add-put16 : tie.Need-add-put16
-unfolding maxDepth
-add-put16 c = omega arith
-
-put16-requires : tie.Need-put16-requires
-put16-requires c κs = search needs
+write-row-requires c κs = let b = c .before .before .before .before .before .before in
+    (row-width (b .args .run .now) (c .before .row-at .result) (omega arith), b .pre .1 .1)
 
 same-length : tie.Need-same-length
 same-length c = search needs
 
 returns : tie.Need-returns
 unfolding rowSize
-returns c = let r = c .before .before .before .before .before .before .before .before .row-at in
-    let w = c .before .before .before .before .before .before .write-row in
-    let a = c .before .before .before .before .before .before .before .before .before .before .before .args in
-    c .before .before .put16 .ensures ∙ stored (a .run .now) (w .last .0) (a .e .now) (a .d) (r .result) (a .state) (r .ensures .0) (w .ensures)
+returns c = let r = c .before .before .before .before .row-at in
+    let w = c .before .before .write-row in
+    let a = c .before .before .before .before .before .before .before .before .before .args in
+    row-back (a .run .now) (w .last .0) (a .d + 1) (r .result) (r .ensures .0) ∙ rw (w .ensures, add-one (a .d))
 
 pub store-spec : {M : Type 1} → statement M
 store-spec =
@@ -61,7 +55,5 @@ store-spec =
     part-write-row-start
     part-write-row-end
     write-row-requires
-    add-put16
-    put16-requires
     same-length
     returns)

@@ -1,55 +1,109 @@
 use native.Mathlib.Omega.{arith}
-use mathlib.Core.Path.{_≡_, refl, _∙_, ap}
-use mathlib.Core.List.{List}
-use Prim.Native.Nat.{ℕ, _-_, _≤_, _<_}
+use mathlib.Core.Path.{_≡_, _∙_, ap}
+use mathlib.Core.Bool.{Bool, _&&_, _||_}
+use Prim.Native.Nat.{_+_, _-_, _*_, _≤_}
 use lib.ListN.{length}
-use Rattle.stored.specs.Automaton.{maskSize}
-use Rattle.stored.specs.Code.OpenSteps.{byteMarked, bitsMarked}
-use Rattle.stored.proofs.Laws.Running.Marked.{none-marked, one-more}
+use lib.Seq.{sets, length-sets}
+use Rattle.stored.specs.Automaton.{maskSize, bitBytes}
+use Rattle.stored.specs.RunCalls.{maskBit, seenAt, matchedAt}
+use Rattle.stored.specs.Code.OpenSteps.{takenActive, takenSeen, takenMatched}
+use Rattle.stored.proofs.Laws.Running.Marked.{none-stored, one-stored}
+use borrow.Author.Needs.{needs}
 use Rattle.machine.proofs.run.steps.mark_bits.Statement.{statement}
 use Rattle.machine.proofs.run.steps.mark_bits.Tie as tie
 
 abbrev Inv-loop : tie.InvT-loop
-Inv-loop a run₀ taken d used j₀ run j = (j ≤ used) × ((length run ≡ length run₀) × (run ≡ bitsMarked a run₀ taken d j))
+Inv-loop a run taken d used active₀ seen₀ matched₀ j₀ active seen matched j =
+    (j ≤ used) × ((active ≡ sets active₀ 0 (bitBytes (takenActive a run taken d) j)) × ((seen ≡ sets seen₀ 0 (bitBytes (takenSeen a run taken d) j)) × (matched ≡ sets matched₀ 0 (bitBytes (takenMatched a run taken d) j))))
 
 abbrev μ-loop : tie.MeasureT-loop
-μ-loop a run₀ taken d used j₀ run j = used - j
+μ-loop a run taken d used active₀ seen₀ matched₀ j₀ active seen matched j = used - j
 
 loop-holds : tie.Need-loop-holds Inv-loop μ-loop
-loop-holds c = let a = c .before .before .before .args in
-    (omega arith, (refl, none-marked (a .a .now) (a .run .now) (a .taken .now) (a .d)))
+loop-holds c = let a = c .before .before .before .before .before .before .args in
+    let A = a .a .now in
+    let R = a .run .now in
+    let T = a .taken .now in
+    (omega arith, (none-stored (a .active .now) (takenActive A R T (a .d)), (none-stored (a .seen .now) (takenSeen A R T (a .d)), none-stored (a .matched .now) (takenMatched A R T (a .d)))))
 
-mark-byte-requires : tie.Need-mark-byte-requires Inv-loop μ-loop
-mark-byte-requires c κs = let b = c .before .before .before .before .before .before in
-    let l = c .before .before .loop in
-    (b .pre .0, (omega (arith, l .inv .1 .0, b .pre .1 .0), (b .pre .1 .1 .0, (b .pre .1 .1 .1 .0, omega (arith, b .pre .1 .1 .1 .1)))))
+active-byte-requires : tie.Need-active-byte-requires Inv-loop μ-loop
+active-byte-requires c κs = let p = c .before .before .before .before .before .before .before .before .pre .0 in
+    (p .0, (p .1 .0, (p .1 .1 .0, (p .1 .1 .1 .0, omega (arith, p .1 .1 .1 .1)))))
+
+narrow-requires : tie.Need-narrow-requires Inv-loop μ-loop
+narrow-requires c κs = search needs
+
+slice-write-active : tie.Need-slice-write-active Inv-loop μ-loop
+slice-write-active c = let l = c .before .before .before .loop in
+    let b = c .before .before .before .before .before .before .before .before .before .before in
+    omega (arith, ap length (l .inv .1 .0), length-sets (b .args .active .now) 0 (bitBytes (takenActive (b .args .a .now) (b .args .run .now) (b .args .taken .now) (b .args .d)) (l .j)), b .pre .0 .1 .1 .1 .1, b .pre .1 .0)
+
+seen-byte-requires : tie.Need-seen-byte-requires Inv-loop μ-loop
+seen-byte-requires c κs = let p = c .before .before .before .before .before .before .before .before .before .before .pre .0 in
+    (p .1 .0, (p .1 .1 .1 .0, (omega (arith, p .1 .1 .1 .1), c .before .active-byte .ensures .0)))
+
+narrow-requires-2 : tie.Need-narrow-requires-2 Inv-loop μ-loop
+narrow-requires-2 c κs = search needs
+
+slice-write-seen : tie.Need-slice-write-seen Inv-loop μ-loop
+slice-write-seen c = let l = c .before .before .before .before .before .loop in
+    let b = c .before .before .before .before .before .before .before .before .before .before .before .before in
+    omega (arith, ap length (l .inv .1 .1 .0), length-sets (b .args .seen .now) 0 (bitBytes (takenSeen (b .args .a .now) (b .args .run .now) (b .args .taken .now) (b .args .d)) (l .j)), b .pre .0 .1 .1 .1 .1, b .pre .1 .1 .0)
+
+match-byte-requires : tie.Need-match-byte-requires Inv-loop μ-loop
+match-byte-requires c κs = let p = c .before .before .before .before .before .before .before .before .before .before .before .before .pre .0 in
+    (p .0, (p .1 .0, (omega (arith, p .1 .1 .1 .1), c .before .before .before .active-byte .ensures .0)))
+
+narrow-requires-3 : tie.Need-narrow-requires-3 Inv-loop μ-loop
+narrow-requires-3 c κs = search needs
+
+slice-write-matched : tie.Need-slice-write-matched Inv-loop μ-loop
+slice-write-matched c = let l = c .before .before .before .before .before .before .before .loop in
+    let b = c .before .before .before .before .before .before .before .before .before .before .before .before .before .before in
+    omega (arith, ap length (l .inv .1 .1 .1), length-sets (b .args .matched .now) 0 (bitBytes (takenMatched (b .args .a .now) (b .args .run .now) (b .args .taken .now) (b .args .d)) (l .j)), b .pre .0 .1 .1 .1 .1, b .pre .1 .1 .1)
 
 add-j : tie.Need-add-j Inv-loop μ-loop
 unfolding maskSize
-add-j c = omega (arith, c .before .before .before .before .before .before .before .before .before .pre .1 .1 .1 .1)
+add-j c = omega (arith, c .before .before .before .before .before .before .before .before .before .before .before .before .before .before .pre .0 .1 .1 .1 .1)
 
 loop-less : tie.Need-loop-less Inv-loop μ-loop
 loop-less c = omega arith
 
 loop-again : tie.Need-loop-again Inv-loop μ-loop
-loop-again c = let m = c .before .before .mark-byte in
-    let l = c .before .before .before .before .before .loop in
-    let b = c .before .before .before .before .before .before .before .before .before in
-    let a = b .args in
-    let small : l .j < maskSize = omega (arith, b .pre .1 .1 .1 .1) in (
+loop-again c = let l = c .before .before .before .before .before .before .before .loop in
+    let a = c .before .before .before .before .before .before .before .before .before .before .before .before .before .before .args in
+    let A = a .a .now in
+    let R = a .run .now in
+    let T = a .taken .now in
+    let x = c .before .before .before .before .before .active-byte in
+    let y = c .before .before .before .seen-byte in
+    let z = c .before .match-byte in (
       omega arith,
       (
-        m .kept .1 .0 ∙ l .inv .1 .0,
-        m .ensures ∙ ap (λ (r : List ℕ). byteMarked (a .a .now) r (a .taken .now) (a .d) (l .j)) (l .inv .1 .1) ∙ one-more (a .a .now) (a .run .now) (a .taken .now) (a .d) (l .j) small,
+        rw (c .before .before .before .before .narrow .ensures) (one-stored (a .active .now) (l .active) (takenActive A R T (a .d)) (l .j) (x .result) (l .inv .1 .0) (x .ensures .0) (x .ensures .1)),
+        (
+          rw (c .before .before .narrow2 .ensures)
+              (one-stored (a .seen .now) (l .seen) (takenSeen A R T (a .d)) (l .j) (y .result) (l .inv .1 .1 .0) (y .ensures .0)
+              (λ k h. y .ensures .1 k h ∙ ap (λ (b : Bool). seenAt R (a .d) (8 * l .j + k) || b) (x .ensures .1 k h))),
+          rw (c .narrow3 .ensures)
+              (one-stored (a .matched .now) (l .matched) (takenMatched A R T (a .d)) (l .j) (z .result) (l .inv .1 .1 .1) (z .ensures .0)
+              (λ k h. z .ensures .1 k h ∙ ap (λ (b : Bool). matchedAt R (8 * l .j + k) || (b && maskBit A 5 (8 * l .j + k))) (x .ensures .1 k h))),
+        ),
       ),
     )
 
 same-length : tie.Need-same-length Inv-loop μ-loop
-same-length c = c .before .loop .inv .1 .0
+same-length c = ap length (c .before .loop .inv .1 .0) ∙ simp length-sets
+
+same-length-2 : tie.Need-same-length-2 Inv-loop μ-loop
+same-length-2 c = ap length (c .before .loop .inv .1 .1 .0) ∙ simp length-sets
+
+same-length-3 : tie.Need-same-length-3 Inv-loop μ-loop
+same-length-3 c = ap length (c .before .loop .inv .1 .1 .1) ∙ simp length-sets
 
 returns : tie.Need-returns Inv-loop μ-loop
-returns c = let e : c .before .before .before .before .before .args .used ≡ c .before .loop .j = omega arith in
-    rw e (c .before .loop .inv .1 .1)
+returns c = let e : c .before .before .before .before .before .before .before .before .args .used ≡ c .before .loop .j = omega arith in
+    rw e (c .before .loop .inv .1)
 
 pub mark-bits-spec : {M : Type 1} → statement M
 mark-bits-spec =
@@ -58,9 +112,19 @@ mark-bits-spec =
     Inv-loop
     μ-loop
     loop-holds
-    mark-byte-requires
+    active-byte-requires
+    narrow-requires
+    slice-write-active
+    seen-byte-requires
+    narrow-requires-2
+    slice-write-seen
+    match-byte-requires
+    narrow-requires-3
+    slice-write-matched
     add-j
     loop-less
     loop-again
     same-length
+    same-length-2
+    same-length-3
     returns)
