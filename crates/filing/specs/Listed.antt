@@ -10,11 +10,10 @@ use Rattle.notation.specs.Reads.{folderCount, folderAt, pathText}
 use Rattle.notation.specs.Refusals.{shortBuffer, strangeShape, numberOf}
 use Rattle.notation.specs.WriteText.{TextWritten}
 use Rattle.notation.specs.declared.reads.FolderAt.{FolderAt}
-use Rattle.notation.specs.Form.{any}
 use Rattle.theory.specs.Folders.{countFrom}
 use Rattle.theory.specs.Order.{Condition, gives, given}
 use Rattle.stored.specs.RunCalls.{shaped, tooShort}
-use Rattle.stored.specs.Asking.{placeMatched, pathsOfFolder}
+use Rattle.stored.specs.Asking.{placeMatched, anyMatched, pathsOfFolder}
 use Rattle.stored.specs.Answers.{writtenSays}
 use Rattle.stored.specs.declared.answers.Written.{Written}
 use Rattle.stored.specs.declared.counters.Counters.{Counters}
@@ -26,7 +25,7 @@ unfoldable pub pathListed : List ℕ → ℕ → List ℕ
 pathListed a place = (32 ∷ 40 ∷ []) ++ (pathText a (record { 0 = place }) ++ (41 ∷ []))
 
 abbrev pub ifMatched : List ℕ → List ℕ → ℕ → List ℕ
-ifMatched a run place = cond (placeMatched a run place) (pathListed a place) []
+ifMatched a run place = cond (placeMatched a run (record { 0 = place })) (pathListed a place) []
 
 -- those of these places that are matched
 unfoldable pub pathsListed : List ℕ → List ℕ → List ℕ → List ℕ
@@ -43,7 +42,7 @@ lineAt a run FolderAt.Missing = []
 
 -- none where no path is matched
 unfoldable pub folderListed : List ℕ → List ℕ → ℕ → List ℕ
-folderListed a run i = cond (any (placeMatched a run) (pathsOfFolder (folderAt a i))) (lineAt a run (folderAt a i)) []
+folderListed a run i = cond (anyMatched a run (pathsOfFolder (folderAt a i))) (lineAt a run (folderAt a i)) []
 
 unfoldable pub foldersListed : List ℕ → List ℕ → List ℕ → List ℕ
 foldersListed a run [] = []

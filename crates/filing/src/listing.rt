@@ -4,8 +4,8 @@ use crate::page::Pen;
 use crate::page::emit;
 use crate::page::emit_number;
 use machine::layout::AUTOMATON_SIZE;
-use machine::run::asking;
 use machine::run::layout::RUN_SIZE;
+use machine::run::matches;
 use machine::run::shape::counters_shaped;
 use machine::run::shape::run_shaped;
 use machine::shape::automaton_shaped;
@@ -41,7 +41,7 @@ fn emit_if_matched(a: &[u8], run: &[u8], place: usize, page: &mut [u8], pen: Pen
     requires { ⌜ On (now page) pen ⌝ }
     ensures { λ r. ⌜ Adds (now (page .entry)) pen (ifMatched (now (a .entry)) (now (run .entry)) place) (now (page .exit)) r ⌝ }
 {
-    if asking::place_matched(a, run, place) {
+    if matches::place_matched(a, run, PathPlace(place)) {
         return emit_path(a, place, page, pen);
     }
     pen
@@ -106,7 +106,7 @@ fn emit_folder(a: &[u8], run: &[u8], i: usize, page: &mut [u8], pen: Pen) -> Pen
     requires { ⌜ On (now page) pen ⌝ }
     ensures { λ r. ⌜ Adds (now (page .entry)) pen (folderListed (now (a .entry)) (now (run .entry)) i) (now (page .exit)) r ⌝ }
 {
-    if asking::folder_paths_matched(a, run, i) {
+    if matches::folder_paths_matched(a, run, i) {
         return emit_line(a, run, i, page, pen);
     }
     pen

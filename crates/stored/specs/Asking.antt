@@ -39,11 +39,15 @@ abbrev pub lastMatched : List ℕ → PathAt → Bool
 lastMatched run (PathAt.Path first steps at size) = matchedAt run (first + steps - 1)
 lastMatched run PathAt.Missing = false
 
-abbrev pub placeMatched : List ℕ → List ℕ → ℕ → Bool
-placeMatched a run place = lastMatched run (pathAt a (record { 0 = place }))
+abbrev pub placeMatched : List ℕ → List ℕ → PathPlace → Bool
+placeMatched a run place = lastMatched run (pathAt a place)
+
+-- the path of one of these places is matched
+abbrev pub anyMatched : List ℕ → List ℕ → List ℕ → Bool
+anyMatched a run places = any (λ p. placeMatched a run (record { 0 = p })) places
 
 unfoldable pub askPath : List ℕ → List ℕ → PathPlace → Answer Bool
-askPath a run place = said (askRefusal a run (hasPath (pathAt a place))) (placeMatched a run (place .0))
+askPath a run place = said (askRefusal a run (hasPath (pathAt a place))) (placeMatched a run place)
 
 -- a folder is matched when one of its paths is
 abbrev pub hasFolder : FolderIndex → Bool
@@ -60,7 +64,7 @@ indexPaths a FolderIndex.Missing = []
 
 unfoldable pub askFolder : List ℕ → List ℕ → FolderNumber → Answer Bool
 askFolder a run number =
-    said (askRefusal a run (hasFolder (folderOf a number))) (any (placeMatched a run) (indexPaths a (folderOf a number)))
+    said (askRefusal a run (hasFolder (folderOf a number))) (anyMatched a run (indexPaths a (folderOf a number)))
 
 -- step s (from 1) of a path is active on the innermost element
 abbrev pub hasStep : PathAt → ℕ → Bool

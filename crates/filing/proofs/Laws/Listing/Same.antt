@@ -19,7 +19,7 @@ use Rattle.notation.proofs.Laws.Stored.Reads.{folders-read}
 use Rattle.theory.specs.Folders.{countFrom}
 use Rattle.theory.specs.Calls.{State}
 use Rattle.stored.specs.Run.{runOf}
-use Rattle.stored.specs.Asking.{placeMatched}
+use Rattle.stored.specs.Asking.{placeMatched, anyMatched}
 use Rattle.stored.specs.declared.counters.Counters.{Counters}
 use Rattle.theory.proofs.Laws.Basics.{cases}
 use Rattle.theory.proofs.Laws.Machine.Moves.{Few}
@@ -30,7 +30,7 @@ use Rattle.filing.specs.Listed.{pathListed, pathsListed, lineListed, fol
 
 -- a place is stored as it is: its path's text and whether it is matched
 pub record PlaceSame (a run : List ℕ) (matched : ℕ → Bool) (place : ℕ) (p : Path) : Type 0 where
-  pub bit : placeMatched a run place ≡ matched place
+  pub bit : placeMatched a run (record { 0 = place }) ≡ matched place
   pub bytes : pathText a (record { 0 = place }) ≡ printPath p
 
 abbrev PlacesSame : List ℕ → List ℕ → (ℕ → Bool) → ℕ → List Path → Type 0
@@ -57,7 +57,7 @@ module _ (a run : List ℕ) (matched : ℕ → Bool) where
       (cases (matched first) (λ t. rw t (piece first p (printPaths (matchedPaths matched (suc first) ps)) (x .bytes))) (λ f. rw f))
 
   some-same : (first : ℕ) (ps : List Path) → PlacesSame a run matched first ps
-      → any (placeMatched a run) (countFrom first (length ps)) ≡ nonEmpty (matchedPaths matched first ps)
+      → anyMatched a run (countFrom first (length ps)) ≡ nonEmpty (matchedPaths matched first ps)
   unfolding any countFrom matchedPaths
   some-same first [] h = refl
   some-same first (p ∷ ps) h =

@@ -33,7 +33,7 @@ use Rattle.theory.specs.Calls.{State, openNames, activeStep}
 use Rattle.stored.specs.Automaton.{maskSize}
 use Rattle.stored.specs.Run.{runOf}
 use Rattle.stored.specs.RunCalls.{depthOf, storedName, activeAt}
-use Rattle.stored.specs.Asking.{askRefusal, hasPath, placeMatched, askPath, hasFolder, indexPaths, askFolder, askStep, askPrefix, nameRefusal, askName}
+use Rattle.stored.specs.Asking.{askRefusal, hasPath, placeMatched, anyMatched, askPath, hasFolder, indexPaths, askFolder, askStep, askPrefix, nameRefusal, askName}
 use Rattle.theory.proofs.Laws.Basics.{cases}
 use Rattle.theory.proofs.Laws.Keywords.Prefix.{current-prefix}
 use Rattle.theory.proofs.Laws.Machine.Sound.{Sound}
@@ -102,7 +102,7 @@ module _ (s : FolderSet) (a : List ℕ) (m : Means s a) (st : State) (few : Few 
   has-path : (i : ℕ) → hasPath (pathAt a (record { 0 = i })) ≡ ltb i (length ps)
   has-path i = cases (ltb i (length ps)) (λ t. rw (t, path-there i (ltb-true i (length ps) t) .answer)) (λ t. rw (t, path-gone i (ltb-false i (length ps) t)))
 
-  pub place-matched : (i : ℕ) → i < length ps → placeMatched a run i ≡ st .matched i
+  pub place-matched : (i : ℕ) → i < length ps → placeMatched a run (record { 0 = i }) ≡ st .matched i
   place-matched i h =
       let p = getD ps i [] in
       let k = pred (length p) in
@@ -116,7 +116,7 @@ module _ (s : FolderSet) (a : List ℕ) (m : Means s a) (st : State) (few : Few 
   unfolding askPath
   ask-path place =
       rw (has-path (place .0))
-      (answer-is (ltb (place .0) (length ps)) (placeMatched a run (place .0)) (st .matched (place .0)) (λ t. place-matched (place .0) (ltb-true (place .0) (length ps) t)))
+      (answer-is (ltb (place .0) (length ps)) (placeMatched a run place) (st .matched (place .0)) (λ t. place-matched (place .0) (ltb-true (place .0) (length ps) t)))
 
   -- is a folder matched
   pub ask-folder : (number : FolderNumber) → askFolder a run number ≡ asked (hasNumber s (number .0)) (folderMatched s st (number .0))
@@ -125,8 +125,8 @@ module _ (s : FolderSet) (a : List ℕ) (m : Means s a) (st : State) (few : Few 
       let e : folderOf a number ≡ folderIndex (number .0) 0 s = rw (m .stored) (folder-of-read s (m .fit) (m .more) number) in
       rw e (go (placed 0 0 0 (number .0) s (m .rising)))
     where
-      go : Placed 0 0 (number .0) s → said (askRefusal a run (hasFolder (folderIndex (number .0) 0 s))) (any (placeMatched a run) (indexPaths a (folderIndex (number .0) 0 s))) ≡ asked (hasNumber s (number .0)) (any (st .matched) (placesFrom 0 s (number .0)))
-      go (missing f x y) = rw (f, x) (answer-is false (any (placeMatched a run) []) false (λ t. none-any (placeMatched a run)))
+      go : Placed 0 0 (number .0) s → said (askRefusal a run (hasFolder (folderIndex (number .0) 0 s))) (anyMatched a run (indexPaths a (folderIndex (number .0) 0 s))) ≡ asked (hasNumber s (number .0)) (any (st .matched) (placesFrom 0 s (number .0)))
+      go (missing f x y) = rw (f, x) (answer-is false (anyMatched a run []) false (λ t. none-any (λ j. placeMatched a run (record { 0 = j }))))
       go (at i f l x y) =
           let first = pathsBefore s i in
           let n = length (folderPaths (getD s i noFolder)) in
@@ -134,8 +134,8 @@ module _ (s : FolderSet) (a : List ℕ) (m : Means s a) (st : State) (few : Few 
           let w : 0 + first ≡ first = omega arith in
           let r : folderAt a i ≡ FolderAt.Folder (record { 0 = folderNumber (getD s i noFolder) }) (record { 0 = first }) n = rw (m .stored) (folder-read s (m .fit) (m .more) i l) in
           rw (f, x, y, z, w, r)
-          (answer-is true (any (placeMatched a run) (countFrom first n)) (any (st .matched) (countFrom first n)) (λ t.
-          any-same (placeMatched a run) (st .matched) first n (λ j lo hi. place-matched j (omega (arith, paths-between s i l, paths-before-most s (suc i))))))
+          (answer-is true (anyMatched a run (countFrom first n)) (any (st .matched) (countFrom first n)) (λ t.
+          any-same (λ j. placeMatched a run (record { 0 = j })) (st .matched) first n (λ j lo hi. place-matched j (omega (arith, paths-between s i l, paths-before-most s (suc i))))))
 
   -- is step k of a path active
   active-is : (i k : ℕ) → i < length ps → 1 ≤ k → k ≤ length (getD ps i []) → activeAt run (depthOf run) (stepsBefore ps i + k - 1) ≡ activeStep s st i k

@@ -3,8 +3,8 @@ use mathlib.Core.Path.{sym, _∙_, ap}
 use Rattle.notation.specs.Reads.{folderTop}
 use Rattle.notation.specs.Form.{any}
 use borrow.Author.Needs.{needs}
-use Rattle.machine.proofs.run.asking.folder_paths_matched.Statement.{statement}
-use Rattle.machine.proofs.run.asking.folder_paths_matched.Tie as tie
+use Rattle.machine.proofs.run.matches.folder_paths_matched.Statement.{statement}
+use Rattle.machine.proofs.run.matches.folder_paths_matched.Tie as tie
 
 folder-at-requires : tie.Need-folder-at-requires
 folder-at-requires c κs = search needs

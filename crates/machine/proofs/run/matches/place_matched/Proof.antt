@@ -3,8 +3,8 @@ use mathlib.Core.Path.{sym, _∙_, ap}
 use Rattle.stored.specs.Run.{matchesAt}
 use Rattle.notation.specs.Reads.{pathTop}
 use borrow.Author.Needs.{needs}
-use Rattle.machine.proofs.run.asking.place_matched.Statement.{statement}
-use Rattle.machine.proofs.run.asking.place_matched.Tie as tie
+use Rattle.machine.proofs.run.matches.place_matched.Statement.{statement}
+use Rattle.machine.proofs.run.matches.place_matched.Tie as tie
 
 path-at-requires : tie.Need-path-at-requires
 path-at-requires c κs = search needs
