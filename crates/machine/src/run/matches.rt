@@ -1,6 +1,7 @@
 // Inner calls on matches: they read by what is stored, without the refusals of the asking calls.
 use crate::bits::bit_in;
 use crate::run::layout::MATCHES_AT;
+use crate::set;
 use notation::PathPlace;
 use notation::arith::minus;
 use notation::reads;
@@ -9,7 +10,7 @@ use notation::reads::PathAt;
 ghost use mathlib.Core.Path.{_≡_};
 ghost use Prim.Native.Nat.{_≤_};
 ghost use Rattle.theory.specs.Folders.{countFrom};
-ghost use Rattle.notation.specs.Reads.{folderAt};
+ghost use Rattle.stored.specs.HeldSet.{folderHeld};
 ghost use Rattle.stored.specs.Asking.{placeMatched, anyMatched, pathsOfFolder};
 
 // The match bit of a path's last step.
@@ -45,9 +46,9 @@ fn any_matched(a: &[u8], run: &[u8], first: usize, count: usize) -> bool
 
 // One of the paths of folder `i` is matched.
 pub fn folder_paths_matched(a: &[u8], run: &[u8], i: usize) -> bool
-    ensures { λ r. ⌜ r ≡ anyMatched (now (a .entry)) (now (run .entry)) (pathsOfFolder (folderAt (now (a .entry)) i)) ⌝ }
+    ensures { λ r. ⌜ r ≡ anyMatched (now (a .entry)) (now (run .entry)) (pathsOfFolder (folderHeld (now (a .entry)) i)) ⌝ }
 {
-    match reads::folder_at(a, i) {
+    match set::folder_at(a, i) {
         FolderAt::Folder {
             number: _,
             first,

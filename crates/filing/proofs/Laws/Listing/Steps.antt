@@ -5,9 +5,9 @@ use mathlib.Core.Path.{_≡_, refl, sym, _∙_, ap}
 use mathlib.Core.Bool.{Bool, true, false, cond}
 use mathlib.Core.List.{List, [], _∷_, _++_, append-assoc, append-nil}
 use Rattle.theory.specs.Folders.{countFrom}
+use Rattle.stored.specs.HeldSet.{folderHeld}
 use Rattle.stored.specs.Asking.{placeMatched, anyMatched, pathsOfFolder}
 use Rattle.notation.specs.Print.{decimal, folderWord, footer}
-use Rattle.notation.specs.Reads.{folderAt}
 use Rattle.filing.specs.Listing.{movesWord, movesLine}
 use Rattle.filing.specs.Listed.{pathListed, ifMatched, pathsListed, lineListed, lineAt, folderListed, foldersListed}
 
@@ -42,13 +42,13 @@ pub path-no : (a run : List ℕ) (place : ℕ) → placeMatched a run (record { 
 path-no a run place e = sym (ap (λ (b : Bool). cond b (pathListed a place) []) e)
 
 -- a folder that is matched, and one that is not
-pub folder-yes : (a run : List ℕ) (i : ℕ) → anyMatched a run (pathsOfFolder (folderAt a i)) ≡ true → lineAt a run (folderAt a i) ≡ folderListed a run i
+pub folder-yes : (a run : List ℕ) (i : ℕ) → anyMatched a run (pathsOfFolder (folderHeld a i)) ≡ true → lineAt a run (folderHeld a i) ≡ folderListed a run i
 unfolding folderListed
-folder-yes a run i e = sym (ap (λ (b : Bool). cond b (lineAt a run (folderAt a i)) []) e)
+folder-yes a run i e = sym (ap (λ (b : Bool). cond b (lineAt a run (folderHeld a i)) []) e)
 
-pub folder-no : (a run : List ℕ) (i : ℕ) → anyMatched a run (pathsOfFolder (folderAt a i)) ≡ false → [] ≡ folderListed a run i
+pub folder-no : (a run : List ℕ) (i : ℕ) → anyMatched a run (pathsOfFolder (folderHeld a i)) ≡ false → [] ≡ folderListed a run i
 unfolding folderListed
-folder-no a run i e = sym (ap (λ (b : Bool). cond b (lineAt a run (folderAt a i)) []) e)
+folder-no a run i e = sym (ap (λ (b : Bool). cond b (lineAt a run (folderHeld a i)) []) e)
 
 -- a head and what follows it are one line
 pub line-joined : (a run : List ℕ) (number : ℕ) (places : List ℕ) → (folderWord ++ decimal number) ++ (pathsListed a run places ++ footer) ≡ lineListed a run number places
