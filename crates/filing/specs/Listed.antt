@@ -5,15 +5,14 @@ use mathlib.Core.List.{List, [], _∷_, _++_}
 use lib.Dec.{ltb}
 use lib.ListN.{length}
 use Rattle.notation.specs.Print.{decimal, folderWord, footer}
-use Rattle.notation.specs.Reads.{folderCount, folderAt, pathText}
 use Rattle.notation.specs.Refusals.{shortBuffer, strangeShape}
 use Rattle.notation.specs.WriteText.{TextWritten}
 use Rattle.notation.specs.declared.reads.FolderAt.{FolderAt}
-use Rattle.notation.specs.Form.{any}
 use Rattle.theory.specs.Folders.{countFrom}
 use Rattle.theory.specs.Order.{Condition, gives, given}
 use Rattle.stored.specs.RunCalls.{shaped, tooShort}
-use Rattle.stored.specs.Asking.{placeMatched, pathsOfFolder}
+use Rattle.stored.specs.HeldSet.{foldersHeld, folderHeld, pathHeld}
+use Rattle.stored.specs.Asking.{placeMatched, anyMatched, pathsOfFolder}
 use Rattle.stored.specs.Answers.{writtenSays}
 use Rattle.stored.specs.declared.answers.Written.{Written}
 use Rattle.stored.specs.declared.counters.Counters.{Counters}
@@ -22,10 +21,10 @@ use Rattle.filing.specs.Listing.{filedHeader, movesLine, refusedLine}
 
 -- a path in brackets, after a space
 unfoldable pub pathListed : List ℕ → ℕ → List ℕ
-pathListed a place = (32 ∷ 40 ∷ []) ++ (pathText a (record { 0 = place }) ++ (41 ∷ []))
+pathListed a place = (32 ∷ 40 ∷ []) ++ (pathHeld a (record { 0 = place }) ++ (41 ∷ []))
 
 abbrev pub ifMatched : List ℕ → List ℕ → ℕ → List ℕ
-ifMatched a run place = cond (placeMatched a run place) (pathListed a place) []
+ifMatched a run place = cond (placeMatched a run (record { 0 = place })) (pathListed a place) []
 
 -- those of these places that are matched
 unfoldable pub pathsListed : List ℕ → List ℕ → List ℕ → List ℕ
@@ -42,7 +41,7 @@ lineAt a run FolderAt.Missing = []
 
 -- none where no path is matched
 unfoldable pub folderListed : List ℕ → List ℕ → ℕ → List ℕ
-folderListed a run i = cond (any (placeMatched a run) (pathsOfFolder (folderAt a i))) (lineAt a run (folderAt a i)) []
+folderListed a run i = cond (anyMatched a run (pathsOfFolder (folderHeld a i))) (lineAt a run (folderHeld a i)) []
 
 unfoldable pub foldersListed : List ℕ → List ℕ → List ℕ → List ℕ
 foldersListed a run [] = []
@@ -50,7 +49,7 @@ foldersListed a run (i ∷ is) = folderListed a run i ++ foldersListed a run is
 
 unfoldable pub listingIn : List ℕ → List ℕ → Counters → List ℕ
 listingIn a run c =
-    filedHeader ++ (foldersListed a run (countFrom 0 (folderCount a)) ++ (movesLine (c .opens) (c .moves) ++ footer))
+    filedHeader ++ (foldersListed a run (countFrom 0 (foldersHeld a)) ++ (movesLine (c .opens) (c .moves) ++ footer))
 
 -- bytes that a listing needs: those that suffice for every built set; of an automaton of the right shape that was made otherwise, what is stored
 -- makes if it is longer

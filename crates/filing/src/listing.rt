@@ -4,13 +4,13 @@ use crate::page::Pen;
 use crate::page::emit;
 use crate::page::emit_number;
 use machine::layout::AUTOMATON_SIZE;
-use machine::run::asking;
 use machine::run::layout::RUN_SIZE;
+use machine::run::matches;
 use machine::run::shape::counters_shaped;
 use machine::run::shape::run_shaped;
+use machine::set;
 use machine::shape::automaton_shaped;
 use notation::PathPlace;
-use notation::reads;
 use notation::reads::FolderAt;
 use stored::answers::Written;
 use stored::counters::Counters;
@@ -19,9 +19,9 @@ ghost use mathlib.Core.Bool.{false};
 ghost use mathlib.Core.List.{_++_};
 ghost use Prim.Native.Nat.{_≤_};
 ghost use Rattle.notation.specs.Print.{decimal, folderWord};
-ghost use Rattle.notation.specs.Reads.{folderAt, folderCount};
 ghost use Rattle.theory.specs.Folders.{countFrom};
 ghost use Rattle.theory.specs.Order.{given};
+ghost use Rattle.stored.specs.HeldSet.{foldersHeld, folderHeld};
 ghost use Rattle.stored.specs.RunCalls.{lentConditions};
 ghost use Rattle.filing.specs.Code.Page.{On, Adds, Composes};
 ghost use Rattle.filing.specs.Listing.{movesWord, movesLine, refusedLine};
@@ -32,7 +32,7 @@ fn emit_path(a: &[u8], place: usize, page: &mut [u8], pen: Pen) -> Pen
     ensures { λ r. ⌜ Adds (now (page .entry)) pen (pathListed (now (a .entry)) place) (now (page .exit)) r ⌝ }
 {
     let open = emit(page, pen, b" (");
-    let text = emit(page, open, reads::path_text(a, PathPlace(place)));
+    let text = emit(page, open, set::path_text(a, PathPlace(place)));
     emit(page, text, b")")
 }
 
@@ -40,7 +40,7 @@ fn emit_if_matched(a: &[u8], run: &[u8], place: usize, page: &mut [u8], pen: Pen
     requires { ⌜ On (now page) pen ⌝ }
     ensures { λ r. ⌜ Adds (now (page .entry)) pen (ifMatched (now (a .entry)) (now (run .entry)) place) (now (page .exit)) r ⌝ }
 {
-    if asking::place_matched(a, run, place) {
+    if matches::place_matched(a, run, PathPlace(place)) {
         return emit_path(a, place, page, pen);
     }
     pen
@@ -71,9 +71,9 @@ fn emit_head(number: usize, page: &mut [u8], pen: Pen) -> Pen
 
 fn emit_line(a: &[u8], run: &[u8], i: usize, page: &mut [u8], pen: Pen) -> Pen
     requires { ⌜ On (now page) pen ⌝ }
-    ensures { λ r. ⌜ Adds (now (page .entry)) pen (lineAt (now (a .entry)) (now (run .entry)) (folderAt (now (a .entry)) i)) (now (page .exit)) r ⌝ }
+    ensures { λ r. ⌜ Adds (now (page .entry)) pen (lineAt (now (a .entry)) (now (run .entry)) (folderHeld (now (a .entry)) i)) (now (page .exit)) r ⌝ }
 {
-    match reads::folder_at(a, i) {
+    match set::folder_at(a, i) {
         FolderAt::Folder {
             number,
             first,
@@ -105,7 +105,7 @@ fn emit_folder(a: &[u8], run: &[u8], i: usize, page: &mut [u8], pen: Pen) -> Pen
     requires { ⌜ On (now page) pen ⌝ }
     ensures { λ r. ⌜ Adds (now (page .entry)) pen (folderListed (now (a .entry)) (now (run .entry)) i) (now (page .exit)) r ⌝ }
 {
-    if asking::folder_paths_matched(a, run, i) {
+    if matches::folder_paths_matched(a, run, i) {
         return emit_line(a, run, i, page, pen);
     }
     pen
@@ -113,9 +113,9 @@ fn emit_folder(a: &[u8], run: &[u8], i: usize, page: &mut [u8], pen: Pen) -> Pen
 
 fn emit_folders(a: &[u8], run: &[u8], page: &mut [u8], pen: Pen) -> Pen
     requires { ⌜ On (now page) pen ⌝ }
-    ensures { λ r. ⌜ Adds (now (page .entry)) pen (foldersListed (now (a .entry)) (now (run .entry)) (countFrom 0 (folderCount (now (a .entry))))) (now (page .exit)) r ⌝ }
+    ensures { λ r. ⌜ Adds (now (page .entry)) pen (foldersListed (now (a .entry)) (now (run .entry)) (countFrom 0 (foldersHeld (now (a .entry))))) (now (page .exit)) r ⌝ }
 {
-    let top = reads::folders(a);
+    let top = set::folders(a);
     let mut to = pen;
     let mut i = 0;
     while i < top {

@@ -5,6 +5,7 @@ mod hash;
 mod labels;
 pub mod layout;
 pub mod run;
+pub mod set;
 pub mod shape;
 mod walk;
 pub mod write;

@@ -4,7 +4,7 @@ use mathlib.Core.Bool.{Bool, true, false, not, _&&_, cond}
 use mathlib.Core.List.{List, [], _∷_}
 use lib.Dec.{eqb}
 use Rattle.notation.specs.Names.{Name, within}
-use Rattle.notation.specs.Reads.{pathAt, folderAt, folderOf}
+use Rattle.notation.specs.Reads.{pathAt, folderOf}
 use Rattle.notation.specs.Answers.{Answer, said}
 use Rattle.notation.specs.Refusals.{shortBuffer, strangeShape, noSuchPlace}
 use Rattle.notation.specs.declared.PathPlace.{PathPlace}
@@ -17,6 +17,7 @@ use Rattle.theory.specs.Folders.{countFrom}
 use Rattle.theory.specs.Order.{Condition, gives, given}
 use Rattle.stored.specs.Tables.{sizeOf}
 use Rattle.stored.specs.Shape.{automatonShaped}
+use Rattle.stored.specs.HeldSet.{folderHeld}
 use Rattle.stored.specs.RunCalls.{depthOf, storedName, stateAt, activeAt, matchedAt, runShaped, tooShort}
 
 -- 1, 14 (automaton and run), then 13 where what is asked of is not there
@@ -39,11 +40,15 @@ abbrev pub lastMatched : List ℕ → PathAt → Bool
 lastMatched run (PathAt.Path first steps at size) = matchedAt run (first + steps - 1)
 lastMatched run PathAt.Missing = false
 
-abbrev pub placeMatched : List ℕ → List ℕ → ℕ → Bool
-placeMatched a run place = lastMatched run (pathAt a (record { 0 = place }))
+unfoldable pub placeMatched : List ℕ → List ℕ → PathPlace → Bool
+placeMatched a run place = lastMatched run (pathAt a place)
+
+-- the path of one of these places is matched
+abbrev pub anyMatched : List ℕ → List ℕ → List ℕ → Bool
+anyMatched a run places = any (λ p. placeMatched a run (record { 0 = p })) places
 
 unfoldable pub askPath : List ℕ → List ℕ → PathPlace → Answer Bool
-askPath a run place = said (askRefusal a run (hasPath (pathAt a place))) (placeMatched a run (place .0))
+askPath a run place = said (askRefusal a run (hasPath (pathAt a place))) (placeMatched a run place)
 
 -- a folder is matched when one of its paths is
 abbrev pub hasFolder : FolderIndex → Bool
@@ -55,12 +60,12 @@ pathsOfFolder (FolderAt.Folder number first count) = countFrom (first .0) count
 pathsOfFolder FolderAt.Missing = []
 
 abbrev pub indexPaths : List ℕ → FolderIndex → List ℕ
-indexPaths a (FolderIndex.At i) = pathsOfFolder (folderAt a i)
+indexPaths a (FolderIndex.At i) = pathsOfFolder (folderHeld a i)
 indexPaths a FolderIndex.Missing = []
 
 unfoldable pub askFolder : List ℕ → List ℕ → FolderNumber → Answer Bool
 askFolder a run number =
-    said (askRefusal a run (hasFolder (folderOf a number))) (any (placeMatched a run) (indexPaths a (folderOf a number)))
+    said (askRefusal a run (hasFolder (folderOf a number))) (anyMatched a run (indexPaths a (folderOf a number)))
 
 -- step s (from 1) of a path is active on the innermost element
 abbrev pub hasStep : PathAt → ℕ → Bool

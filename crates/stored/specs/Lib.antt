@@ -7,6 +7,7 @@ pub mod Chain
 pub mod Run
 pub mod Answers
 pub mod RunCalls
+pub mod HeldSet
 pub mod Asking
 pub mod Openable
 pub mod RunContracts

@@ -25,7 +25,7 @@ use Rattle.theory.specs.Order.{Condition, gives, given}
 
 -- what is stored of a run
 
-abbrev pub depthOf : List ℕ → ℕ
+unfoldable pub depthOf : List ℕ → ℕ
 depthOf run = word16 run 0
 
 abbrev pub nameLength : List ℕ → ℕ → ℕ

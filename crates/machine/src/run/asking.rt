@@ -1,7 +1,7 @@
 // The calls that ask a run, and change nothing.
 use crate::bits::bit_in;
 use crate::run::layout::ACTIVE_IN;
-use crate::run::layout::MATCHES_AT;
+use crate::run::matches;
 use crate::run::refusals;
 use crate::run::rows;
 use crate::run::shape;
@@ -10,7 +10,6 @@ use notation::FolderNumber;
 use notation::PathPlace;
 use notation::arith::minus;
 use notation::reads;
-use notation::reads::FolderAt;
 use notation::reads::FolderIndex;
 use notation::reads::PathAt;
 use notation::truth::between;
@@ -20,13 +19,11 @@ ghost use mathlib.Core.Path.{_≡_};
 ghost use Prim.Native.Nat.{_+_, _-_, _≤_};
 ghost use Rattle.notation.specs.Names.{within};
 ghost use Rattle.notation.specs.Answers.{said};
-ghost use Rattle.theory.specs.Folders.{countFrom};
-ghost use Rattle.notation.specs.Reads.{pathAt, folderAt};
-ghost use Rattle.notation.specs.Form.{any};
+ghost use Rattle.notation.specs.Reads.{pathAt};
 ghost use Rattle.stored.specs.Answers.{askedSays, lengthSays};
 ghost use Rattle.stored.specs.Openable.{Ready};
 ghost use Rattle.stored.specs.RunCalls.{depthOf, activeAt};
-ghost use Rattle.stored.specs.Asking.{hasPath, placeMatched, pathsOfFolder, askRefusal, askPath, askFolder, askStep, askPrefix, askName, nameRefusal};
+ghost use Rattle.stored.specs.Asking.{hasPath, askRefusal, askPath, askFolder, askStep, askPrefix, askName, nameRefusal};
 
 fn answer(refused: u8, yes: bool) -> Asked
     ensures { λ r. ⌜ askedSays r ≡ said refused yes ⌝ }
@@ -38,21 +35,6 @@ fn answer(refused: u8, yes: bool) -> Asked
         return Asked::Yes;
     }
     Asked::No
-}
-
-// The match bit of a path's last step.
-pub fn place_matched(a: &[u8], run: &[u8], place: usize) -> bool
-    ensures { λ r. ⌜ r ≡ placeMatched (now (a .entry)) (now (run .entry)) place ⌝ }
-{
-    match reads::path_at(a, PathPlace(place)) {
-        PathAt::Path {
-            first,
-            steps,
-            at: _,
-            size: _,
-        } => bit_in(run, MATCHES_AT, minus(first + steps, 1)),
-        PathAt::Missing => false,
-    }
 }
 
 fn has_path(a: &[u8], place: PathPlace) -> bool
@@ -74,36 +56,7 @@ pub fn path_matched(a: &[u8], run: &[u8], place: PathPlace) -> Asked
     ensures { λ r. ⌜ askedSays r ≡ askPath (now (a .entry)) (now (run .entry)) place ⌝ }
 {
     let refused = refusals::ask_refusal(a, run, has_path(a, place));
-    answer(refused, place_matched(a, run, place.0))
-}
-
-// One of `count` paths from place `first` on is matched.
-fn any_matched(a: &[u8], run: &[u8], first: usize, count: usize) -> bool
-    requires { ⌜ (first ≤ 65536) × (count ≤ 65536) ⌝ }
-    ensures { λ r. ⌜ r ≡ any (placeMatched (now (a .entry)) (now (run .entry))) (countFrom first count) ⌝ }
-{
-    let mut i = 0;
-    while i < count {
-        if place_matched(a, run, first + i) {
-            return true;
-        }
-        i += 1;
-    }
-    false
-}
-
-// One of the paths of folder `i` is matched.
-pub fn folder_paths_matched(a: &[u8], run: &[u8], i: usize) -> bool
-    ensures { λ r. ⌜ r ≡ any (placeMatched (now (a .entry)) (now (run .entry))) (pathsOfFolder (folderAt (now (a .entry)) i)) ⌝ }
-{
-    match reads::folder_at(a, i) {
-        FolderAt::Folder {
-            number: _,
-            first,
-            paths,
-        } => any_matched(a, run, first.0, paths),
-        FolderAt::Missing => false,
-    }
+    answer(refused, matches::place_matched(a, run, place))
 }
 
 // Is a folder, by its number, matched?
@@ -113,7 +66,7 @@ pub fn folder_matched(a: &[u8], run: &[u8], number: FolderNumber) -> Asked
     match reads::folder_of(a, number) {
         FolderIndex::At(i) => answer(
             refusals::ask_refusal(a, run, true),
-            folder_paths_matched(a, run, i),
+            matches::folder_paths_matched(a, run, i),
         ),
         FolderIndex::Missing => answer(refusals::ask_refusal(a, run, false), false),
     }

@@ -13,6 +13,7 @@ pub mod Marked
 pub mod Answered
 pub mod Asking
 pub mod Means
+pub mod HeldSet
 pub mod MadeCalls
 pub mod Following
 pub mod Demand3

@@ -10,28 +10,26 @@ use lib.Seq.{getD-append-add}
 use Rattle.notation.specs.Sets.{Path, Folder, folder, FolderSet, folderNumber, folderPaths}
 use Rattle.notation.specs.Form.{nonEmpty, pathsOf, any}
 use Rattle.notation.specs.Print.{printPath, printPaths, printFolder}
-use Rattle.notation.specs.Reads.{folderCount, folderAt, pathText}
 use Rattle.notation.specs.declared.reads.FolderAt.{FolderAt}
 use Rattle.notation.proofs.Laws.Stored.FolderTable.{noFolder, pathsBefore, paths-between, paths-before-most}
-use Rattle.notation.proofs.Laws.Stored.ReadPaths.{path-read}
-use Rattle.notation.proofs.Laws.Stored.ReadFolders.{folder-read}
-use Rattle.notation.proofs.Laws.Stored.Reads.{folders-read}
 use Rattle.theory.specs.Folders.{countFrom}
 use Rattle.theory.specs.Calls.{State}
 use Rattle.stored.specs.Run.{runOf}
-use Rattle.stored.specs.Asking.{placeMatched}
+use Rattle.stored.specs.HeldSet.{foldersHeld, folderHeld, pathHeld}
+use Rattle.stored.specs.Asking.{placeMatched, anyMatched}
 use Rattle.stored.specs.declared.counters.Counters.{Counters}
 use Rattle.theory.proofs.Laws.Basics.{cases}
 use Rattle.theory.proofs.Laws.Machine.Moves.{Few}
 use Rattle.stored.proofs.Laws.Running.Means.{Means}
+use Rattle.stored.proofs.Laws.Running.HeldSet.{folders-held, folder-held, path-held}
 use Rattle.stored.proofs.Laws.Running.Asking.{place-matched}
 use Rattle.filing.specs.Listing.{matchedPaths, lineOf, linesFrom, listing}
 use Rattle.filing.specs.Listed.{pathListed, pathsListed, lineListed, folderListed, foldersListed, listingIn}
 
 -- a place is stored as it is: its path's text and whether it is matched
 pub record PlaceSame (a run : List ℕ) (matched : ℕ → Bool) (place : ℕ) (p : Path) : Type 0 where
-  pub bit : placeMatched a run place ≡ matched place
-  pub bytes : pathText a (record { 0 = place }) ≡ printPath p
+  pub bit : placeMatched a run (record { 0 = place }) ≡ matched place
+  pub bytes : pathHeld a (record { 0 = place }) ≡ printPath p
 
 abbrev PlacesSame : List ℕ → List ℕ → (ℕ → Bool) → ℕ → List Path → Type 0
 PlacesSame a run matched first ps = (j : ℕ) → j < length ps → PlaceSame a run matched (first + j) (getD ps j [])
@@ -43,7 +41,7 @@ module _ (a run : List ℕ) (matched : ℕ → Bool) where
   later : (first : ℕ) (p : Path) (ps : List Path) → PlacesSame a run matched first (p ∷ ps) → PlacesSame a run matched (suc first) ps
   later first p ps h j k = rw (suc-add, ← add-suc) (h (suc j) (suc-le-suc k))
 
-  piece : (place : ℕ) (p : Path) (more : List ℕ) → pathText a (record { 0 = place }) ≡ printPath p → pathListed a place ++ more ≡ 32 ∷ 40 ∷ (printPath p ++ 41 ∷ more)
+  piece : (place : ℕ) (p : Path) (more : List ℕ) → pathHeld a (record { 0 = place }) ≡ printPath p → pathListed a place ++ more ≡ 32 ∷ 40 ∷ (printPath p ++ 41 ∷ more)
   unfolding pathListed
   piece place p more e = rw (e, append-assoc (printPath p) (41 ∷ []) more)
 
@@ -57,7 +55,7 @@ module _ (a run : List ℕ) (matched : ℕ → Bool) where
       (cases (matched first) (λ t. rw t (piece first p (printPaths (matchedPaths matched (suc first) ps)) (x .bytes))) (λ f. rw f))
 
   some-same : (first : ℕ) (ps : List Path) → PlacesSame a run matched first ps
-      → any (placeMatched a run) (countFrom first (length ps)) ≡ nonEmpty (matchedPaths matched first ps)
+      → anyMatched a run (countFrom first (length ps)) ≡ nonEmpty (matchedPaths matched first ps)
   unfolding any countFrom matchedPaths
   some-same first [] h = refl
   some-same first (p ∷ ps) h =
@@ -68,7 +66,7 @@ module _ (a run : List ℕ) (matched : ℕ → Bool) where
   line-is n [] = refl
   line-is n (q ∷ qs) = refl
 
-  folder-same : (i n first : ℕ) (ps : List Path) → folderAt a i ≡ FolderAt.Folder (record { 0 = n }) (record { 0 = first }) (length ps) → PlacesSame a run matched first ps
+  folder-same : (i n first : ℕ) (ps : List Path) → folderHeld a i ≡ FolderAt.Folder (record { 0 = n }) (record { 0 = first }) (length ps) → PlacesSame a run matched first ps
       → folderListed a run i ≡ lineOf n (matchedPaths matched first ps)
   unfolding folderListed lineListed printFolder
   folder-same i n first ps e h = rw (e, some-same first ps h, paths-same first ps h) (line-is n (matchedPaths matched first ps))
@@ -104,18 +102,12 @@ module _ (s : FolderSet) (a : List ℕ) (m : Means s a) (st : State) (few : Few 
       let l : pathsBefore s i + j < length (pathsOf s) = omega (arith, paths-between s i h, paths-before-most s (suc i)) in
       record {
         bit = place-matched s a m st few rest (pathsBefore s i + j) l;
-        bytes = rw (← path-of s i j h k, m .stored) (path-read s (m .fit) (m .more) (pathsBefore s i + j) l .bytes);
+        bytes = rw (← path-of s i j h k) (path-held s a m (record { 0 = pathsBefore s i + j }) l);
       }
 
-  folder-there : (i : ℕ) → i < length s → folderAt a i ≡ FolderAt.Folder (record { 0 = folderNumber (getD s i noFolder) }) (record { 0 = pathsBefore s i }) (length (folderPaths (getD s i noFolder)))
-  folder-there i h = rw (m .stored) (folder-read s (m .fit) (m .more) i h)
-
-  count-is : folderCount a ≡ length s
-  count-is = rw (m .stored) (folders-read s (m .fit) (m .more))
-
-  lines-same : foldersListed a run (countFrom 0 (folderCount a)) ≡ linesFrom (st .matched) 0 s
-  lines-same = rw count-is (folders-same a run (st .matched) 0 0 s (λ j h. rw (zero-add j, zero-add (pathsBefore s j))
-      (folder-same a run (st .matched) j (folderNumber (getD s j noFolder)) (pathsBefore s j) (folderPaths (getD s j noFolder)) (folder-there j h) (λ k l. place-same j k h l))))
+  lines-same : foldersListed a run (countFrom 0 (foldersHeld a)) ≡ linesFrom (st .matched) 0 s
+  lines-same = rw (folders-held s a m) (folders-same a run (st .matched) 0 0 s (λ j h. rw (zero-add j, zero-add (pathsBefore s j))
+      (folder-same a run (st .matched) j (folderNumber (getD s j noFolder)) (pathsBefore s j) (folderPaths (getD s j noFolder)) (folder-held s a m j h) (λ k l. place-same j k h l))))
 
   pub listing-same : (c : Counters) → c .opens ≡ st .opens → c .moves ≡ st .moves → listingIn a run c ≡ listing s st
   unfolding listingIn listing

@@ -5,10 +5,9 @@ use mathlib.Core.Path.{_≡_, refl, sym, _∙_, ap}
 use mathlib.Core.Bool.{Bool, true, false, cond}
 use mathlib.Core.List.{List, [], _∷_, _++_, append-assoc, append-nil}
 use Rattle.theory.specs.Folders.{countFrom}
-use Rattle.stored.specs.Asking.{placeMatched, pathsOfFolder}
+use Rattle.stored.specs.HeldSet.{folderHeld}
+use Rattle.stored.specs.Asking.{placeMatched, anyMatched, pathsOfFolder}
 use Rattle.notation.specs.Print.{decimal, folderWord, footer}
-use Rattle.notation.specs.Reads.{folderAt}
-use Rattle.notation.specs.Form.{any}
 use Rattle.filing.specs.Listing.{movesWord, movesLine}
 use Rattle.filing.specs.Listed.{pathListed, ifMatched, pathsListed, lineListed, lineAt, folderListed, foldersListed}
 
@@ -36,20 +35,20 @@ unfolding foldersListed
 folders-more a run n = sym (ap (foldersListed a run) (count-end 0 n) ∙ rw zero-add (folders-joined a run (countFrom 0 n) (n ∷ []) ∙ ap (λ (l : List ℕ). foldersListed a run (countFrom 0 n) ++ l) (append-nil (folderListed a run n))))
 
 -- the place of a path that is matched, and of one that is not
-pub path-yes : (a run : List ℕ) (place : ℕ) → placeMatched a run place ≡ true → pathListed a place ≡ ifMatched a run place
+pub path-yes : (a run : List ℕ) (place : ℕ) → placeMatched a run (record { 0 = place }) ≡ true → pathListed a place ≡ ifMatched a run place
 path-yes a run place e = sym (ap (λ (b : Bool). cond b (pathListed a place) []) e)
 
-pub path-no : (a run : List ℕ) (place : ℕ) → placeMatched a run place ≡ false → [] ≡ ifMatched a run place
+pub path-no : (a run : List ℕ) (place : ℕ) → placeMatched a run (record { 0 = place }) ≡ false → [] ≡ ifMatched a run place
 path-no a run place e = sym (ap (λ (b : Bool). cond b (pathListed a place) []) e)
 
 -- a folder that is matched, and one that is not
-pub folder-yes : (a run : List ℕ) (i : ℕ) → any (placeMatched a run) (pathsOfFolder (folderAt a i)) ≡ true → lineAt a run (folderAt a i) ≡ folderListed a run i
+pub folder-yes : (a run : List ℕ) (i : ℕ) → anyMatched a run (pathsOfFolder (folderHeld a i)) ≡ true → lineAt a run (folderHeld a i) ≡ folderListed a run i
 unfolding folderListed
-folder-yes a run i e = sym (ap (λ (b : Bool). cond b (lineAt a run (folderAt a i)) []) e)
+folder-yes a run i e = sym (ap (λ (b : Bool). cond b (lineAt a run (folderHeld a i)) []) e)
 
-pub folder-no : (a run : List ℕ) (i : ℕ) → any (placeMatched a run) (pathsOfFolder (folderAt a i)) ≡ false → [] ≡ folderListed a run i
+pub folder-no : (a run : List ℕ) (i : ℕ) → anyMatched a run (pathsOfFolder (folderHeld a i)) ≡ false → [] ≡ folderListed a run i
 unfolding folderListed
-folder-no a run i e = sym (ap (λ (b : Bool). cond b (lineAt a run (folderAt a i)) []) e)
+folder-no a run i e = sym (ap (λ (b : Bool). cond b (lineAt a run (folderHeld a i)) []) e)
 
 -- a head and what follows it are one line
 pub line-joined : (a run : List ℕ) (number : ℕ) (places : List ℕ) → (folderWord ++ decimal number) ++ (pathsListed a run places ++ footer) ≡ lineListed a run number places

@@ -4,8 +4,8 @@ use Prim.Native.Nat.{ℕ, _≤_, _-_}
 use native.Mathlib.Numerals.{add-one}
 use mathlib.Core.Path.{_≡_, sym, _∙_, ap}
 use borrow.Author.Needs.{needs}
-use Rattle.notation.specs.Reads.{folderCount}
 use Rattle.theory.specs.Folders.{countFrom}
+use Rattle.stored.specs.HeldSet.{foldersHeld}
 use Rattle.filing.specs.Code.Page.{Adds}
 use Rattle.filing.specs.Listed.{foldersListed}
 use Rattle.filing.proofs.Laws.Listing.Pages.{nothing, and-then, told-as}
@@ -45,7 +45,7 @@ same-length c = c .before .loop .inv .1 .size
 
 returns : tie.Need-returns Inv-loop μ-loop
 returns c = let a = c .before .before .before .before .before .before .args in
-    let e : c .before .loop .i ≡ folderCount (a .a .now) = omega (arith, c .before .before .folders .ensures .0) in
+    let e : c .before .loop .i ≡ foldersHeld (a .a .now) = omega (arith, c .before .before .folders .ensures .0) in
     told-as (c .before .loop .inv .1) (ap (λ (j : ℕ). foldersListed (a .a .now) (a .run .now) (countFrom 0 j)) e)
 
 pub emit-folders-spec : {M : Type 1} → statement M

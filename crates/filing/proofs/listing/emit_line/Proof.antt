@@ -1,7 +1,7 @@
 -- `listing::emit_line`: the line of the folder that is stored, if there is one.
 use native.Mathlib.Omega.{arith}
 use mathlib.Core.Path.{sym, _∙_, ap}
-use Rattle.notation.specs.Reads.{folderTop}
+use Rattle.stored.specs.HeldSet.{topHeld}
 use Rattle.filing.specs.Listed.{lineAt}
 use Rattle.filing.proofs.Laws.Listing.Pages.{nothing, told-as}
 use borrow.Author.Needs.{needs}
@@ -15,7 +15,7 @@ enum-known-number : tie.Need-enum-known-number
 enum-known-number c = search needs
 
 emit-folder-line-requires : tie.Need-emit-folder-line-requires
-emit-folder-line-requires c κs = (omega (arith, ap folderTop (c .before .before .number .given .1), c .before .before .before .before .folder-at .ensures .1), omega (arith, ap folderTop (c .before .before .number .given .1), c .before .before .before .before .folder-at .ensures .1), c .before .before .before .before .before .before .before .before .pre)
+emit-folder-line-requires c κs = (omega (arith, ap topHeld (c .before .before .number .given .1), c .before .before .before .before .folder-at .ensures .1), omega (arith, ap topHeld (c .before .before .number .given .1), c .before .before .before .before .folder-at .ensures .1), c .before .before .before .before .before .before .before .before .pre)
 
 enum-told : tie.Need-enum-told
 enum-told c = search needs

@@ -11,21 +11,20 @@ use lib.ListN.{length, getD}
 use lib.Seq.{take-length}
 use Rattle.notation.specs.Limits.{maxPaths, maxSteps}
 use Rattle.notation.specs.Names.{Name, within}
-use Rattle.notation.specs.Sets.{Path, FolderSet, folderNumber, folderPaths}
+use Rattle.notation.specs.Sets.{Path, FolderSet, folderPaths}
 use Rattle.notation.specs.Form.{pathsOf, any}
 use Rattle.notation.specs.Print.{print}
 use Rattle.notation.specs.Refusals.{numberOf, noSuchPlace}
 use Rattle.notation.specs.Answers.{Answer, refused, value, said}
 use Rattle.notation.specs.Activity.{active}
-use Rattle.notation.specs.Reads.{pathAt, folderAt, folderOf, folderIndex}
+use Rattle.notation.specs.Reads.{pathAt, folderOf, folderIndex}
 use Rattle.notation.specs.declared.PathPlace.{PathPlace}
 use Rattle.notation.specs.declared.FolderNumber.{FolderNumber}
 use Rattle.notation.specs.declared.reads.PathAt.{PathAt}
-use Rattle.notation.specs.declared.reads.FolderAt.{FolderAt}
 use Rattle.notation.proofs.Laws.Stored.PathTable.{stepsBefore, steps-through}
 use Rattle.notation.proofs.Laws.Stored.FolderTable.{noFolder, pathsBefore, paths-between, paths-before-most}
 use Rattle.notation.proofs.Laws.Stored.ReadPaths.{PathRead, path-read, path-missing}
-use Rattle.notation.proofs.Laws.Stored.ReadFolders.{folder-read, folder-of-read}
+use Rattle.notation.proofs.Laws.Stored.ReadFolders.{folder-of-read}
 use Rattle.theory.specs.Prefix.{prefixOf}
 use Rattle.theory.specs.Folders.{countFrom, placesFrom, folderMatched}
 use Rattle.theory.specs.Order.{first, given}
@@ -33,7 +32,7 @@ use Rattle.theory.specs.Calls.{State, openNames, activeStep}
 use Rattle.stored.specs.Automaton.{maskSize}
 use Rattle.stored.specs.Run.{runOf}
 use Rattle.stored.specs.RunCalls.{depthOf, storedName, activeAt}
-use Rattle.stored.specs.Asking.{askRefusal, hasPath, placeMatched, askPath, hasFolder, indexPaths, askFolder, askStep, askPrefix, nameRefusal, askName}
+use Rattle.stored.specs.Asking.{askRefusal, hasPath, placeMatched, anyMatched, askPath, hasFolder, indexPaths, askFolder, askStep, askPrefix, nameRefusal, askName}
 use Rattle.theory.proofs.Laws.Basics.{cases}
 use Rattle.theory.proofs.Laws.Keywords.Prefix.{current-prefix}
 use Rattle.theory.proofs.Laws.Machine.Sound.{Sound}
@@ -41,6 +40,7 @@ use Rattle.theory.proofs.Laws.Machine.Moves.{Few}
 use Rattle.stored.proofs.Laws.Running.PathSteps.{bit-at, match-at}
 use Rattle.stored.proofs.Laws.Running.RunBytes.{matched-read, active-at, state-at, name-at}
 use Rattle.stored.proofs.Laws.Running.Means.{Means}
+use Rattle.stored.proofs.Laws.Running.HeldSet.{folder-held}
 use Rattle.stored.proofs.Laws.Shapes.Passing.{names-length, names-deep, names-short, stored-depth, run-shaped, long-enough}
 use Rattle.stored.proofs.Laws.Running.FolderPlaces.{hasNumber, Placed, missing, at, placed}
 
@@ -102,7 +102,8 @@ module _ (s : FolderSet) (a : List ℕ) (m : Means s a) (st : State) (few : Few 
   has-path : (i : ℕ) → hasPath (pathAt a (record { 0 = i })) ≡ ltb i (length ps)
   has-path i = cases (ltb i (length ps)) (λ t. rw (t, path-there i (ltb-true i (length ps) t) .answer)) (λ t. rw (t, path-gone i (ltb-false i (length ps) t)))
 
-  pub place-matched : (i : ℕ) → i < length ps → placeMatched a run i ≡ st .matched i
+  pub place-matched : (i : ℕ) → i < length ps → placeMatched a run (record { 0 = i }) ≡ st .matched i
+  unfolding placeMatched
   place-matched i h =
       let p = getD ps i [] in
       let k = pred (length p) in
@@ -116,7 +117,7 @@ module _ (s : FolderSet) (a : List ℕ) (m : Means s a) (st : State) (few : Few 
   unfolding askPath
   ask-path place =
       rw (has-path (place .0))
-      (answer-is (ltb (place .0) (length ps)) (placeMatched a run (place .0)) (st .matched (place .0)) (λ t. place-matched (place .0) (ltb-true (place .0) (length ps) t)))
+      (answer-is (ltb (place .0) (length ps)) (placeMatched a run place) (st .matched (place .0)) (λ t. place-matched (place .0) (ltb-true (place .0) (length ps) t)))
 
   -- is a folder matched
   pub ask-folder : (number : FolderNumber) → askFolder a run number ≡ asked (hasNumber s (number .0)) (folderMatched s st (number .0))
@@ -125,17 +126,16 @@ module _ (s : FolderSet) (a : List ℕ) (m : Means s a) (st : State) (few : Few 
       let e : folderOf a number ≡ folderIndex (number .0) 0 s = rw (m .stored) (folder-of-read s (m .fit) (m .more) number) in
       rw e (go (placed 0 0 0 (number .0) s (m .rising)))
     where
-      go : Placed 0 0 (number .0) s → said (askRefusal a run (hasFolder (folderIndex (number .0) 0 s))) (any (placeMatched a run) (indexPaths a (folderIndex (number .0) 0 s))) ≡ asked (hasNumber s (number .0)) (any (st .matched) (placesFrom 0 s (number .0)))
-      go (missing f x y) = rw (f, x) (answer-is false (any (placeMatched a run) []) false (λ t. none-any (placeMatched a run)))
+      go : Placed 0 0 (number .0) s → said (askRefusal a run (hasFolder (folderIndex (number .0) 0 s))) (anyMatched a run (indexPaths a (folderIndex (number .0) 0 s))) ≡ asked (hasNumber s (number .0)) (any (st .matched) (placesFrom 0 s (number .0)))
+      go (missing f x y) = rw (f, x) (answer-is false (anyMatched a run []) false (λ t. none-any (λ j. placeMatched a run (record { 0 = j }))))
       go (at i f l x y) =
           let first = pathsBefore s i in
           let n = length (folderPaths (getD s i noFolder)) in
           let z : 0 + i ≡ i = omega arith in
           let w : 0 + first ≡ first = omega arith in
-          let r : folderAt a i ≡ FolderAt.Folder (record { 0 = folderNumber (getD s i noFolder) }) (record { 0 = first }) n = rw (m .stored) (folder-read s (m .fit) (m .more) i l) in
-          rw (f, x, y, z, w, r)
-          (answer-is true (any (placeMatched a run) (countFrom first n)) (any (st .matched) (countFrom first n)) (λ t.
-          any-same (placeMatched a run) (st .matched) first n (λ j lo hi. place-matched j (omega (arith, paths-between s i l, paths-before-most s (suc i))))))
+          rw (f, x, y, z, w, folder-held s a m i l)
+          (answer-is true (anyMatched a run (countFrom first n)) (any (st .matched) (countFrom first n)) (λ t.
+          any-same (λ j. placeMatched a run (record { 0 = j })) (st .matched) first n (λ j lo hi. place-matched j (omega (arith, paths-between s i l, paths-before-most s (suc i))))))
 
   -- is step k of a path active
   active-is : (i k : ℕ) → i < length ps → 1 ≤ k → k ≤ length (getD ps i []) → activeAt run (depthOf run) (stepsBefore ps i + k - 1) ≡ activeStep s st i k

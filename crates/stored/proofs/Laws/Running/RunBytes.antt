@@ -195,7 +195,7 @@ module _ (s : FolderSet) (names : List Name) (matched : ℕ → Bool) (deep : le
 
     -- what is read of it
     pub depth-read : depthOf (runWith s names matched ++ rest) ≡ length names
-    unfolding maxDepth
+    unfolding depthOf maxDepth
     depth-read = word-read (length names) 0 (omega arith) (left (le16 (length names)) _ from-depth)
 
     pub matched-read : (i : ℕ) → i < 8 * maskSize → matchedAt (runWith s names matched ++ rest) i ≡ matchBit matched 0 (pathsOf s) i

@@ -129,7 +129,7 @@ start-state a run h =
     ∙ word-stored (replicate runSize 0) (rowAt 0 + stateIn) (startOf a) (omega (arith, within-run, length-replicate {A = ℕ} runSize 0)) (omega arith)
 
 start-depth : (a run : List ℕ) → depthOf (startRun a run) ≡ 0
-unfolding word16
+unfolding depthOf word16
 start-depth a run =
     omega (
       arith,
@@ -219,7 +219,7 @@ module _ (a run : List ℕ) (e : Name) (r : Ready a run) (room : depthOf run < m
       ∙ byte-behind (usedBits a (nowMatched a run e)) held matchesAt j (omega (arith, matches-length))
 
   open-depth : depthOf (openRun a run e) ≡ suc (depthOf run)
-  unfolding openRun maxDepth
+  unfolding depthOf openRun maxDepth
   open-depth =
       word-stored (sets held matchesAt (usedBits a (nowMatched a run e))) 0 (suc (depthOf run))
       (omega (arith, length-sets held matchesAt (usedBits a (nowMatched a run e)), put-length run row at rowSize fits row-length, fits, row-begins (suc (depthOf run)), matches-end, depth-end))
@@ -315,7 +315,7 @@ module _ (a run : List ℕ) (r : Ready a run) where
       ∙ put-behind run none from rowSize inside none-length runSize (row-fits (depthOf run) (run-shape a run (r .runIsShaped) .deepest))
 
   close-depth : depthOf (closeRun run) ≡ pred (depthOf run)
-  unfolding closeRun maxDepth
+  unfolding depthOf closeRun maxDepth
   close-depth =
       word-stored kept 0 (pred (depthOf run))
       (omega (arith, put-length run none from rowSize inside none-length, inside, row-begins (depthOf run), matches-end, depth-end))

@@ -1,7 +1,6 @@
-use mathlib.Core.Path.{_∙_, ap}
-use Prim.Native.Nat.{ℕ}
+use mathlib.Core.Path.{_∙_, ap, ap₂}
 use Rattle.notation.specs.Answers.{said}
-use Rattle.stored.specs.Asking.{askRefusal, askPath, placeMatched}
+use Rattle.stored.specs.Asking.{askRefusal, askPath}
 use borrow.Author.Needs.{needs}
 use Rattle.machine.proofs.run.asking.path_matched.Statement.{statement}
 use Rattle.machine.proofs.run.asking.path_matched.Tie as tie
@@ -20,8 +19,7 @@ answer-requires c κs = search needs
 
 returns : tie.Need-returns
 unfolding askPath
-returns c = let b = c .before .before .before .before .before .before .args in
-    c .answer .ensures ∙ ap (said (c .before .before .ask-refusal .result)) (c .before .place-matched .ensures) ∙ ap (λ (r : ℕ). said r (placeMatched (b .a .now) (b .run .now) (b .place .0))) (c .before .before .ask-refusal .ensures ∙ ap (askRefusal (b .a .now) (b .run .now)) (c .before .before .before .has-path .ensures))
+returns c = c .answer .ensures ∙ ap₂ said (c .before .before .ask-refusal .ensures ∙ ap (askRefusal _ _) (c .before .before .before .has-path .ensures)) (c .before .place-matched .ensures)
 
 pub path-matched-spec : {M : Type 1} → statement M
 path-matched-spec =

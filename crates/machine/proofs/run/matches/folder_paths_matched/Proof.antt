@@ -1,10 +1,10 @@
 use native.Mathlib.Omega.{arith}
 use mathlib.Core.Path.{sym, _∙_, ap}
-use Rattle.notation.specs.Reads.{folderTop}
+use Rattle.stored.specs.HeldSet.{topHeld}
 use Rattle.notation.specs.Form.{any}
 use borrow.Author.Needs.{needs}
-use Rattle.machine.proofs.run.asking.folder_paths_matched.Statement.{statement}
-use Rattle.machine.proofs.run.asking.folder_paths_matched.Tie as tie
+use Rattle.machine.proofs.run.matches.folder_paths_matched.Statement.{statement}
+use Rattle.machine.proofs.run.matches.folder_paths_matched.Tie as tie
 
 folder-at-requires : tie.Need-folder-at-requires
 folder-at-requires c κs = search needs
@@ -13,7 +13,7 @@ enum-known-first : tie.Need-enum-known-first
 enum-known-first c = search needs
 
 any-matched-requires : tie.Need-any-matched-requires
-any-matched-requires c κs = (omega (arith, ap folderTop (c .before .first .given .1), c .before .before .before .folder-at .ensures .1), omega (arith, ap folderTop (c .before .first .given .1), c .before .before .before .folder-at .ensures .1))
+any-matched-requires c κs = (omega (arith, ap topHeld (c .before .first .given .1), c .before .before .before .folder-at .ensures .1), omega (arith, ap topHeld (c .before .first .given .1), c .before .before .before .folder-at .ensures .1))
 
 enum-told : tie.Need-enum-told
 enum-told c = search needs

@@ -1,10 +1,11 @@
 use native.Mathlib.Omega.{arith}
 use mathlib.Core.Path.{sym, _∙_, ap}
 use Rattle.stored.specs.Run.{matchesAt}
+use Rattle.stored.specs.Asking.{placeMatched}
 use Rattle.notation.specs.Reads.{pathTop}
 use borrow.Author.Needs.{needs}
-use Rattle.machine.proofs.run.asking.place_matched.Statement.{statement}
-use Rattle.machine.proofs.run.asking.place_matched.Tie as tie
+use Rattle.machine.proofs.run.matches.place_matched.Statement.{statement}
+use Rattle.machine.proofs.run.matches.place_matched.Tie as tie
 
 path-at-requires : tie.Need-path-at-requires
 path-at-requires c κs = search needs
@@ -25,10 +26,11 @@ enum-told : tie.Need-enum-told
 enum-told c = search needs
 
 returns : tie.Need-returns
-unfolding matchesAt
+unfolding placeMatched matchesAt
 returns c = rw (sym (c .before .before .before .before .before .path-at .ensures .0) ∙ c .before .before .before .first .given .1, ← c .before .minus .ensures) (c .bit-in .ensures)
 
 returns-2 : tie.Need-returns-2
+unfolding placeMatched
 returns-2 c = rw (sym (c .before .before .path-at .ensures .0) ∙ c .enum-told .given .1)
 
 pub place-matched-spec : {M : Type 1} → statement M
