@@ -1,19 +1,25 @@
 -- Pieces on a page: what one piece leaves, and that pieces one after the other are their bytes joined.
-use Prim.Native.Nat.{ℕ, _+_, _≤_, _<_}
+use Prim.Native.Nat.{ℕ, suc, _+_, _≤_, _<_}
 use native.Mathlib.Omega.{arith}
-use native.Mathlib.Nat.{zero-add}
-use mathlib.Core.Path.{_≡_, refl, sym, _∙_}
+use native.Mathlib.Nat.{zero-add, add-zero}
+use mathlib.Core.Path.{_≡_, refl, sym, ap, _∙_}
 use mathlib.Core.Bool.{Bool, true, false, cond}
 use mathlib.Core.Option.{Option, none, some, Option·some-ne-none, Option·none-ne-some, Option·some-injective}
-use mathlib.Core.List.{List, [], _++_}
+use mathlib.Core.List.{List, [], _∷_, _++_}
 use lib.Dec.{leb}
-use lib.ListN.{length, length-append}
+use lib.ListN.{length, set, length-append}
 use lib.Seq.{sets, length-sets}
 use borrow.Author.Tests.{le-leb, lt-leb, leb-false}
 use Rattle.theory.proofs.Laws.Basics.{cases, clash}
-use Rattle.stored.proofs.Laws.Running.Written.{sets-append}
 use Rattle.filing.specs.declared.page.Pen.{Pen}
 use Rattle.filing.specs.Code.Page.{reached, further, On, Adds, Composes}
+
+-- stored one after the other
+sets-append : (l : List ℕ) (i : ℕ) (x y : List ℕ) → sets l i (x ++ y) ≡ sets (sets l i x) (i + length x) y
+sets-append l i [] y = rw (add-zero i)
+sets-append l i (v ∷ x) y =
+    let e : suc i + length x ≡ i + suc (length x) = omega arith in
+    sets-append (set l i v) (suc i) x y ∙ ap (λ (n : ℕ). sets (sets (set l i v) (suc i) x) n y) e
 
 further-both : (size : ℕ) (x : Option ℕ) (n m : ℕ) → further size (further size x n) m ≡ further size x (n + m)
 further-both size none n m = refl
