@@ -1,6 +1,6 @@
 -- On the run of a machine's state the asking calls answer what the machine has, and 13 exactly where what is asked of is not there.
 use Prim.Native.Nat.{ℕ, zero, suc, _+_, _-_, _*_, _≤_, _<_, pred}
-use mathlib.Core.Path.{_≡_, refl, ap₂}
+use mathlib.Core.Path.{_≡_, refl, _∙_, ap, ap₂}
 use mathlib.Core.Bool.{Bool, true, false, _&&_, _||_, cond}
 use mathlib.Core.List.{List, [], _++_}
 use native.Mathlib.Omega.{arith}
@@ -31,7 +31,7 @@ use Rattle.theory.specs.Order.{first, given}
 use Rattle.theory.specs.Calls.{State, openNames, activeStep}
 use Rattle.stored.specs.Automaton.{maskSize}
 use Rattle.stored.specs.Run.{runOf}
-use Rattle.stored.specs.RunCalls.{depthOf, storedName, activeAt}
+use Rattle.stored.specs.RunCalls.{depthOf, storedName, activeAt, matchedAt}
 use Rattle.stored.specs.Asking.{askRefusal, hasPath, placeMatched, anyMatched, askPath, hasFolder, indexPaths, askFolder, askStep, askPrefix, nameRefusal, askName}
 use Rattle.theory.proofs.Laws.Basics.{cases}
 use Rattle.theory.proofs.Laws.Keywords.Prefix.{current-prefix}
@@ -110,7 +110,9 @@ module _ (s : FolderSet) (a : List ℕ) (m : Means s a) (st : State) (few : Few 
       let e : stepsBefore ps i + length p - 1 ≡ stepsBefore ps i + k = omega (arith, m .full i h) in
       let w : k < length p = omega (arith, m .full i h) in
       let l : suc k ≡ length p = omega (arith, m .full i h) in
-      rw (path-there i h .answer, e, matched-read s names (st .matched) (names-deep s st g) (names-short s st g) rest (stepsBefore ps i + k) (steps-room i k h w), match-at (st .matched) ps 0 i k h w, eq-eqb (suc k) (length p) l, zero-add i)
+      rw (path-there i h .answer)
+      (ap (matchedAt run) e ∙ matched-read s names (st .matched) (names-deep s st g) (names-short s st g) rest (stepsBefore ps i + k) (steps-room i k h w)
+      ∙ rw (match-at (st .matched) ps 0 i k h w, eq-eqb (suc k) (length p) l, zero-add i))
 
   -- is the path of a place matched
   pub ask-path : (place : PathPlace) → askPath a run place ≡ asked (ltb (place .0) (length ps)) (st .matched (place .0))
