@@ -10,6 +10,7 @@ use lib.ListN.{length}
 use Rattle.notation.specs.Names.{Name}
 use Rattle.notation.specs.Sets.{Folder, FolderSet, folderNumber}
 use Rattle.notation.specs.Form.{pathsOf}
+use Rattle.notation.specs.Accepted.{Accepted}
 use Rattle.notation.specs.Answers.{Answer, refused, value, numberSaid}
 use Rattle.notation.specs.Fit.{nameAt, Active}
 use Rattle.notation.specs.Refusals.{Refusal, noSuchPlace, numberOf}
@@ -24,7 +25,9 @@ use Rattle.theory.specs.Moves.{OpenMoves, MovesTold}
 use Rattle.theory.specs.Elements.{elementsOf, childlessDepths}
 use Rattle.theory.specs.Folders.{placesOf}
 use Rattle.stored.specs.Answers.{openedSays}
-use Rattle.stored.specs.RunCalls.{startRun, noCounters}
+use Rattle.stored.specs.Build.{Built}
+use Rattle.stored.specs.Run.{runSize}
+use Rattle.stored.specs.RunCalls.{startRun, noCounters, shaped}
 use Rattle.stored.specs.RunContracts.{Starts, Opens, Closes}
 use Rattle.stored.specs.Asking.{askPath, askFolder, askStep, askPrefix, nameRefusal, askName}
 use Rattle.stored.specs.declared.counters.Counters.{Counters}
@@ -141,10 +144,16 @@ pub record Holds (s : FolderSet) (a : List ℕ) (made : List Made) (calls : List
   pub moves : t .counters .moves ≡ run s calls .moves
   pub movesTold : MovesTold s (acceptedCalls s calls) (t .counters .moves)
   pub movesMost : t .counters .moves ≤ childlessDepths (elementsOf (acceptedCalls s calls))
+  -- run and counters pass the shape test
+  pub passes : shaped a (t .bytes) (t .counters) ≡ true
 
--- all of demand 3, of a set, its automaton and a buffer for the run
+-- of a set, its automaton and a buffer for the run
 pub record Demand3 (s : FolderSet) (a buffer : List ℕ) : Type 0 where
   -- a start is accepted and leaves a fresh run
   pub starts : (c : Counters) (answer : ℕ) (t : Left) → Starts a buffer c answer (t .bytes) (t .counters) → (answer ≡ 0) × (t ≡ started a buffer)
   -- any list of calls from a fresh run, whichever call made it
   pub calls : (made : List Made) (t : Left) → Calls a (started a buffer) made t → Holds s a made (callsOf made) (stillOpen s (callsOf made)) t
+
+-- demand 3 itself: of every accepted set, the automaton that a build of its text left in any buffer, and any buffer of a run's size or more
+abbrev pub Demand3Whole : Type 0
+Demand3Whole = (text before a : List ℕ) (s : FolderSet) → Accepted text s → Built text before 0 a → (buffer : List ℕ) → runSize ≤ length buffer → Demand3 s a buffer

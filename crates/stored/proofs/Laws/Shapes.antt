@@ -4,7 +4,6 @@ pub mod BuiltShape
 pub mod RunShape
 pub mod CounterShape
 pub mod Passing
-pub mod MadeShape
 pub mod Given
 pub mod Kept
 pub mod Tested

@@ -33,7 +33,7 @@ use Rattle.stored.specs.Answers.{openedSays}
 use Rattle.stored.specs.RunCalls.{startRefusal, openRefusal, openWalk, closeRefusal}
 use Rattle.stored.specs.RunContracts.{Opens, Closes}
 use Rattle.stored.specs.Asking.{askPath, askFolder, askStep, askPrefix, nameRefusal, askName}
-use Rattle.stored.specs.Demand3.{Made, madeOpen, madeClose, callsOf, Left, started, Calls, OpenAnswered, isRefused, isAccepted, Answers, HasFolder, HasMatchedPath, StepThere, PrefixAnswered, SameAsked, Holds, Demand3}
+use Rattle.stored.specs.Demand3.{Made, madeOpen, madeClose, callsOf, Left, started, Calls, OpenAnswered, isRefused, isAccepted, Answers, HasFolder, HasMatchedPath, StepThere, PrefixAnswered, SameAsked, Holds, Demand3, Demand3Whole}
 use Rattle.stored.specs.declared.counters.Counters.{Counters}
 use Rattle.stored.specs.declared.answers.Opened.{Opened}
 use Rattle.theory.proofs.Laws.Basics.{cases, clash, both-true, any-is, is-any}
@@ -43,8 +43,9 @@ use Rattle.theory.proofs.Laws.Machine.History.{run-names-told}
 use Rattle.theory.proofs.Laws.Machine.MovesTold.{open-moves}
 use Rattle.theory.proofs.Laws.Machine.Whole.{whole}
 use Rattle.theory.proofs.Laws.Machine.Folders.{folder-matched}
+use Rattle.stored.proofs.Laws.Building.Built.{built-is}
 use Rattle.stored.proofs.Laws.Running.Means.{Means, means}
-use Rattle.stored.proofs.Laws.Shapes.Passing.{open-refused, close-refused}
+use Rattle.stored.proofs.Laws.Shapes.Passing.{all-shaped, open-refused, close-refused}
 use Rattle.stored.proofs.Laws.Running.FolderPlaces.{hasNumber, Placed, missing, at, placed}
 use Rattle.stored.proofs.Laws.Running.Asking.{asked, within-out, ask-path, ask-folder, ask-step, ask-prefix, ask-name-refused, ask-name}
 use Rattle.stored.proofs.Laws.Running.MadeCalls.{calls-split, split-open, split-close}
@@ -238,6 +239,7 @@ module _ (s : FolderSet) (a : List ℕ) (m : Means s a) (buffer : List ℕ) wher
         moves = rw e refl;
         movesTold = rw e (w .movesTold);
         movesMost = rw e (w .moves);
+        passes = rw e (all-shaped s a m (run s calls) (few-run s calls) rest);
       }
 
 -- a start on it is accepted
@@ -254,6 +256,6 @@ demand3-means s a m buffer long =
       calls = holds s a m buffer;
     }
 
--- of every accepted set, whatever stands behind its automaton, and every buffer of the size of a run or more
-pub demand3 : (text : List ℕ) (s : FolderSet) → Accepted text s → (rest buffer : List ℕ) → runSize ≤ length buffer → Demand3 s (automatonOf s ++ rest) buffer
-demand3 text s accepted rest buffer long = demand3-means s (automatonOf s ++ rest) (means text s accepted rest) buffer long
+pub demand3 : Demand3Whole
+demand3 text before a s accepted built buffer long =
+    rw (built-is text before a s accepted built) (demand3-means s (automatonOf s ++ drop automatonSize before) (means text s accepted (drop automatonSize before)) buffer long)
