@@ -169,3 +169,12 @@ module _ (d : Document) where
   pub selects-some : (p : Path)
       → ((x : Place) × IsElement (kindAt d x) × selected d p x) ↔ ((x : Place) × IsElement (kindAt d x) × Fits p (namesTo d x))
   selects-some p = (λ h. (h .0, h .1, selected-to p (h .0) (h .1) (h .2)), λ h. (h .0, h .1, selected-from p (h .0) (h .1) (h .2)))
+
+-- what a path selects is elements alone: no text, no comment, and not the document node
+pub selects-elements : (d : Document) (p : Path) (x : Place) → 1 ≤ length p → selected d p x → IsElement (kindAt d x)
+unfolding stepsTo
+selects-elements d p x some sel =
+    let last : length p ≡ suc (pred (length p)) = omega arith in
+    let e : spelled start p ≡ stepsTo p (suc (pred (length p))) = all-steps p ∙ ap (stepsTo p) last in
+    let (y, before, on) = step-to d (stepsTo p (pred (length p))) (stepAt p (suc (pred (length p)))) x (rw e at sel) in
+    (on .name, on .kind)

@@ -31,7 +31,8 @@ use Rattle.theory.specs.Order.{first, given}
 use Rattle.theory.specs.Calls.{State, openNames, activeStep}
 use Rattle.stored.specs.Automaton.{maskSize}
 use Rattle.stored.specs.Run.{runOf}
-use Rattle.stored.specs.RunCalls.{depthOf, storedName, activeAt, matchedAt}
+use Rattle.stored.specs.Tables.{sizeOf}
+use Rattle.stored.specs.RunCalls.{depthOf, storedName, activeAt, matchedAt, stateAt}
 use Rattle.stored.specs.Asking.{askRefusal, hasPath, placeMatched, anyMatched, askPath, hasFolder, indexPaths, askFolder, askStep, askPrefix, nameRefusal, askName}
 use Rattle.theory.proofs.Laws.Basics.{cases}
 use Rattle.theory.proofs.Laws.Keywords.Prefix.{current-prefix}
@@ -163,11 +164,9 @@ module _ (s : FolderSet) (a : List ℕ) (m : Means s a) (st : State) (few : Few 
       (λ t. rw (t, path-gone i (ltb-false i (length ps) t)) (answer-is false false (activeStep s st i k) (λ w. absurd (let z : _≡_ {A = ℕ} 0 1 = cc in omega arith))))
 
   -- the length of the current prefix
-  pub ask-prefix : askPrefix a run ≡ value (length (st .current))
-  unfolding askPrefix
-  ask-prefix =
+  prefix-size : sizeOf a (stateAt run (depthOf run)) ≡ length (st .current)
+  prefix-size =
       rw (
-        ask-refused true,
         stored-depth s a m st few rest,
         ← names-length s st g,
         state-at s names (st .matched) (names-deep s st g) (names-short s st g) rest (length names) (omega arith) (m .fit),
@@ -175,6 +174,10 @@ module _ (s : FolderSet) (a : List ℕ) (m : Means s a) (st : State) (few : Few 
         m .tables .size (prefixOf s names) (current-prefix s names .starts),
         g .prefix,
       )
+
+  pub ask-prefix : askPrefix a run ≡ value (length (st .current))
+  unfolding askPrefix
+  ask-prefix = ap₂ (λ (r n : ℕ). said r n) (ask-refused true) prefix-size
 
   -- the open name at a depth
   pub ask-name-refused : (d : ℕ) → nameRefusal a run d ≡ cond (within 1 (length names) d) 0 (numberOf noSuchPlace)
