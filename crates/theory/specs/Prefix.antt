@@ -24,14 +24,14 @@ IsPrefix set w = Begins set w ⊎ (w ≡ [])
 -- the longest end of a word that begins a keyword; it may be empty, and is so where there are no keywords
 pub record LongestEnd (set : FolderSet) (whole end : Word) : Type 0 where
   pub isEnd : EndOf whole end
-  pub starts : Begins set end ⊎ (end ≡ [])
+  pub starts : IsPrefix set end
   pub longest : (v : Word) → EndOf whole v → Begins set v → length v ≤ length end
 
 -- the longest proper end that does
 pub record LongestProperEnd (set : FolderSet) (whole end : Word) : Type 0 where
   pub isEnd : EndOf whole end
   pub proper : length end < length whole
-  pub starts : Begins set end ⊎ (end ≡ [])
+  pub starts : IsPrefix set end
   pub longest : (v : Word) → EndOf whole v → length v < length whole → Begins set v → length v ≤ length end
 
 -- the current prefix of the open names
