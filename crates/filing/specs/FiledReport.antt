@@ -22,7 +22,7 @@ use Rattle.stored.specs.declared.counters.Counters.{Counters}
 use Rattle.documents.specs.Document.{documentIn}
 use Rattle.filing.specs.Filing.{Refused, FiledWith}
 use Rattle.filing.specs.Demand2.{countIn, childlessIn, SelectsElement, FolderSelects, OfDocument}
-use Rattle.filing.specs.FileCall.{Files}
+use Rattle.filing.specs.ReportRefusals.{Files}
 
 -- of a report that is filed, with run and counters as left
 pub record FiledReport (s : FolderSet) (a report run run' : List ℕ) (c' : Counters) : Type 0 where

@@ -10,8 +10,9 @@ use Rattle.notation.specs.Judged.{Verdict, refuses, accepts, Judged}
 use Rattle.stored.specs.Build.{builtInto}
 use Rattle.stored.specs.RunCalls.{tooShort, noCounters}
 use Rattle.stored.specs.declared.answers.Written.{Written}
+use Rattle.stored.specs.declared.counters.Counters.{Counters}
 use Rattle.filing.specs.Limits.{listingSize}
-use Rattle.filing.specs.FileCall.{fileLeft}
+use Rattle.filing.specs.ReportRefusals.{Files}
 use Rattle.filing.specs.Listing.{refusedLine, filerPrints}
 
 -- automaton, run or printed bytes have less room than their size
@@ -24,14 +25,15 @@ pub record PrintsText (text before : List ℕ) (answer : Written) (after : List 
   pub answers : answer ≡ Written.Bytes (length text)
   pub leaves : after ≡ text ++ drop (length text) before
 
--- by a text's verdict: what is printed, and the run that is left on the automaton a
+-- by a text's verdict: what is printed
 abbrev pub printsFor : Verdict → List ℕ → List ℕ
 printsFor (refuses r) report = refusedLine (numberOf r)
 printsFor (accepts s) report = filerPrints s report
 
-abbrev pub runFor : Verdict → List ℕ → List ℕ → List ℕ → List ℕ
-runFor (refuses r) a run report = run
-runFor (accepts s) a run report = fileLeft a run noCounters report .bytes
+-- and the run that is left: as it was, or as filing the report on the automaton a leaves it
+abbrev pub RunFor : Verdict → List ℕ → List ℕ → List ℕ → List ℕ → Type 0
+RunFor (refuses r) a run report run' = run' ≡ run
+RunFor (accepts s) a run report run' = (n : ℕ) × (c' : Counters) × Files a run noCounters report n run' c'
 
 -- what is answered and left, of any text, report and buffers
 pub record Prints (text report a run out : List ℕ) (answer : Written) (a' run' out' : List ℕ) : Type 0 where
@@ -40,4 +42,4 @@ pub record Prints (text report a run out : List ℕ) (answer : Written) (a' run'
   -- a text that is refused: its number alone is printed, and automaton and run stay. An accepted one: what filing the report with its set
   -- prints, the set's automaton, and the run that filing leaves
   pub judged : tooSmall a run out ≡ false → (v : Verdict) → Judged text v
-      → (PrintsText (printsFor v report) out answer out') × ((a' ≡ builtInto v a) × (run' ≡ runFor v a' run report))
+      → (PrintsText (printsFor v report) out answer out') × ((a' ≡ builtInto v a) × RunFor v a' run report run')

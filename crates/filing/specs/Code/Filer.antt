@@ -5,7 +5,7 @@ use mathlib.Core.List.{List}
 use Rattle.stored.specs.RunCalls.{noCounters}
 use Rattle.stored.specs.declared.answers.Written.{Written}
 use Rattle.stored.specs.declared.counters.Counters.{Counters}
-use Rattle.filing.specs.FileCall.{fileAnswer, fileLeft}
+use Rattle.filing.specs.Code.FileCall.{fileAnswer, fileLeft}
 use Rattle.filing.specs.Listed.{ListingWritten, RefusedWritten}
 
 abbrev pub OutcomeWritten : ℕ → List ℕ → List ℕ → Counters → List ℕ → Written → List ℕ → Type 0

@@ -35,7 +35,8 @@ use Rattle.stored.proofs.Laws.Running.Demand3.{path-answers, folder-answers, st
 use Rattle.documents.specs.Document.{eventsOf, documentIn}
 use Rattle.filing.specs.Filing.{Filed, refused, filed, numberGiven, callsIn, fileReport}
 use Rattle.filing.specs.Demand2.{childlessIn, SelectsElement, FolderSelects, OfDocument}
-use Rattle.filing.specs.FileCall.{numberLeft, leftIn, fileLeft, Files}
+use Rattle.filing.specs.ReportRefusals.{Files}
+use Rattle.filing.specs.Code.FileCall.{numberLeft, leftIn, fileLeft, FilesBy}
 use Rattle.filing.specs.FiledReport.{FiledReport, reportNumbers, Demand2Bytes}
 use Rattle.filing.proofs.Laws.Filing.FilingOrder.{refused-is, filed-is}
 use Rattle.filing.proofs.Laws.Filing.FilingAdded.{added}
@@ -43,6 +44,7 @@ use Rattle.filing.proofs.Laws.Filing.FilingAlike.{same-number}
 use Rattle.filing.proofs.Laws.Filing.FilingOpens.{given-among}
 use Rattle.filing.proofs.Laws.Filing.FilingStored.{storedOf, report-stored}
 use Rattle.filing.proofs.Laws.Filing.Demand2.{of-document}
+use Rattle.filing.proofs.Laws.Demand1.ReportFiles.{by-equations}
 
 given-refused : (x : Filed) (r : Refusal) → numberGiven x ≡ numberOf r → x ≡ refused r
 given-refused (refused q) r e = ap refused (one-refusal q r e)
@@ -100,7 +102,7 @@ endOf s (filed m) = m
 
 -- what the call answers and leaves
 module _ (s : FolderSet) (a : List ℕ) (w : Means s a) (lent : List ℕ) (long : runSize ≤ length lent) (c : Counters) (report : List ℕ)
-    (answer : ℕ) (run' : List ℕ) (c' : Counters) (f : Files a lent c report answer run' c') where
+    (answer : ℕ) (run' : List ℕ) (c' : Counters) (f : FilesBy a lent c report answer run' c') where
   abbrev rest : List ℕ
   rest = drop runSize lent
 
@@ -186,8 +188,9 @@ same-matched s larger text report acc has f i (filed m) e =
 pub demand2-bytes : (text : List ℕ) (s : FolderSet) → Accepted text s → (behind lent : List ℕ) → runSize ≤ length lent → (c : Counters) (report : List ℕ)
     (answer : ℕ) (run' : List ℕ) (c' : Counters) → Files (automatonOf s ++ behind) lent c report answer run' c'
     → Demand2Bytes s (automatonOf s ++ behind) report lent answer run' c'
-demand2-bytes text s acc behind lent long c report answer run' c' f =
+demand2-bytes text s acc behind lent long c report answer run' c' files =
     let a = automatonOf s ++ behind in
+    let f = by-equations a lent c report answer run' c' files in
     let w = means text s acc behind in
     let is = answer-is s a w lent long c report answer run' c' f in
     record {
@@ -204,8 +207,9 @@ demand2-bytes text s acc behind lent long c report answer run' c' f =
       filedLeaves = λ e.
           let (m, h) = given-filed (fileReport s report) (sym is ∙ e) in
           filed-leaves s a w lent long c report answer run' c' f m h;
-      adding = λ text₂ larger acc₂ has behind₂ lent₂ long₂ c₂ other run₂ c₃ g.
+      adding = λ text₂ larger acc₂ has behind₂ lent₂ long₂ c₂ other run₂ c₃ more.
           let b = automatonOf larger ++ behind₂ in
+          let g = by-equations b lent₂ c₂ report other run₂ c₃ more in
           let v = means text₂ larger acc₂ behind₂ in
           record {
             answers = answer-is larger b v lent₂ long₂ c₂ report other run₂ c₃ g ∙ same-number larger s report ∙ sym is;

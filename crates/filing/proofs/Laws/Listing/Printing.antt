@@ -28,12 +28,14 @@ use Rattle.stored.specs.declared.counters.Counters.{Counters}
 use Rattle.stored.proofs.Laws.Running.Means.{Means, means}
 use Rattle.filing.specs.Limits.{listingSize}
 use Rattle.filing.specs.Filing.{Filed, refused, filed, numberGiven, fileReport}
-use Rattle.filing.specs.FileCall.{fileAnswer, fileLeft, Files}
+use Rattle.filing.specs.ReportRefusals.{Files}
+use Rattle.filing.specs.Code.FileCall.{fileAnswer, fileLeft, FilesBy}
 use Rattle.filing.specs.FiledReport.{Demand2Bytes}
 use Rattle.filing.specs.Listing.{listing, refusedLine, printed, filerPrints}
 use Rattle.filing.specs.Listed.{Writes, ListingWritten, refusedRefusal, RefusedWritten}
-use Rattle.filing.specs.Filer.{tooSmall, PrintsText, Prints, printsFor, runFor}
+use Rattle.filing.specs.Filer.{tooSmall, PrintsText, Prints, printsFor, RunFor}
 use Rattle.filing.specs.Code.Filer.{OutcomeWritten, FiledAndListed}
+use Rattle.filing.proofs.Laws.Demand1.ReportFiles.{by-verdict, by-equations}
 use Rattle.filing.proofs.Laws.Filing.FromBytes.{answer-is, left-filed, few-end, demand2-bytes}
 use Rattle.filing.proofs.Laws.Listing.Whole.{listing-fits, listing-written}
 use Rattle.filing.proofs.Laws.Listing.Written.{refused-short}
@@ -99,10 +101,16 @@ none-refused (suc n) a run c out after answer h w = absurd (omega arith)
 -- `file_and_list`
 pub filed-listed : (a run report out run' after : List ℕ) (n : ℕ) (c' : Counters) (answer : Written)
     → Files a run noCounters report n run' c' → OutcomeWritten n a run' c' out answer after → FiledAndListed a run report out answer run' after
-filed-listed a run report out run' after n c' answer f w = record {
-  runAfter = f .runAfter;
-  written = rw (f .answers, f .countersAfter) at w;
-}
+filed-listed a run report out run' after n c' answer files w =
+    let f = by-equations a run noCounters report n run' c' files in
+    record { runAfter = f .runAfter; written = rw (f .answers, f .countersAfter) at w }
+
+filed-run : (a run report out : List ℕ) (answer : Written) (run' after : List ℕ) → FiledAndListed a run report out answer run' after
+    → (n : ℕ) × (c' : Counters) × Files a run noCounters report n run' c'
+filed-run a run report out answer run' after f =
+    let n = fileAnswer a run report in
+    let c' = fileLeft a run noCounters report .counters in
+    (n, c', by-verdict a run noCounters report n run' c' (record { answers = refl; runAfter = f .runAfter; countersAfter = refl }))
 
 -- of an accepted set
 module _ (text : List ℕ) (s : FolderSet) (acc : Accepted text s) (behind run report : List ℕ) (long : runSize ≤ length run) where
@@ -115,7 +123,7 @@ module _ (text : List ℕ) (s : FolderSet) (acc : Accepted text s) (behind run r
   w : Means s a
   w = means text s acc behind
 
-  files : Files a run noCounters report (fileAnswer a run report) (left .bytes) (left .counters)
+  files : FilesBy a run noCounters report (fileAnswer a run report) (left .bytes) (left .counters)
   files = record { answers = refl; runAfter = refl; countersAfter = refl }
 
   number : fileAnswer a run report ≡ numberGiven (fileReport s report)
@@ -156,7 +164,7 @@ module _ (text report a run out : List ℕ) where
     pub set-refused : (n ≡ 0 → ⊥) → (after : List ℕ) → RefusedWritten n out answer after → Prints text report a run out answer a' run after
     set-refused some after w = record { short = λ t. absurd (true≢false (sym t ∙ h)); judged = λ _. go }
       where
-        go : (v : Verdict) → Judged text v → (PrintsText (printsFor v report) out answer after) × ((a' ≡ builtInto v a) × (run ≡ runFor v a' run report))
+        go : (v : Verdict) → Judged text v → (PrintsText (printsFor v report) out answer after) × ((a' ≡ builtInto v a) × RunFor v a' run report run)
         go (refuses r) j =
             let x = built (refuses r) j in (
               line-printed r out after answer (out-room a run out h) (subst (λ (k : ℕ). RefusedWritten k out answer after) (x .0) w),
@@ -167,13 +175,13 @@ module _ (text report a run out : List ℕ) where
     pub set-filed : n ≡ 0 → (run' after : List ℕ) → FiledAndListed a' run report out answer run' after → Prints text report a run out answer a' run' after
     set-filed z run' after f = record { short = λ t. absurd (true≢false (sym t ∙ h)); judged = λ _. go }
       where
-        go : (v : Verdict) → Judged text v → (PrintsText (printsFor v report) out answer after) × ((a' ≡ builtInto v a) × (run' ≡ runFor v a' run report))
+        go : (v : Verdict) → Judged text v → (PrintsText (printsFor v report) out answer after) × ((a' ≡ builtInto v a) × RunFor v a' run report run')
         go (refuses r) j = absurd (some-number r (sym (built (refuses r) j .0) ∙ z))
         go (accepts s) acc =
             let e = built (accepts s) acc .1 in
             let g = subst (λ (x : List ℕ). FiledAndListed x run report out answer run' after) e f in (
               filing-printed text s acc (drop automatonSize a) run report (run-room a run out h) out after answer (out-room a run out h) run' g,
-              (e, f .runAfter),
+              (e, filed-run a' run report out answer run' after f),
             )
 
   module _ (answer : Written) (a' run' out' : List ℕ) (p : Prints text report a run out answer a' run' out') (h : tooSmall a run out ≡ false) where
@@ -182,11 +190,8 @@ module _ (text report a run out : List ℕ) where
     some-printed = let (v, j) = some-verdict text in (printsFor v report, p .judged h v j .0)
 
     -- an accepted set's printed call is demand 2's filing
-    pub demand2-printed : (s : FolderSet) → Accepted text s
-        → Demand2Bytes s a' report run (fileAnswer a' run report) run' (fileLeft a' run noCounters report .counters)
+    pub demand2-printed : (s : FolderSet) → Accepted text s → (n : ℕ) × (c' : Counters) × Demand2Bytes s a' report run n run' c'
     demand2-printed s acc =
-        let q = p .judged h (accepts s) acc in
-        let left = fileLeft (automatonOf s ++ drop automatonSize a) run noCounters report in
-        rw (q .1 .1, q .1 .0)
-        (demand2-bytes text s acc (drop automatonSize a) run (run-room a run out h) noCounters report _ (left .bytes) (left .counters)
-        (record { answers = refl; runAfter = refl; countersAfter = refl }))
+        let (_, (e, (n, c', files))) = p .judged h (accepts s) acc in
+        let f = subst (λ (x : List ℕ). Files x run noCounters report n run' c') e files in
+        (n, c', rw e (demand2-bytes text s acc (drop automatonSize a) run (run-room a run out h) noCounters report n run' c' f))
