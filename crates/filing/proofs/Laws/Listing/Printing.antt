@@ -193,5 +193,5 @@ module _ (text report a run out : List ℕ) where
     pub demand2-printed : (s : FolderSet) → Accepted text s → (n : ℕ) × (c' : Counters) × Demand2Bytes s a' report run n run' c'
     demand2-printed s acc =
         let (_, (e, (n, c', files))) = p .judged h (accepts s) acc in
-        let f = subst (λ (x : List ℕ). Files x run noCounters report n run' c') e files in
-        (n, c', rw e (demand2-bytes text s acc (drop automatonSize a) run (run-room a run out h) noCounters report n run' c' f))
+        let w = subst (Means s) (sym e) (means text s acc (drop automatonSize a)) in
+        (n, c', demand2-bytes s a' w run (run-room a run out h) noCounters report n run' c' files)
