@@ -15,7 +15,6 @@ use Rattle.notation.specs.Reads.{textOf, pathAt, folderOf}
 use Rattle.notation.specs.ReadSet.{readInto}
 use Rattle.notation.specs.WriteText.{textRefusal}
 use Rattle.notation.proofs.Laws.Refused.Numbers.{one-refusal, number-within, some-number}
-use Rattle.notation.proofs.Laws.Refused.Judging.{some-verdict}
 use Rattle.theory.specs.Order.{gives, given, AnswersBy}
 use Rattle.theory.proofs.Laws.Basics.{cases}
 use Rattle.theory.proofs.Laws.Machine.Order.{answers-by, given-none, given-cons}
@@ -31,10 +30,11 @@ use Rattle.filing.specs.Limits.{listingSize}
 use Rattle.filing.specs.ReportRefusals.{RefusedReport, TakenReport, refusedLeft, Files}
 use Rattle.filing.specs.Listing.{refusedLine}
 use Rattle.filing.specs.Listed.{listingConditions, listingRefusal, listingIn, refusedRefusal}
-use Rattle.filing.specs.Filer.{tooSmall, printsFor, Prints}
+use Rattle.filing.specs.Filer.{tooSmall, Prints}
 use Rattle.filing.specs.Demand1.{ReportJudged, Demand1}
 use Rattle.filing.proofs.Laws.Demand1.ReportRefused.{file-decided}
 use Rattle.filing.proofs.Laws.Demand1.ReportFiles.{left-is}
+use Rattle.filing.proofs.Laws.Listing.PrintedText.{printed-text-some}
 use Rattle.filing.proofs.Laws.Demand1.Sets.{set-judged}
 use Rattle.filing.proofs.Laws.Demand1.Calls.{given-is, kept, some-given, some-said, written-by}
 
@@ -97,13 +97,12 @@ module _ (a run : List ℕ) (c : Counters) (report : List ℕ) (answer : ℕ) (r
 -- the program's one call
 module _ (text report a run out : List ℕ) (answer : Written) (a' run' out' : List ℕ) (p : Prints text report a run out answer a' run' out') where
   printed-says : tooSmall a run out ≡ false → (n : ℕ) × (writtenSays answer ≡ value n)
-  printed-says h = let (v, j) = some-verdict text in
-      (length (printsFor v report), ap writtenSays (p .judged h v j .0 .answers))
+  printed-says h = let (bytes, t) = printed-text-some text report in (length bytes, p .printed h bytes t .answers)
 
   print-answers : AnswersBy (gives (tooSmall a run out) shortBuffer ∷ []) (writtenSays answer)
   print-answers =
       cases (tooSmall a run out)
-      (λ y. answers-by (gives (tooSmall a run out) shortBuffer ∷ []) 0 (writtenSays answer) (ap writtenSays (p .short y .0) ∙ rw (alone (tooSmall a run out) shortBuffer, y)))
+      (λ y. answers-by (gives (tooSmall a run out) shortBuffer ∷ []) 0 (writtenSays answer) (p .short y .0 ∙ rw (alone (tooSmall a run out) shortBuffer, y)))
       (λ n. let (k, e) = printed-says n in answers-by (gives (tooSmall a run out) shortBuffer ∷ []) k (writtenSays answer) (e ∙ rw (alone (tooSmall a run out) shortBuffer, n)))
 
   print-left : (numberSaid (writtenSays answer) ≡ 0 → ⊥) → (a' ≡ a) × ((run' ≡ run) × (out' ≡ out))
