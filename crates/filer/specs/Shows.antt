@@ -4,9 +4,8 @@ use mathlib.Core.Path.{_≡_}
 use mathlib.Core.List.{List}
 use lib.ListN.{take}
 use Rattle.io.specs.Counts.{Counts}
-use Rattle.notation.specs.Judged.{Verdict, Judged}
 use Rattle.stored.specs.declared.answers.Written.{Written}
-use Rattle.filing.specs.Filer.{printsFor}
+use Rattle.filing.specs.Printed.{PrintedText}
 
 abbrev pub sizeOf : Written → ℕ
 sizeOf (Written.Bytes n) = n
@@ -15,5 +14,5 @@ sizeOf (Written.Refused n) = 0
 -- a page begins with what a set and a report print, by their bytes, up to the length that was answered
 pub record Shows (set report : List ℕ) (answer : ℕ) (after : List ℕ) : Type 0 where
   pub counts : Counts answer after
-  -- by the set's verdict: the line of its refusal, or of the report's, or the listing of the filed report
-  pub shown : (v : Verdict) → Judged set v → take answer after ≡ printsFor v report
+  -- the line of the set's refusal, or of the report's, or the listing of the filed report: of each set and report there is one
+  pub shown : (bytes : List ℕ) → PrintedText set report bytes → take answer after ≡ bytes

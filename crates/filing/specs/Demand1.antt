@@ -35,8 +35,7 @@ use Rattle.stored.specs.declared.answers.Asked.{Asked}
 use Rattle.stored.specs.declared.answers.Length.{Length}
 use Rattle.stored.specs.declared.answers.Written.{Written}
 use Rattle.filing.specs.Limits.{listingSize}
-use Rattle.filing.specs.FileCall.{Files}
-use Rattle.filing.specs.ReportRefusals.{RefusedReport, TakenReport}
+use Rattle.filing.specs.ReportRefusals.{RefusedReport, TakenReport, Files}
 use Rattle.filing.specs.Listed.{listingConditions, ListingWritten, RefusedWritten}
 use Rattle.filing.specs.Filer.{tooSmall, Prints}
 

@@ -13,7 +13,7 @@ use Rattle.notation.specs.declared.PathPlace.{PathPlace}
 use Rattle.notation.specs.declared.FolderNumber.{FolderNumber}
 use Rattle.theory.specs.Calls.{State, pathAt}
 use Rattle.theory.specs.Folders.{HasFolders}
-use Rattle.stored.specs.Automaton.{automatonOf}
+use Rattle.stored.specs.Build.{Built}
 use Rattle.stored.specs.Run.{runSize, runOf}
 use Rattle.stored.specs.RunCalls.{startRun, noCounters}
 use Rattle.stored.specs.Asking.{askPath, askFolder}
@@ -22,7 +22,7 @@ use Rattle.stored.specs.declared.counters.Counters.{Counters}
 use Rattle.documents.specs.Document.{documentIn}
 use Rattle.filing.specs.Filing.{Refused, FiledWith}
 use Rattle.filing.specs.Demand2.{countIn, childlessIn, SelectsElement, FolderSelects, OfDocument}
-use Rattle.filing.specs.FileCall.{Files}
+use Rattle.filing.specs.ReportRefusals.{Files}
 
 -- of a report that is filed, with run and counters as left
 pub record FiledReport (s : FolderSet) (a report run run' : List ℕ) (c' : Counters) : Type 0 where
@@ -63,7 +63,6 @@ pub record Demand2Bytes (s : FolderSet) (a report run : List ℕ) (answer : ℕ)
   pub refusedLeaves : (answer ≡ 0 → ⊥) → (run' ≡ startRun a run) × (c' ≡ noCounters)
   pub filedLeaves : answer ≡ 0 → FiledReport s a report run run' c'
   -- adding folders changes no other folder's matches while the larger set is accepted
-  pub adding : (text : List ℕ) (larger : FolderSet) → Accepted text larger → HasFolders larger s
-      → (behind lent : List ℕ) → runSize ≤ length lent → (c : Counters) (other : ℕ) (run₂ : List ℕ) (c₂ : Counters)
-      → Files (automatonOf larger ++ behind) lent c report other run₂ c₂
-      → SameFolders s answer a run' other (automatonOf larger ++ behind) run₂
+  pub adding : (text before b : List ℕ) (larger : FolderSet) → Accepted text larger → HasFolders larger s → Built text before 0 b
+      → (lent : List ℕ) → runSize ≤ length lent → (c : Counters) (other : ℕ) (run₂ : List ℕ) (c₂ : Counters)
+      → Files b lent c report other run₂ c₂ → SameFolders s answer a run' other b run₂

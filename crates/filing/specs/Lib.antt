@@ -5,6 +5,7 @@ pub mod Filing
 pub mod Demand2
 pub mod FileCall
 pub mod FiledReport
+pub mod Demand2Whole
 pub mod ReportRefusals
 pub mod Listing
 pub mod Listed

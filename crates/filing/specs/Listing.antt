@@ -6,9 +6,7 @@ use mathlib.Core.List.{List, [], _∷_, _++_}
 use lib.ListN.{length}
 use Rattle.notation.specs.Sets.{Path, folder, FolderSet}
 use Rattle.notation.specs.Print.{decimal, footer, printFolder}
-use Rattle.notation.specs.Refusals.{numberOf}
 use Rattle.theory.specs.Calls.{State}
-use Rattle.filing.specs.Filing.{Filed, refused, filed, fileReport}
 
 -- "(filed" and the line's end
 unfoldable pub filedHeader : List ℕ
@@ -47,11 +45,3 @@ listing set m = filedHeader ++ (linesFrom (m .matched) 0 set ++ (movesLine (m .o
 -- "(refused N)"
 unfoldable pub refusedLine : ℕ → List ℕ
 refusedLine n = refusedWord ++ (decimal n ++ footer)
-
-abbrev pub printed : FolderSet → Filed → List ℕ
-printed set (refused r) = refusedLine (numberOf r)
-printed set (filed m) = listing set m
-
--- what filing a report with an accepted set prints
-abbrev pub filerPrints : FolderSet → List ℕ → List ℕ
-filerPrints set report = printed set (fileReport set report)

@@ -1,5 +1,5 @@
--- What the filing program prints for an accepted set (paper 01: The filing program), by printing and XPath 1.0 alone: no run, no matches and
--- no counters.
+-- What the filing program prints of a set's text and a report (paper 01: The filing program), by printing and XPath 1.0 alone: no run, no
+-- matches and no counters.
 use Prim.Native.Nat.{ℕ, _+_, _≤_}
 use mathlib.Core.Path.{_≡_}
 use mathlib.Core.List.{List, [], _∷_, _++_}
@@ -7,6 +7,8 @@ use Rattle.notation.specs.Names.{Name}
 use Rattle.notation.specs.Sets.{Path, folder, FolderSet}
 use Rattle.notation.specs.Print.{footer, printFolder}
 use Rattle.notation.specs.Refusals.{Refusal, numberOf}
+use Rattle.notation.specs.Accepted.{Accepted}
+use Rattle.notation.specs.Judged.{RefusedText}
 use Rattle.theory.specs.Calls.{State}
 use Rattle.theory.specs.Moves.{OpenMoves}
 use Rattle.documents.specs.Tree.{element, text, comment, Nodes, none, _then_, Document}
@@ -50,3 +52,8 @@ pub record PrintedFor (s : FolderSet) (report bytes : List ℕ) : Type 0 where
 pub data PrintedOf (s : FolderSet) (report : List ℕ) : List ℕ → Type 0 where
   itsNumber : {r : Refusal} → Refused s report r → PrintedOf s report (refusedLine (numberOf r))
   itsListing : {m : State} {bytes : List ℕ} → FiledWith s report m → PrintedFor s report bytes → PrintedOf s report bytes
+
+-- of any text: the number of the set's refusal, or what filing the report with the set prints. There is exactly one such
+pub data PrintedText (text report : List ℕ) : List ℕ → Type 0 where
+  ofRefusedSet : {r : Refusal} → RefusedText text r → PrintedText text report (refusedLine (numberOf r))
+  ofSet : {s : FolderSet} {bytes : List ℕ} → Accepted text s → PrintedOf s report bytes → PrintedText text report bytes

@@ -1,5 +1,5 @@
--- Why a report is refused, with any automaton and run, by what is stored (paper 01: Service codes, the order of a report). Each refusal
--- stands with none of those before it.
+-- What filing a report answers and leaves, with any automaton, run and counters, by what is stored (paper 01: Service codes, the order of a
+-- report). Each refusal stands with none of those before it, and every report has exactly one verdict.
 use Prim.Native.Nat.{ℕ}
 use mathlib.Core.Path.{_≡_}
 use mathlib.Core.Bool.{Bool, true, false, not, _&&_, _||_}
@@ -7,10 +7,11 @@ use mathlib.Core.List.{List, [], _∷_, _++_}
 use lib.Dec.{eqb, ltb}
 use lib.ListN.{length}
 use Rattle.notation.specs.Form.{every}
-use Rattle.notation.specs.Refusals.{Refusal, oversize, foreignByte, torn, looseEnd}
+use Rattle.notation.specs.Refusals.{Refusal, shortBuffer, oversize, bentForm, outOfTurn, longName, longPath, full, foreignByte, torn, looseEnd, tooDeep, crossed, noSuchPlace, strangeShape, numberOf}
 use Rattle.theory.specs.Order.{Condition, gives, Unmet, FirstOf}
 use Rattle.stored.specs.RunCalls.{depthOf, startConditions, openOthers, closeOthers}
 use Rattle.stored.specs.Demand3.{Left, started}
+use Rattle.stored.specs.declared.counters.Counters.{Counters}
 use Rattle.documents.specs.Tokens.{blank, listed, RunOfTokens}
 use Rattle.documents.specs.Document.{Event, opening, closing, textHere, commentHere, eventsOf}
 use Rattle.filing.specs.Limits.{maxReportBytes}
@@ -56,3 +57,26 @@ pub record TakenReport (a run report : List ℕ) (t : Left) : Type 0 where
   pub tokens : RunOfTokens report
   pub taken : eventsOutcome a (started a run) (eventsOf (tokens .tokens)) ≡ leaving t
   pub finished : unfinishedIn t ≡ false
+
+-- 1 and 14 are of what is lent: such a refusal leaves all as it was; any other leaves a fresh run
+abbrev pub refusedLeft : List ℕ → List ℕ → Counters → Refusal → Left
+refusedLeft a run c shortBuffer = record { bytes = run; counters = c }
+refusedLeft a run c oversize = started a run
+refusedLeft a run c bentForm = started a run
+refusedLeft a run c outOfTurn = started a run
+refusedLeft a run c longName = started a run
+refusedLeft a run c longPath = started a run
+refusedLeft a run c full = started a run
+refusedLeft a run c foreignByte = started a run
+refusedLeft a run c torn = started a run
+refusedLeft a run c looseEnd = started a run
+refusedLeft a run c tooDeep = started a run
+refusedLeft a run c crossed = started a run
+refusedLeft a run c noSuchPlace = started a run
+refusedLeft a run c strangeShape = record { bytes = run; counters = c }
+
+-- the contract: the answer, and what run and counters are at exit, by the report's verdict
+pub record Files (a run : List ℕ) (c : Counters) (report : List ℕ) (answer : ℕ) (run' : List ℕ) (c' : Counters) : Type 0 where
+  pub refuses : (r : Refusal) → RefusedReport a run report r
+      → (answer ≡ numberOf r) × ((run' ≡ refusedLeft a run c r .bytes) × (c' ≡ refusedLeft a run c r .counters))
+  pub takes : (t : Left) → TakenReport a run report t → (answer ≡ 0) × ((run' ≡ t .bytes) × (c' ≡ t .counters))

@@ -58,8 +58,3 @@ declares (Start from to e) = false
 declares (Empty from to e) = false
 declares (End from to e) = false
 declares (Text e all) = false
-
--- something was read
-abbrev pub isGot : {A : Type 0} → Read A → Bool
-isGot fail = false
-isGot (got a r) = true

@@ -25,7 +25,9 @@ ghost use Rattle.stored.specs.Demand3.{started};
 ghost use Rattle.documents.specs.Reading.{readToken, readReport};
 ghost use Rattle.filing.specs.Seen.{foundOf};
 ghost use Rattle.filing.specs.Code.Seen.{tagName};
-ghost use Rattle.filing.specs.FileCall.{Files, thenGo, openOutcome, closeOutcome, textOutcome, endOutcome, runOutcome, reportOutcome};
+ghost use Rattle.filing.specs.FileCall.{thenGo, openOutcome, closeOutcome, textOutcome};
+ghost use Rattle.filing.specs.ReportRefusals.{Files};
+ghost use Rattle.filing.specs.Code.FileCall.{endOutcome, runOutcome, reportOutcome};
 ghost use Rattle.filing.specs.Code.Taking.{so, Takes, Leaves, foundOutcome, tornAt, runFrom};
 
 // What calls answer: the refusal, 0 for none, and the counters after them.

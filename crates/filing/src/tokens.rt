@@ -10,14 +10,16 @@ use crate::tags::name_reach;
 use crate::tags::reference_end;
 use notation::truth::both;
 ghost use mathlib.Core.Path.{_≡_};
+ghost use mathlib.Core.Bool.{true};
+ghost use mathlib.Core.Logic.{_↔_};
 ghost use Prim.Native.Nat.{_+_, _≤_, _<_};
 ghost use lib.ListN.{length, drop};
 ghost use mathlib.Core.List.{[], _∷_};
-ghost use Rattle.documents.specs.Tokens.{begins};
+ghost use Rattle.documents.specs.Tokens.{begins, RunOfTokens};
 ghost use Rattle.documents.specs.TagAt.{TagAt};
-ghost use Rattle.documents.specs.Reading.{readTag, readEndTag, readContents, readComment, readText, readToken, readReport};
+ghost use Rattle.documents.specs.Reading.{readTag, readEndTag, readContents, readComment, readText, readToken};
 ghost use Rattle.filing.specs.Code.Reaches.{reachOf};
-ghost use Rattle.filing.specs.Seen.{foundOf, nameFrom, nameTo, foundEnd, declares, isGot};
+ghost use Rattle.filing.specs.Seen.{foundOf, nameFrom, nameTo, foundEnd, declares};
 ghost use Rattle.filing.specs.Code.Seen.{tagEndOf, textFound, declarationAt};
 ghost use Rattle.filing.specs.NamePart.{NamePart};
 
@@ -311,7 +313,7 @@ pub fn is_declaration(f: Found) -> bool
 
 // Whether a report is a run of tokens; without that, refusal 9.
 pub fn is_run(s: &[u8]) -> bool
-    ensures { λ r. ⌜ r ≡ isGot (readReport (now (s .entry))) ⌝ }
+    ensures { λ r. ⌜ (r ≡ true) ↔ RunOfTokens (now (s .entry)) ⌝ }
 {
     let mut i = 0;
     while i < s.len() {

@@ -10,17 +10,23 @@ use borrow.Author.Tests.{le-ltb}
 use Rattle.io.specs.Counts.{Counts}
 use Rattle.stored.specs.Automaton.{automatonSize}
 use Rattle.stored.specs.Run.{runSize}
+use Rattle.notation.specs.Answers.{value}
+use Rattle.stored.specs.Answers.{writtenSays}
 use Rattle.stored.specs.declared.answers.Written.{Written}
 use Rattle.filing.specs.Limits.{listingSize}
 use Rattle.filing.specs.Filer.{tooSmall, PrintsText, Prints}
 use Rattle.filing.proofs.Laws.Listing.Printing.{some-printed}
 use Rattle.filer.specs.Shows.{sizeOf, Shows}
 
+size-said : (answer : Written) (n : ℕ) → writtenSays answer ≡ value n → sizeOf answer ≡ n
+size-said (Written.Bytes k) n e = cc
+size-said (Written.Refused k) n e = absurd (let z : _≡_ {A = ℕ} 0 1 = cc in omega arith)
+
 on-page : (text before after : List ℕ) (answer : Written) → PrintsText text before answer after
     → (Counts (sizeOf answer) after) × (take (sizeOf answer) after ≡ text)
 on-page text before after answer p =
     let within : length text ≤ length after = omega (arith, length-append text (drop (length text) before), ap length (p .leaves)) in
-    rw (p .answers) ((within, sym (length-take-le (length text) after within)), ap (take (length text)) (p .leaves) ∙ take-append-seam text _)
+    rw (size-said answer (length text) (p .answers)) ((within, sym (length-take-le (length text) after within)), ap (take (length text)) (p .leaves) ∙ take-append-seam text _)
 
 module _ (set report a run page : List ℕ) (answer : Written) (a' run' page' : List ℕ) where
   pub shows : automatonSize ≤ length a → runSize ≤ length run → listingSize ≤ length page → Prints set report a run page answer a' run' page'
@@ -28,7 +34,7 @@ module _ (set report a run page : List ℕ) (answer : Written) (a' run' page' : 
   unfolding tooSmall
   shows h k l p = record {
     counts = on-page (printed .0) page page' answer (printed .1) .0;
-    shown = λ v j. on-page _ page page' answer (p .judged enough v j .0) .1;
+    shown = λ bytes t. on-page bytes page page' answer (p .printed enough bytes t) .1;
   }
     where
       enough : tooSmall a run page ≡ false

@@ -11,4 +11,6 @@ pub mod FilingStored
 pub mod FilingAlike
 pub mod FilingNumbers
 pub mod FilingOpens
+pub mod BuiltSet
 pub mod FromBytes
+pub mod Demand2Whole

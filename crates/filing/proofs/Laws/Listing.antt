@@ -1,6 +1,7 @@
 pub mod Numbers
 pub mod Pages
 pub mod PrintedOnce
+pub mod PrintedText
 pub mod PrintedXPath
 pub mod Printing
 pub mod Same

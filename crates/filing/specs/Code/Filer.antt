@@ -1,13 +1,26 @@
--- What is printed, by what is stored: a listing of what was filed, or a refusal's line.
+-- What is printed, as equations: by what filing says, and by what is stored.
 use Prim.Native.Nat.{ℕ, zero, suc}
 use mathlib.Core.Path.{_≡_}
 use mathlib.Core.List.{List}
+use Rattle.notation.specs.Sets.{FolderSet}
+use Rattle.notation.specs.Refusals.{numberOf}
 use Rattle.stored.specs.RunCalls.{noCounters}
 use Rattle.stored.specs.declared.answers.Written.{Written}
 use Rattle.stored.specs.declared.counters.Counters.{Counters}
-use Rattle.filing.specs.FileCall.{fileAnswer, fileLeft}
+use Rattle.filing.specs.Code.FileCall.{fileAnswer, fileLeft}
+use Rattle.filing.specs.Filing.{Filed, refused, filed, fileReport}
+use Rattle.filing.specs.Listing.{listing, refusedLine}
 use Rattle.filing.specs.Listed.{ListingWritten, RefusedWritten}
 
+abbrev pub printed : FolderSet → Filed → List ℕ
+printed set (refused r) = refusedLine (numberOf r)
+printed set (filed m) = listing set m
+
+-- what filing a report with an accepted set prints
+abbrev pub filerPrints : FolderSet → List ℕ → List ℕ
+filerPrints set report = printed set (fileReport set report)
+
+-- a listing of what was filed, or a refusal's line
 abbrev pub OutcomeWritten : ℕ → List ℕ → List ℕ → Counters → List ℕ → Written → List ℕ → Type 0
 OutcomeWritten zero a run c before answer after = ListingWritten a run c before answer after
 OutcomeWritten (suc n) a run c before answer after = RefusedWritten (suc n) before answer after

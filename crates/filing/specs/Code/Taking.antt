@@ -14,7 +14,8 @@ use Rattle.filing.specs.declared.tokens.Found.the-variants.{Nothing, Dec
 use Rattle.documents.specs.Tokens.{Token}
 use Rattle.documents.specs.Reading.{Read, fail, got}
 use Rattle.filing.specs.Seen.{foundEnd, declares}
-use Rattle.filing.specs.FileCall.{Outcome, refusedWith, leaving, numberLeft, thenGo, outcome, leftIn, openOutcome, closeOutcome, textOutcome, tokensOutcome}
+use Rattle.filing.specs.FileCall.{Outcome, refusedWith, leaving, thenGo, outcome, openOutcome, closeOutcome, textOutcome}
+use Rattle.filing.specs.Code.FileCall.{numberLeft, leftIn, tokensOutcome}
 
 -- refusal, run and counters as the code has them
 abbrev pub so : ℕ → List ℕ → Counters → Outcome

@@ -18,7 +18,8 @@ use Rattle.stored.specs.declared.counters.Counters.{Counters}
 use Rattle.documents.specs.Tokens.{listed}
 use Rattle.documents.specs.Document.{Event, opening, closing, textHere, commentHere}
 use Rattle.filing.specs.Limits.{maxReportBytes}
-use Rattle.filing.specs.FileCall.{Outcome, refusedWith, leaving, numberLeft, leftIn, reportOutcome, fileAnswer, fileLeft}
+use Rattle.filing.specs.FileCall.{Outcome, refusedWith, leaving}
+use Rattle.filing.specs.Code.FileCall.{numberLeft, leftIn, reportOutcome, fileAnswer, fileLeft}
 use Rattle.filing.specs.ReportRefusals.{reportConditions, eventConditions, RefusedReport, atOnce, noTokens, atEvent, atEnd}
 use Rattle.notation.proofs.Laws.Refused.Numbers.{some-number}
 use Rattle.filing.proofs.Laws.Demand1.Orders.{given-number}

@@ -16,6 +16,7 @@ use Rattle.theory.proofs.Laws.Basics.{cases}
 use Rattle.stored.specs.RunCalls.{depthOf, tooShort, startRefusal, openRun, openCounters, closeRun, closeCounters}
 use Rattle.stored.specs.Openable.{Usable}
 use Rattle.stored.specs.Demand3.{Left, started}
+use Rattle.stored.specs.declared.counters.Counters.{Counters}
 use Rattle.stored.proofs.Laws.Shapes.Given.{open-others, close-others}
 use Rattle.stored.proofs.Laws.Shapes.Kept.{start-usable, open-usable, close-usable}
 use Rattle.documents.specs.Tokens.{Token, blank, listed, RunOfTokens}
@@ -23,7 +24,8 @@ use Rattle.documents.specs.Reading.{Read, fail, got, readReport}
 use Rattle.documents.specs.Document.{Event, opening, closing, textHere, commentHere, eventsOfToken, eventsOf}
 use Rattle.documents.proofs.Laws.Read.ReadSound.{found-run, run-found, none-found}
 use Rattle.filing.specs.Limits.{maxReportBytes}
-use Rattle.filing.specs.FileCall.{Outcome, refusedWith, leaving, numberLeft, thenGo, outcome, eventOutcome, eventsOutcome, tokensOutcome, endOutcome, runOutcome, reportOutcome, fileAnswer}
+use Rattle.filing.specs.FileCall.{Outcome, refusedWith, leaving, thenGo, outcome, eventOutcome, eventsOutcome}
+use Rattle.filing.specs.Code.FileCall.{numberLeft, tokensOutcome, endOutcome, runOutcome, reportOutcome, fileAnswer, leftIn, fileLeft}
 use Rattle.filing.specs.ReportRefusals.{reportConditions, eventConditions, StopsAtEvent, unfinishedIn, RefusedReport, atOnce, noTokens, atEvent, atEnd, TakenReport}
 use Rattle.filing.proofs.Laws.Filing.FilingParts.{clash}
 use Rattle.filing.proofs.Laws.Filing.Taking.{go-same}
@@ -228,3 +230,22 @@ module _ (a run report : List ℕ) where
   taken-number t f =
       on (given-zero order (f .unmet))
       ∙ ap numberLeft (run-is a (started a run) report (f .tokens) ∙ ap (λ (o : Outcome). thenGo o endOutcome) (f .taken) ∙ end-is t false (f .finished))
+
+  -- what a report that is taken leaves
+  left-on : (c : Counters) → given order ≡ 0 → fileLeft a run c report ≡ leftIn (started a run) rest
+  unfolding startRefusal reportOutcome given first
+  left-on c = go (tooShort a run) (not (automatonShaped a)) (ltb maxReportBytes (length report)) (not (every listed report))
+    where
+      go : (b d e f : Bool) → given (gives b shortBuffer ∷ gives d strangeShape ∷ gives e oversize ∷ gives f foreignByte ∷ []) ≡ 0
+          → cond (eqb (given (gives b shortBuffer ∷ gives d strangeShape ∷ [])) 0) (leftIn (started a run) (cond e (refusedWith (numberOf oversize)) (cond f (refusedWith (numberOf foreignByte)) rest))) (record { bytes = run; counters = c })
+          ≡ leftIn (started a run) rest
+      go true d e f h = absurd (omega arith)
+      go false true e f h = absurd (omega arith)
+      go false false true f h = absurd (omega arith)
+      go false false false true h = absurd (omega arith)
+      go false false false false h = refl
+
+  pub taken-left : (c : Counters) (t : Left) → TakenReport a run report t → fileLeft a run c report ≡ t
+  taken-left c t f =
+      left-on c (given-zero order (f .unmet))
+      ∙ ap (leftIn (started a run)) (run-is a (started a run) report (f .tokens) ∙ ap (λ (o : Outcome). thenGo o endOutcome) (f .taken) ∙ end-is t false (f .finished))

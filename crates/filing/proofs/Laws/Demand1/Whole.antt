@@ -1,6 +1,6 @@
 -- Demand 1.
 use Prim.Native.Nat.{ℕ}
-use mathlib.Core.Path.{_≡_, refl, sym, ap, _∙_}
+use mathlib.Core.Path.{_≡_, refl, sym, ap, _∙_, subst}
 use mathlib.Core.Bool.{Bool, true, false, cond}
 use mathlib.Core.Logic.{_⊎_, inl, inr}
 use mathlib.Core.List.{List, [], _∷_}
@@ -15,7 +15,6 @@ use Rattle.notation.specs.Reads.{textOf, pathAt, folderOf}
 use Rattle.notation.specs.ReadSet.{readInto}
 use Rattle.notation.specs.WriteText.{textRefusal}
 use Rattle.notation.proofs.Laws.Refused.Numbers.{one-refusal, number-within, some-number}
-use Rattle.notation.proofs.Laws.Refused.Judging.{some-verdict}
 use Rattle.theory.specs.Order.{gives, given, AnswersBy}
 use Rattle.theory.proofs.Laws.Basics.{cases}
 use Rattle.theory.proofs.Laws.Machine.Order.{answers-by, given-none, given-cons}
@@ -24,18 +23,18 @@ use Rattle.stored.specs.Answers.{openedSays, writtenSays}
 use Rattle.stored.specs.Build.{builtInto, writeConditions, writeRefusal}
 use Rattle.stored.specs.RunCalls.{startConditions, startRefusal, startRun, noCounters, openConditions, openRefusal, openWalk, closeConditions, closeRefusal}
 use Rattle.stored.specs.Asking.{askConditions, askRefusal, hasPath, hasFolder, hasStep, hasDepth, askPath, askFolder, askStep, askPrefix, nameRefusal, askName}
-use Rattle.stored.specs.Demand3.{Left}
+use Rattle.stored.specs.Demand3.{Left, started}
 use Rattle.stored.specs.declared.counters.Counters.{Counters}
 use Rattle.stored.specs.declared.answers.Written.{Written}
 use Rattle.filing.specs.Limits.{listingSize}
-use Rattle.filing.specs.FileCall.{Files, fileAnswer}
-use Rattle.filing.specs.ReportRefusals.{RefusedReport, TakenReport}
+use Rattle.filing.specs.ReportRefusals.{RefusedReport, TakenReport, refusedLeft, Files}
 use Rattle.filing.specs.Listing.{refusedLine}
 use Rattle.filing.specs.Listed.{listingConditions, listingRefusal, listingIn, refusedRefusal}
-use Rattle.filing.specs.Filer.{tooSmall, printsFor, Prints}
+use Rattle.filing.specs.Filer.{tooSmall, Prints}
 use Rattle.filing.specs.Demand1.{ReportJudged, Demand1}
-use Rattle.filing.proofs.Laws.Demand1.ReportRefused.{file-decided, refused-number, taken-number}
-use Rattle.filing.proofs.Laws.Demand1.ReportLeaves.{ofLent, lent-leaves, own-leaves}
+use Rattle.filing.proofs.Laws.Demand1.ReportRefused.{file-decided}
+use Rattle.filing.proofs.Laws.Demand1.ReportFiles.{left-is}
+use Rattle.filing.proofs.Laws.Listing.PrintedText.{printed-text-some}
 use Rattle.filing.proofs.Laws.Demand1.Sets.{set-judged}
 use Rattle.filing.proofs.Laws.Demand1.Calls.{given-is, kept, some-given, some-said, written-by}
 
@@ -49,67 +48,61 @@ text-order part before = sym (alone (ltb (length before) (length (textOf part)))
 
 -- a report
 module _ (a run : List ℕ) (c : Counters) (report : List ℕ) (answer : ℕ) (run' : List ℕ) (c' : Counters) (f : Files a run c report answer run' c') where
-  lent-left : (r : Refusal) → answer ≡ numberOf r → ofLent r ≡ true → RefusedReport a run report r → (run' ≡ run) × (c' ≡ c)
-  lent-left r e l why =
-      let h = lent-leaves a run report c r (sym (f .answers) ∙ e) why l in
-      (f .runAfter ∙ ap (λ (t : Left). t .bytes) h, f .countersAfter ∙ ap (λ (t : Left). t .counters) h)
+  -- it is filed, or refused for a reason
+  data Outcome : Type 0 where
+    isTaken : (t : Left) → TakenReport a run report t → Outcome
+    isRefused : (r : Refusal) → RefusedReport a run report r → Outcome
 
-  own-left : (r : Refusal) → answer ≡ numberOf r → ofLent r ≡ false → RefusedReport a run report r → (run' ≡ startRun a run) × (c' ≡ noCounters)
-  own-left r e l why =
-      let h = own-leaves a run report c r (sym (f .answers) ∙ e) why l in
-      (f .runAfter ∙ ap (λ (t : Left). t .bytes) h, f .countersAfter ∙ ap (λ (t : Left). t .counters) h)
+  outcome : Outcome
+  outcome = elim (file-decided a run report) [
+    | inl (z, (t, w)) ↦ isTaken t w
+    | inr (r, n, w) ↦ isRefused r w
+  ]
 
-  abbrev Decided : Type 0
-  Decided = ((fileAnswer a run report ≡ 0) × ((t : Left) × TakenReport a run report t)) ⊎ ((r : Refusal) × (fileAnswer a run report ≡ numberOf r) × RefusedReport a run report r)
+  why : (r : Refusal) → answer ≡ numberOf r → Outcome → RefusedReport a run report r
+  why r e (isTaken t w) = absurd (some-number r (sym e ∙ f .takes t w .0))
+  why r e (isRefused q w) = subst (RefusedReport a run report) (one-refusal q r (sym (f .refuses q w .0) ∙ e)) w
 
-  why : (r : Refusal) → answer ≡ numberOf r → Decided → RefusedReport a run report r
-  why r e (inl (z, t)) = absurd (some-number r (sym e ∙ f .answers ∙ z))
-  why r e (inr (q, n, w)) = let same : q ≡ r = one-refusal q r (sym n ∙ sym (f .answers) ∙ e) in rw same at w
+  taken : answer ≡ 0 → Outcome → (t : Left) × TakenReport a run report t
+  taken e (isTaken t w) = (t, w)
+  taken e (isRefused r w) = absurd (some-number r (sym (f .refuses r w .0) ∙ e))
 
-  taken : answer ≡ 0 → Decided → (t : Left) × TakenReport a run report t
-  taken e (inl (z, t)) = t
-  taken e (inr (q, n, w)) = absurd (some-number q (sym n ∙ sym (f .answers) ∙ e))
-
-  judged-either : Decided → (answer ≡ 0) ⊎ ((r : Refusal) × (answer ≡ numberOf r))
-  judged-either (inl (z, t)) = inl (f .answers ∙ z)
-  judged-either (inr (q, n, w)) = inr (q, f .answers ∙ n)
-
-  is-lent : (r : Refusal) → (numberOf r ≡ numberOf shortBuffer) ⊎ (numberOf r ≡ numberOf strangeShape) → ofLent r ≡ true
-  is-lent r (inl e) = rw e
-  is-lent r (inr e) = rw e
-
-  is-own : (r : Refusal) → (numberOf r ≡ numberOf shortBuffer → ⊥) → (numberOf r ≡ numberOf strangeShape → ⊥) → ofLent r ≡ false
-  is-own r h k = rw (ne-eqb (numberOf r) (numberOf shortBuffer) h, ne-eqb (numberOf r) (numberOf strangeShape) k)
+  either-of : Outcome → (answer ≡ 0) ⊎ ((r : Refusal) × (answer ≡ numberOf r))
+  either-of (isTaken t w) = inl (f .takes t w .0)
+  either-of (isRefused r w) = inr (r, f .refuses r w .0)
 
   left-untouched : (answer ≡ numberOf shortBuffer) ⊎ (answer ≡ numberOf strangeShape) → (run' ≡ run) × (c' ≡ c)
-  left-untouched (inl e) = lent-left shortBuffer e refl (why shortBuffer e (file-decided a run report))
-  left-untouched (inr e) = lent-left strangeShape e refl (why strangeShape e (file-decided a run report))
+  left-untouched (inl e) = f .refuses shortBuffer (why shortBuffer e outcome) .1
+  left-untouched (inr e) = f .refuses strangeShape (why strangeShape e outcome) .1
 
-  left-fresh : (answer ≡ numberOf shortBuffer → ⊥) → (answer ≡ numberOf strangeShape → ⊥) → (answer ≡ 0 → ⊥) → Decided → (run' ≡ startRun a run) × (c' ≡ noCounters)
-  left-fresh h k n (inl (z, t)) = absurd (n (f .answers ∙ z))
-  left-fresh h k n (inr (r, e, w)) =
-      let is = f .answers ∙ e in
-      own-left r is (is-own r (λ x. h (is ∙ x)) (λ x. k (is ∙ x))) w
+  left-own : (r : Refusal) → (numberOf r ≡ numberOf shortBuffer → ⊥) → (numberOf r ≡ numberOf strangeShape → ⊥) → refusedLeft a run c r ≡ started a run
+  left-own r h k = left-is a run c r ∙ rw (ne-eqb (numberOf r) (numberOf shortBuffer) h, ne-eqb (numberOf r) (numberOf strangeShape) k)
+
+  left-fresh : (answer ≡ numberOf shortBuffer → ⊥) → (answer ≡ numberOf strangeShape → ⊥) → (answer ≡ 0 → ⊥) → Outcome → (run' ≡ startRun a run) × (c' ≡ noCounters)
+  left-fresh h k n (isTaken t w) = absurd (n (f .takes t w .0))
+  left-fresh h k n (isRefused r w) =
+      let (is, (p, q)) = f .refuses r w in
+      let l = left-own r (λ x. h (is ∙ x)) (λ x. k (is ∙ x)) in
+      (p ∙ ap (λ (t : Left). t .bytes) l, q ∙ ap (λ (t : Left). t .counters) l)
 
   report-judged : ReportJudged a run c report answer run' c'
   report-judged = record {
-    refusals = λ r. (λ e. why r e (file-decided a run report), λ w. f .answers ∙ refused-number a run report r w);
-    accepted = (λ e. taken e (file-decided a run report), λ t. f .answers ∙ taken-number a run report (t .0) (t .1));
-    either = judged-either (file-decided a run report);
+    refusals = λ r. (λ e. why r e outcome, λ w. f .refuses r w .0);
+    accepted = (λ e. taken e outcome, λ t. f .takes (t .0) (t .1) .0);
+    either = either-of outcome;
     untouched = left-untouched;
-    fresh = λ h k n. left-fresh h k n (file-decided a run report);
+    fresh = λ h k n. left-fresh h k n outcome;
   }
 
 -- the program's one call
 module _ (text report a run out : List ℕ) (answer : Written) (a' run' out' : List ℕ) (p : Prints text report a run out answer a' run' out') where
   printed-says : tooSmall a run out ≡ false → (n : ℕ) × (writtenSays answer ≡ value n)
-  printed-says h = let (v, j) = some-verdict text in
-      (length (printsFor v report), ap writtenSays (p .judged h v j .0 .answers))
+  printed-says h = let (bytes, t) = printed-text-some text report in (length bytes, p .printed h bytes t .answers)
 
   print-answers : AnswersBy (gives (tooSmall a run out) shortBuffer ∷ []) (writtenSays answer)
   print-answers =
       cases (tooSmall a run out)
-      (λ y. answers-by (gives (tooSmall a run out) shortBuffer ∷ []) 0 (writtenSays answer) (ap writtenSays (p .short y .0) ∙ rw (alone (tooSmall a run out) shortBuffer, y)))
+      (λ y. answers-by (gives (tooSmall a run out) shortBuffer ∷ []) 0 (writtenSays answer) (p .short y .0 ∙ rw (alone (tooSmall a run out) shortBuffer, y)))
       (λ n. let (k, e) = printed-says n in answers-by (gives (tooSmall a run out) shortBuffer ∷ []) k (writtenSays answer) (e ∙ rw (alone (tooSmall a run out) shortBuffer, n)))
 
   print-left : (numberSaid (writtenSays answer) ≡ 0 → ⊥) → (a' ≡ a) × ((run' ≡ run) × (out' ≡ out))

@@ -28,7 +28,8 @@ use Rattle.documents.specs.Tokens.{Token, listed}
 use Rattle.documents.specs.Reading.{Read, fail, got, readReport}
 use Rattle.documents.specs.Document.{Event, opening, closing, textHere, commentHere, eventsOfToken, eventsOf}
 use Rattle.filing.specs.Filing.{Filed, refused, filed, thenFile, unless, looseText, fileEvent, fileEvents, fileTokens, callsIn, unfinished, fileEnd, fileRun, fileReport}
-use Rattle.filing.specs.FileCall.{Outcome, refusedWith, leaving, thenGo, outcome, eventOutcome, eventsOutcome, tokensOutcome, endOutcome, runOutcome, reportOutcome}
+use Rattle.filing.specs.FileCall.{Outcome, refusedWith, leaving, thenGo, outcome, eventOutcome, eventsOutcome}
+use Rattle.filing.specs.Code.FileCall.{tokensOutcome, endOutcome, runOutcome, reportOutcome}
 use Rattle.filing.proofs.Laws.Filing.FilingParts.{clash}
 use Rattle.filing.proofs.Laws.Filing.FilingRun.{taken-after, tokens-events}
 

@@ -18,7 +18,6 @@ use Rattle.notation.specs.declared.FolderNumber.{FolderNumber}
 use Rattle.theory.specs.Calls.{Call, State, pathAt, fresh, run}
 use Rattle.theory.specs.History.{FittedAfterOpen}
 use Rattle.theory.specs.Folders.{placesOf, folderMatched, HasFolders}
-use Rattle.stored.specs.Automaton.{automatonOf}
 use Rattle.stored.specs.Run.{runSize, runOf}
 use Rattle.stored.specs.RunCalls.{startRefusal, startRun, noCounters}
 use Rattle.stored.specs.Asking.{askPath, askFolder}
@@ -27,7 +26,7 @@ use Rattle.stored.specs.declared.counters.Counters.{Counters}
 use Rattle.theory.proofs.Laws.Basics.{is-any}
 use Rattle.theory.proofs.Laws.Machine.Matches.{run-matched}
 use Rattle.theory.proofs.Laws.Machine.Moves.{Few, fresh-few}
-use Rattle.stored.proofs.Laws.Running.Means.{Means, means}
+use Rattle.stored.proofs.Laws.Running.Means.{Means}
 use Rattle.stored.proofs.Laws.Running.FolderPlaces.{hasNumber}
 use Rattle.stored.proofs.Laws.Running.Asking.{ask-folder}
 use Rattle.stored.proofs.Laws.Running.Following.{leftOf, few-run, start-left}
@@ -35,14 +34,17 @@ use Rattle.stored.proofs.Laws.Running.Demand3.{path-answers, folder-answers, st
 use Rattle.documents.specs.Document.{eventsOf, documentIn}
 use Rattle.filing.specs.Filing.{Filed, refused, filed, numberGiven, callsIn, fileReport}
 use Rattle.filing.specs.Demand2.{childlessIn, SelectsElement, FolderSelects, OfDocument}
-use Rattle.filing.specs.FileCall.{numberLeft, leftIn, fileLeft, Files}
+use Rattle.filing.specs.ReportRefusals.{Files}
+use Rattle.filing.specs.Code.FileCall.{numberLeft, leftIn, fileLeft, FilesBy}
 use Rattle.filing.specs.FiledReport.{FiledReport, reportNumbers, Demand2Bytes}
+use Rattle.filing.proofs.Laws.Filing.BuiltSet.{built-means}
 use Rattle.filing.proofs.Laws.Filing.FilingOrder.{refused-is, filed-is}
 use Rattle.filing.proofs.Laws.Filing.FilingAdded.{added}
 use Rattle.filing.proofs.Laws.Filing.FilingAlike.{same-number}
 use Rattle.filing.proofs.Laws.Filing.FilingOpens.{given-among}
 use Rattle.filing.proofs.Laws.Filing.FilingStored.{storedOf, report-stored}
 use Rattle.filing.proofs.Laws.Filing.Demand2.{of-document}
+use Rattle.filing.proofs.Laws.Demand1.ReportFiles.{by-equations}
 
 given-refused : (x : Filed) (r : Refusal) → numberGiven x ≡ numberOf r → x ≡ refused r
 given-refused (refused q) r e = ap refused (one-refusal q r e)
@@ -100,7 +102,7 @@ endOf s (filed m) = m
 
 -- what the call answers and leaves
 module _ (s : FolderSet) (a : List ℕ) (w : Means s a) (lent : List ℕ) (long : runSize ≤ length lent) (c : Counters) (report : List ℕ)
-    (answer : ℕ) (run' : List ℕ) (c' : Counters) (f : Files a lent c report answer run' c') where
+    (answer : ℕ) (run' : List ℕ) (c' : Counters) (f : FilesBy a lent c report answer run' c') where
   abbrev rest : List ℕ
   rest = drop runSize lent
 
@@ -182,13 +184,11 @@ same-matched s larger text report acc has f i (filed m) e =
     let d = added s larger text report acc has m e in
     rw (d .isFiled) (sym (d .same f i))
 
--- of every accepted set, whatever stands behind its automaton, every run lent of the size of a run or more, and every report
-pub demand2-bytes : (text : List ℕ) (s : FolderSet) → Accepted text s → (behind lent : List ℕ) → runSize ≤ length lent → (c : Counters) (report : List ℕ)
-    (answer : ℕ) (run' : List ℕ) (c' : Counters) → Files (automatonOf s ++ behind) lent c report answer run' c'
-    → Demand2Bytes s (automatonOf s ++ behind) report lent answer run' c'
-demand2-bytes text s acc behind lent long c report answer run' c' f =
-    let a = automatonOf s ++ behind in
-    let w = means text s acc behind in
+-- of every set and its automaton, every run lent of the size of a run or more, and every report
+pub demand2-bytes : (s : FolderSet) (a : List ℕ) → Means s a → (lent : List ℕ) → runSize ≤ length lent → (c : Counters) (report : List ℕ)
+    (answer : ℕ) (run' : List ℕ) (c' : Counters) → Files a lent c report answer run' c' → Demand2Bytes s a report lent answer run' c'
+demand2-bytes s a w lent long c report answer run' c' files =
+    let f = by-equations a lent c report answer run' c' files in
     let is = answer-is s a w lent long c report answer run' c' f in
     record {
       refusals = λ r. (
@@ -204,14 +204,14 @@ demand2-bytes text s acc behind lent long c report answer run' c' f =
       filedLeaves = λ e.
           let (m, h) = given-filed (fileReport s report) (sym is ∙ e) in
           filed-leaves s a w lent long c report answer run' c' f m h;
-      adding = λ text₂ larger acc₂ has behind₂ lent₂ long₂ c₂ other run₂ c₃ g.
-          let b = automatonOf larger ++ behind₂ in
-          let v = means text₂ larger acc₂ behind₂ in
+      adding = λ text before b larger acc has built lent₂ long₂ c₂ other run₂ c₃ more.
+          let g = by-equations b lent₂ c₂ report other run₂ c₃ more in
+          let v = built-means text larger acc before b built in
           record {
             answers = answer-is larger b v lent₂ long₂ c₂ report other run₂ c₃ g ∙ same-number larger s report ∙ sym is;
             folders = λ x i.
                 folder-asked larger b v lent₂ long₂ c₂ report other run₂ c₃ g x (has x i)
-                ∙ ap value (same-matched s larger text₂ report acc₂ has x i (fileReport s report) refl)
+                ∙ ap value (same-matched s larger text report acc has x i (fileReport s report) refl)
                 ∙ sym (folder-asked s a w lent long c report answer run' c' f x i);
           };
     }

@@ -29,7 +29,8 @@ use Rattle.documents.specs.Reading.{Read, fail, got, thenRead, readToken, readR
 use Rattle.documents.specs.Document.{eventsOfToken}
 use Rattle.filing.specs.Seen.{shown, foundOf, foundEnd, declares}
 use Rattle.filing.specs.Code.Seen.{tagName, nameOfToken}
-use Rattle.filing.specs.FileCall.{Outcome, refusedWith, leaving, thenGo, openOutcome, closeOutcome, textOutcome, eventsOutcome, tokensOutcome, endOutcome, runOutcome, reportOutcome, Files}
+use Rattle.filing.specs.FileCall.{Outcome, refusedWith, leaving, thenGo, openOutcome, closeOutcome, textOutcome, eventsOutcome}
+use Rattle.filing.specs.Code.FileCall.{tokensOutcome, endOutcome, runOutcome, reportOutcome, FilesBy}
 use Rattle.filing.specs.Code.Taking.{so, Takes, Leaves, foundOutcome, tornAt, runFrom}
 use Rattle.filing.proofs.Laws.Read.Next.{tokensFrom, token-next, from-end, from-torn, from-late, from-next}
 use Rattle.filing.proofs.Laws.Read.RunAt.{shown-end, shown-declares}
@@ -255,7 +256,7 @@ module _ (a : List ℕ) (t : Left) (s : List ℕ) where
 
 -- the start, and then the report
 pub filed-refused : (a run : List ℕ) (c : Counters) (report : List ℕ) (n : ℕ) (run' : List ℕ) (c' : Counters) → Starts a run c n run' c' → (n ≡ 0 → ⊥)
-    → Files a run c report n run' c'
+    → FilesBy a run c report n run' c'
 filed-refused a run c report n run' c' s h =
     let no : eqb (startRefusal a run) 0 ≡ false = ne-eqb _ _ (λ z. h (s .answers ∙ z)) in
     record { answers = rw no (s .answers); runAfter = rw no (rw no at (s .runAfter)); countersAfter = rw no (rw no at (s .countersAfter)) }
@@ -263,7 +264,7 @@ filed-refused a run c report n run' c' s h =
 pub filed-on : (a run : List ℕ) (c : Counters) (report : List ℕ) (n₁ : ℕ) (run₁ : List ℕ) (c₁ : Counters) (n : ℕ) (run' : List ℕ) (c' : Counters)
     → Starts a run c n₁ run₁ c₁ → n₁ ≡ 0
     → Leaves (record { bytes = run₁; counters = noCounters }) (reportOutcome a (record { bytes = run₁; counters = noCounters }) report) n run' c'
-    → Files a run c report n run' c'
+    → FilesBy a run c report n run' c'
 filed-on a run c report n₁ run₁ c₁ n run' c' s z l =
     let yes : eqb (startRefusal a run) 0 ≡ true = eq-eqb _ _ (sym (s .answers) ∙ z) in
     let fresh : run₁ ≡ startRun a run = rw yes at (s .runAfter) in

@@ -12,7 +12,6 @@ use Rattle.notation.specs.Sets.{Path, folder, FolderSet}
 use Rattle.notation.specs.Form.{pathsOf}
 use Rattle.notation.specs.Print.{footer}
 use Rattle.notation.specs.Accepted.{Accepted}
-use Rattle.notation.specs.Judged.{accepts}
 use Rattle.theory.specs.Calls.{State, fresh, run as after}
 use Rattle.theory.proofs.Laws.Basics.{cases, clash}
 use Rattle.stored.specs.declared.answers.Written.{Written}
@@ -20,9 +19,10 @@ use Rattle.documents.specs.Tree.{Document}
 use Rattle.documents.specs.Document.{Event, eventsIn, documentIn}
 use Rattle.filing.specs.Filing.{Filed, refused, filed, callsIn, allAccepted, fileReport, FiledWith}
 use Rattle.filing.specs.Demand2.{SelectsElement, OfDocument}
-use Rattle.filing.specs.Listing.{filedHeader, matchedPaths, lineOf, linesFrom, movesLine, listing, printed, filerPrints}
+use Rattle.filing.specs.Listing.{filedHeader, matchedPaths, lineOf, linesFrom, movesLine, listing}
 use Rattle.filing.specs.Filer.{tooSmall, PrintsText, Prints}
-use Rattle.filing.specs.Printed.{Selecting, noPaths, chosen, left, LinesFor, noFolders, line, noLine, MovesIn, PrintedFor, PrintedOf, itsNumber, itsListing}
+use Rattle.filing.specs.Code.Filer.{printed, filerPrints}
+use Rattle.filing.specs.Printed.{Selecting, noPaths, chosen, left, LinesFor, noFolders, line, noLine, MovesIn, PrintedFor, PrintedOf, itsNumber, itsListing, ofSet}
 use Rattle.filing.proofs.Laws.Filing.FilingOrder.{refused-is, filed-is}
 use Rattle.filing.proofs.Laws.Filing.FilingMoves.{calls-moves}
 use Rattle.filing.proofs.Laws.Filing.Demand2.{of-document}
@@ -91,14 +91,13 @@ report-printed s report = go (fileReport s report) refl
 -- what is printed of an accepted set and any report
 module _ (text report a run out : List ℕ) (answer : Written) (a' run' out' : List ℕ) (p : Prints text report a run out answer a' run' out')
     (room : tooSmall a run out ≡ false) (s : FolderSet) (acc : Accepted text s) where
-  prints-text : PrintsText (filerPrints s report) out answer out'
-  prints-text = p .judged room (accepts s) acc .0
-
   pub prints-of : (bytes : List ℕ) × PrintedOf s report bytes × PrintsText bytes out answer out'
-  prints-of = (filerPrints s report, report-printed s report, prints-text)
+  prints-of =
+      let o = report-printed s report in
+      (filerPrints s report, o, p .printed room (filerPrints s report) (ofSet acc o))
 
   -- and of one that is filed
   pub prints-xpath : (m : State) → FiledWith s report m → (bytes : List ℕ) × PrintedFor s report bytes × PrintsText bytes out answer out'
   prints-xpath m f =
-      let is : filerPrints s report ≡ listing s m = ap (printed s) (filed-is s report m .1 f) in
-      (listing s m, listing-printed s report m f, rw is at prints-text)
+      let l = listing-printed s report m f in
+      (listing s m, l, p .printed room (listing s m) (ofSet acc (itsListing f l)))

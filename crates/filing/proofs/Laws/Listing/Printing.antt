@@ -12,29 +12,31 @@ use native.Mathlib.Omega.{arith}
 use Rattle.notation.specs.Sets.{FolderSet}
 use Rattle.notation.specs.Refusals.{Refusal, numberOf}
 use Rattle.notation.specs.Accepted.{Accepted}
-use Rattle.notation.specs.Judged.{Verdict, refuses, accepts, Judged, verdictNumber}
+use Rattle.notation.specs.Judged.{RefusedText, Verdict, refuses, accepts, Judged, verdictNumber}
 use Rattle.notation.proofs.Laws.Refused.Numbers.{number-within, some-number}
-use Rattle.notation.proofs.Laws.Refused.Judging.{some-verdict}
+use Rattle.theory.proofs.Laws.Basics.{clash}
 use Rattle.stored.specs.Automaton.{automatonOf, automatonSize}
 use Rattle.stored.specs.Run.{runSize}
 use Rattle.theory.specs.Order.{first, given}
 use Rattle.stored.specs.RunCalls.{noCounters}
 use Rattle.stored.specs.Build.{Built, builtInto}
 use Rattle.stored.specs.Demand3.{Left}
-use Rattle.notation.specs.Answers.{value}
-use Rattle.stored.specs.Answers.{writtenSays}
 use Rattle.stored.specs.declared.answers.Written.{Written}
 use Rattle.stored.specs.declared.counters.Counters.{Counters}
 use Rattle.stored.proofs.Laws.Running.Means.{Means, means}
 use Rattle.filing.specs.Limits.{listingSize}
 use Rattle.filing.specs.Filing.{Filed, refused, filed, numberGiven, fileReport}
-use Rattle.filing.specs.FileCall.{fileAnswer, fileLeft, Files}
+use Rattle.filing.specs.ReportRefusals.{Files}
+use Rattle.filing.specs.Code.FileCall.{fileAnswer, fileLeft, FilesBy}
 use Rattle.filing.specs.FiledReport.{Demand2Bytes}
-use Rattle.filing.specs.Listing.{listing, refusedLine, printed, filerPrints}
+use Rattle.filing.specs.Listing.{listing, refusedLine}
 use Rattle.filing.specs.Listed.{Writes, ListingWritten, refusedRefusal, RefusedWritten}
-use Rattle.filing.specs.Filer.{tooSmall, PrintsText, Prints, printsFor, runFor}
-use Rattle.filing.specs.Code.Filer.{OutcomeWritten, FiledAndListed}
+use Rattle.filing.specs.Printed.{PrintedText, ofRefusedSet, ofSet}
+use Rattle.filing.specs.Filer.{tooSmall, PrintsText, Prints}
+use Rattle.filing.specs.Code.Filer.{printed, filerPrints, OutcomeWritten, FiledAndListed}
+use Rattle.filing.proofs.Laws.Demand1.ReportFiles.{by-verdict, by-equations}
 use Rattle.filing.proofs.Laws.Filing.FromBytes.{answer-is, left-filed, few-end, demand2-bytes}
+use Rattle.filing.proofs.Laws.Listing.PrintedText.{printed-is, printed-text-some}
 use Rattle.filing.proofs.Laws.Listing.Whole.{listing-fits, listing-written}
 use Rattle.filing.proofs.Laws.Listing.Written.{refused-short}
 
@@ -58,16 +60,12 @@ module _ (a run out : List ℕ) (h : tooSmall a run out ≡ false) where
   out-room : listingSize ≤ length out
   out-room = ltb-false (length out) listingSize (none-small .1 .1)
 
-bytes-said : (answer : Written) (n : ℕ) → writtenSays answer ≡ value n → answer ≡ Written.Bytes n
-bytes-said (Written.Bytes k) n e = ap (λ (x : ℕ). Written.Bytes x) (cc)
-bytes-said (Written.Refused k) n e = absurd (let z : _≡_ {A = ℕ} 0 1 = cc in omega arith)
-
 -- a text no longer than a listing, in a buffer of a listing's size
 text-printed : (text out after : List ℕ) (answer : Written) → length text ≤ listingSize → listingSize ≤ length out → Writes 0 text out answer after
     → PrintsText text out answer after
 text-printed text out after answer fits room w = record {
   fits = fits;
-  answers = bytes-said answer (length text) (w .answers);
+  answers = w .answers;
   leaves = w .leaves ∙ (sets-eq text out 0 (omega arith) ∙ ap (λ (k : ℕ). text ++ drop k out) (zero-add (length text)));
 }
 
@@ -99,10 +97,16 @@ none-refused (suc n) a run c out after answer h w = absurd (omega arith)
 -- `file_and_list`
 pub filed-listed : (a run report out run' after : List ℕ) (n : ℕ) (c' : Counters) (answer : Written)
     → Files a run noCounters report n run' c' → OutcomeWritten n a run' c' out answer after → FiledAndListed a run report out answer run' after
-filed-listed a run report out run' after n c' answer f w = record {
-  runAfter = f .runAfter;
-  written = rw (f .answers, f .countersAfter) at w;
-}
+filed-listed a run report out run' after n c' answer files w =
+    let f = by-equations a run noCounters report n run' c' files in
+    record { runAfter = f .runAfter; written = rw (f .answers, f .countersAfter) at w }
+
+filed-run : (a run report out : List ℕ) (answer : Written) (run' after : List ℕ) → FiledAndListed a run report out answer run' after
+    → (n : ℕ) × (c' : Counters) × Files a run noCounters report n run' c'
+filed-run a run report out answer run' after f =
+    let n = fileAnswer a run report in
+    let c' = fileLeft a run noCounters report .counters in
+    (n, c', by-verdict a run noCounters report n run' c' (record { answers = refl; runAfter = f .runAfter; countersAfter = refl }))
 
 -- of an accepted set
 module _ (text : List ℕ) (s : FolderSet) (acc : Accepted text s) (behind run report : List ℕ) (long : runSize ≤ length run) where
@@ -115,7 +119,7 @@ module _ (text : List ℕ) (s : FolderSet) (acc : Accepted text s) (behind run r
   w : Means s a
   w = means text s acc behind
 
-  files : Files a run noCounters report (fileAnswer a run report) (left .bytes) (left .counters)
+  files : FilesBy a run noCounters report (fileAnswer a run report) (left .bytes) (left .counters)
   files = record { answers = refl; runAfter = refl; countersAfter = refl }
 
   number : fileAnswer a run report ≡ numberGiven (fileReport s report)
@@ -147,46 +151,61 @@ module _ (text : List ℕ) (s : FolderSet) (acc : Accepted text s) (behind run r
 -- `print_set`, and then `print_filing`
 module _ (text report a run out : List ℕ) where
   pub too-small : tooSmall a run out ≡ true → Prints text report a run out (Written.Refused 1) a run out
-  too-small h = record { short = λ _. (refl, (refl, (refl, refl))); judged = λ f. absurd (true≢false (sym h ∙ f)) }
+  too-small h = record {
+    short = λ _. (refl, (refl, (refl, refl)));
+    printed = λ f. clash h f;
+    built = λ f. clash h f;
+    kept = λ f. clash h f;
+    filed = λ f. clash h f;
+  }
 
   module _ (a' : List ℕ) (n : ℕ) (answer : Written) (h : tooSmall a run out ≡ false) (b : Built text a n a') where
-    built : (v : Verdict) → Judged text v → (n ≡ verdictNumber v) × (a' ≡ builtInto v a)
-    built = b .judged (automaton-room a run out h)
+    built-by : (v : Verdict) → Judged text v → (n ≡ verdictNumber v) × (a' ≡ builtInto v a)
+    built-by = b .judged (automaton-room a run out h)
 
-    pub set-refused : (n ≡ 0 → ⊥) → (after : List ℕ) → RefusedWritten n out answer after → Prints text report a run out answer a' run after
-    set-refused some after w = record { short = λ t. absurd (true≢false (sym t ∙ h)); judged = λ _. go }
-      where
-        go : (v : Verdict) → Judged text v → (PrintsText (printsFor v report) out answer after) × ((a' ≡ builtInto v a) × (run ≡ runFor v a' run report))
-        go (refuses r) j =
-            let x = built (refuses r) j in (
-              line-printed r out after answer (out-room a run out h) (subst (λ (k : ℕ). RefusedWritten k out answer after) (x .0) w),
-              (x .1, refl),
-            )
-        go (accepts s) acc = absurd (some (built (accepts s) acc .0))
+    module _ (some : n ≡ 0 → ⊥) (after : List ℕ) (w : RefusedWritten n out answer after) where
+      refused-printed : (bytes : List ℕ) → PrintedText text report bytes → PrintsText bytes out answer after
+      refused-printed bytes (ofRefusedSet {r = r} j) =
+          line-printed r out after answer (out-room a run out h) (subst (λ (k : ℕ). RefusedWritten k out answer after) (built-by (refuses r) j .0) w)
+      refused-printed bytes (ofSet {s = s} acc p) = absurd (some (built-by (accepts s) acc .0))
 
-    pub set-filed : n ≡ 0 → (run' after : List ℕ) → FiledAndListed a' run report out answer run' after → Prints text report a run out answer a' run' after
-    set-filed z run' after f = record { short = λ t. absurd (true≢false (sym t ∙ h)); judged = λ _. go }
-      where
-        go : (v : Verdict) → Judged text v → (PrintsText (printsFor v report) out answer after) × ((a' ≡ builtInto v a) × (run' ≡ runFor v a' run report))
-        go (refuses r) j = absurd (some-number r (sym (built (refuses r) j .0) ∙ z))
-        go (accepts s) acc =
-            let e = built (accepts s) acc .1 in
-            let g = subst (λ (x : List ℕ). FiledAndListed x run report out answer run' after) e f in (
-              filing-printed text s acc (drop automatonSize a) run report (run-room a run out h) out after answer (out-room a run out h) run' g,
-              (e, f .runAfter),
-            )
+      pub set-refused : Prints text report a run out answer a' run after
+      set-refused = record {
+        short = λ t. clash t h;
+        printed = λ _. refused-printed;
+        built = λ _ v j. built-by v j .1;
+        kept = λ _ r j. refl;
+        filed = λ _ s acc. absurd (some (built-by (accepts s) acc .0));
+      }
+
+    module _ (z : n ≡ 0) (run' after : List ℕ) (f : FiledAndListed a' run report out answer run' after) where
+      none-of : (r : Refusal) → RefusedText text r → ⊥
+      none-of r j = some-number r (sym (built-by (refuses r) j .0) ∙ z)
+
+      set-printed : (bytes : List ℕ) → PrintedText text report bytes → PrintsText bytes out answer after
+      set-printed bytes (ofRefusedSet {r = r} j) = absurd (none-of r j)
+      set-printed bytes (ofSet {s = s} acc p) =
+          let g = subst (λ (x : List ℕ). FiledAndListed x run report out answer run' after) (built-by (accepts s) acc .1) f in
+          subst (λ (x : List ℕ). PrintsText x out answer after) (printed-is s report bytes p)
+          (filing-printed text s acc (drop automatonSize a) run report (run-room a run out h) out after answer (out-room a run out h) run' g)
+
+      pub set-filed : Prints text report a run out answer a' run' after
+      set-filed = record {
+        short = λ t. clash t h;
+        printed = λ _. set-printed;
+        built = λ _ v j. built-by v j .1;
+        kept = λ _ r j. absurd (none-of r j);
+        filed = λ _ s acc. filed-run a' run report out answer run' after f;
+      }
 
   module _ (answer : Written) (a' run' out' : List ℕ) (p : Prints text report a run out answer a' run' out') (h : tooSmall a run out ≡ false) where
     -- in buffers of their sizes a text is printed
     pub some-printed : (shown : List ℕ) × PrintsText shown out answer out'
-    some-printed = let (v, j) = some-verdict text in (printsFor v report, p .judged h v j .0)
+    some-printed = let (bytes, t) = printed-text-some text report in (bytes, p .printed h bytes t)
 
     -- an accepted set's printed call is demand 2's filing
-    pub demand2-printed : (s : FolderSet) → Accepted text s
-        → Demand2Bytes s a' report run (fileAnswer a' run report) run' (fileLeft a' run noCounters report .counters)
+    pub demand2-printed : (s : FolderSet) → Accepted text s → (n : ℕ) × (c' : Counters) × Demand2Bytes s a' report run n run' c'
     demand2-printed s acc =
-        let q = p .judged h (accepts s) acc in
-        let left = fileLeft (automatonOf s ++ drop automatonSize a) run noCounters report in
-        rw (q .1 .1, q .1 .0)
-        (demand2-bytes text s acc (drop automatonSize a) run (run-room a run out h) noCounters report _ (left .bytes) (left .counters)
-        (record { answers = refl; runAfter = refl; countersAfter = refl }))
+        let (n, c', files) = p .filed h s acc in
+        let w = subst (Means s) (sym (p .built h (accepts s) acc)) (means text s acc (drop automatonSize a)) in
+        (n, c', demand2-bytes s a' w run (run-room a run out h) noCounters report n run' c' files)

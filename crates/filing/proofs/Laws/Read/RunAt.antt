@@ -11,7 +11,8 @@ use lib.ListN.{length, drop}
 use Rattle.filing.specs.declared.tokens.Found.{Found}
 use Rattle.documents.specs.Tokens.{Token, declaration, comment, startTag, emptyTag, endTag, text, isDeclaration, RunOfTokens}
 use Rattle.documents.specs.Reading.{Read, fail, got, thenRead, readToken, readReport}
-use Rattle.filing.specs.Seen.{shown, foundOf, foundEnd, declares, isGot}
+use Rattle.filing.specs.Seen.{shown, foundOf, foundEnd, declares}
+use Rattle.filing.specs.Code.Seen.{isGot}
 use Rattle.documents.proofs.Laws.Read.ReadSound.{found-run, run-found}
 use Rattle.filing.proofs.Laws.Read.Next.{tokensFrom, token-next, from-end, from-torn, from-late, from-next}
 
@@ -22,6 +23,9 @@ run-is bytes = (λ t. from (readReport bytes) refl t, λ run. ap isGot (run-foun
     from : (m : Read (List Token)) → readReport bytes ≡ m → isGot m ≡ true → RunOfTokens bytes
     from fail e t = absurd (false≢true t)
     from (got ts r) e t = found-run bytes ts r e
+
+pub run-told : (bytes : List ℕ) (b : Bool) → b ≡ isGot (readReport bytes) → (b ≡ true) ↔ RunOfTokens bytes
+run-told bytes b e = (λ t. run-is bytes .0 (sym e ∙ t), λ run. e ∙ run-is bytes .1 run)
 
 pub shown-end : (t : Token) (at e : ℕ) → foundEnd (shown t at e) ≡ e
 shown-end declaration at e = refl

@@ -11,7 +11,7 @@ use mir.Syntax.{tyInt, w8}
 use mir.Val.{vint}
 use denote.Plain.{uint-makes, uint-lawful}
 use denote.Builtin.{u8}
-use Rattle.filing.specs.FileCall.{Files}
+use Rattle.filing.specs.ReportRefusals.{Files}
 use Rattle.machine.proofs.Laws.Lent.{lent-meets}
 use Rattle.filing.proofs.report.Taken as S
 use Rattle.filing.proofs.report.Taken.Laws as S′
