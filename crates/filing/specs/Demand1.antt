@@ -8,6 +8,7 @@ use mathlib.Core.Logic.{_↔_, _⊎_}
 use mathlib.Core.List.{List, [], _∷_}
 use lib.Dec.{ltb}
 use lib.ListN.{length}
+use denote.Ref.{RefT, now}
 use Rattle.notation.specs.Names.{Name}
 use Rattle.notation.specs.Sets.{FolderSet}
 use Rattle.notation.specs.Refusals.{Refusal, shortBuffer, strangeShape, numberOf}
@@ -27,7 +28,7 @@ use Rattle.stored.specs.Answers.{openedSays, askedSays, lengthSays, writtenSays
 use Rattle.stored.specs.Build.{Built, SetWritten, writeConditions}
 use Rattle.stored.specs.RunCalls.{startConditions, openConditions, closeConditions, startRun, noCounters}
 use Rattle.stored.specs.RunContracts.{Starts, Opens, Closes}
-use Rattle.stored.specs.Asking.{askConditions, hasPath, hasFolder, hasStep, hasDepth, askPath, askFolder, askStep, askPrefix, nameRefusal, askName}
+use Rattle.stored.specs.Asking.{askConditions, hasPath, hasFolder, hasStep, hasDepth, askPath, askFolder, askStep, askPrefix, nameRefusal, OpenName}
 use Rattle.stored.specs.Demand3.{Left}
 use Rattle.stored.specs.declared.counters.Counters.{Counters}
 use Rattle.stored.specs.declared.answers.Opened.{Opened}
@@ -89,8 +90,8 @@ pub record Demand1 : Type 0 where
   pub steps : (a run : List ℕ) (place : PathPlace) (s : ℕ) (answer : Asked) → askedSays answer ≡ askStep a run place s
       → AnswersBy (askConditions a run (hasStep (pathAt a place) s)) (askedSays answer)
   pub prefixes : (a run : List ℕ) (answer : Length) → lengthSays answer ≡ askPrefix a run → AnswersBy (askConditions a run true) (lengthSays answer)
-  pub names : (a run : List ℕ) (d number : ℕ) (shown : Name) → number ≡ nameRefusal a run d → shown ≡ askName a run d
-      → GivenBy (askConditions a run (hasDepth run d)) number × IfRefused number (shown ≡ [])
+  pub names : (a : List ℕ) (run : RefT (List ℕ)) (d number : ℕ) (shown : RefT (List ℕ)) → number ≡ nameRefusal a (now run) d → OpenName a run d shown
+      → GivenBy (askConditions a (now run) (hasDepth (now run) d)) number × IfRefused number (now shown ≡ [])
   -- a report is filed, listed, and both as one call
   pub files : (a run : List ℕ) (c : Counters) (report : List ℕ) (answer : ℕ) (run' : List ℕ) (c' : Counters) → Files a run c report answer run' c'
       → ReportJudged a run c report answer run' c'

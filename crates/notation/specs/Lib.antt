@@ -8,6 +8,7 @@ pub mod Form
 pub mod Accepted
 pub mod Judged
 pub mod Layout
+pub mod Part
 pub mod Reads
 pub mod ReadSet
 pub mod Answers

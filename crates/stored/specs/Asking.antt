@@ -1,9 +1,12 @@
 -- What the asking calls say, of any automaton and run, by what is stored: the refusal's number, or the answer. They change nothing.
 use Prim.Native.Nat.{ℕ, _+_, _-_}
+use mathlib.Core.Path.{_≡_}
 use mathlib.Core.Bool.{Bool, true, false, not, _&&_, cond}
 use mathlib.Core.List.{List, [], _∷_}
 use lib.Dec.{eqb}
+use denote.Ref.{RefT, now}
 use Rattle.notation.specs.Names.{Name, within}
+use Rattle.notation.specs.Part.{PartOf}
 use Rattle.notation.specs.Reads.{pathAt, folderOf}
 use Rattle.notation.specs.Answers.{Answer, said}
 use Rattle.notation.specs.Refusals.{shortBuffer, strangeShape, noSuchPlace}
@@ -18,7 +21,8 @@ use Rattle.theory.specs.Order.{Condition, gives, given}
 use Rattle.stored.specs.Tables.{sizeOf}
 use Rattle.stored.specs.Shape.{automatonShaped}
 use Rattle.stored.specs.HeldSet.{folderHeld}
-use Rattle.stored.specs.RunCalls.{depthOf, storedName, stateAt, activeAt, matchedAt, runShaped, tooShort}
+use Rattle.stored.specs.Run.{nameIn, rowAt}
+use Rattle.stored.specs.RunCalls.{depthOf, nameLength, storedName, stateAt, activeAt, matchedAt, runShaped, tooShort}
 
 -- 1, 14 (automaton and run), then 13 where what is asked of is not there
 abbrev pub askConditions : List ℕ → List ℕ → Bool → List Condition
@@ -92,3 +96,12 @@ nameRefusal a run d = askRefusal a run (hasDepth run d)
 
 unfoldable pub askName : List ℕ → List ℕ → ℕ → Name
 askName a run d = cond (eqb (nameRefusal a run d) 0) (storedName run d) []
+
+-- r is the name in the row of a depth, where it stands in the run
+abbrev pub RowName : RefT (List ℕ) → ℕ → RefT (List ℕ) → Type 0
+RowName run d r = PartOf run (rowAt d + nameIn) (rowAt d + nameIn + nameLength (now run) d) r
+
+-- what hands back the open name at a depth: its part of the run, where it stands, or an empty part if refused
+pub record OpenName (a : List ℕ) (run : RefT (List ℕ)) (d : ℕ) (r : RefT (List ℕ)) : Type 0 where
+  pub shown : nameRefusal a (now run) d ≡ 0 → RowName run d r
+  pub empty : (nameRefusal a (now run) d ≡ 0 → ⊥) → PartOf run 0 0 r

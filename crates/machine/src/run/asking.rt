@@ -23,7 +23,7 @@ ghost use Rattle.notation.specs.Reads.{pathAt};
 ghost use Rattle.stored.specs.Answers.{askedSays, lengthSays};
 ghost use Rattle.stored.specs.Openable.{Ready};
 ghost use Rattle.stored.specs.RunCalls.{depthOf, activeAt};
-ghost use Rattle.stored.specs.Asking.{hasPath, askRefusal, askPath, askFolder, askStep, askPrefix, askName, nameRefusal};
+ghost use Rattle.stored.specs.Asking.{hasPath, askRefusal, askPath, askFolder, askStep, askPrefix, nameRefusal, OpenName};
 
 fn answer(refused: u8, yes: bool) -> Asked
     ensures { λ r. ⌜ askedSays r ≡ said refused yes ⌝ }
@@ -127,7 +127,7 @@ pub fn name_refusal(a: &[u8], run: &[u8], d: usize) -> u8
 
 // The open name at a depth, from 1: a part of the run, empty if refused.
 pub fn open_name<'a, 'r>(a: &'a [u8], run: &'r [u8], d: usize) -> &'r [u8]
-    ensures { λ r. ⌜ now r ≡ askName (now (a .entry)) (now (run .entry)) d ⌝ }
+    ensures { λ r. ⌜ OpenName (now (a .entry)) (run .entry) d r ⌝ }
 {
     if name_refusal(a, run, d) != 0 {
         return &run[..0];

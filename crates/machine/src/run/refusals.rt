@@ -14,8 +14,8 @@ ghost use mathlib.Core.Bool.{_&&_};
 ghost use Prim.Native.Nat.{_≤_};
 ghost use Rattle.stored.specs.Shape.{automatonShaped};
 ghost use Rattle.theory.specs.Order.{given};
-ghost use Rattle.stored.specs.RunCalls.{depthOf, storedName, runShaped, shaped, rootShut, lentConditions, nameConditions, openOthers, closeOthers};
-ghost use Rattle.stored.specs.Asking.{askRefusal};
+ghost use Rattle.stored.specs.RunCalls.{depthOf, runShaped, shaped, rootShut, lentConditions, nameConditions, openOthers, closeOthers};
+ghost use Rattle.stored.specs.Asking.{askRefusal, RowName};
 ghost use Rattle.stored.specs.Openable.{Ready};
 
 // Automaton and run pass the shape test.
@@ -38,10 +38,10 @@ fn all_shaped(a: &[u8], run: &[u8], c: Counters) -> bool
     false
 }
 
-// The name in the row of an open element.
+// The name in the row of an open element, where it stands.
 pub fn stored_name<'a, 'r>(a: &'a [u8], run: &'r [u8], d: usize) -> &'r [u8]
     requires { ⌜ (Ready (now a) (now run)) × (d ≤ depthOf (now run)) ⌝ }
-    ensures { λ r. ⌜ now r ≡ storedName (now (run .entry)) d ⌝ }
+    ensures { λ r. ⌜ RowName (run .entry) d r ⌝ }
 {
     let from = rows::row_at(d) + NAME_IN;
     let to = from + rows::name_length(run, d);

@@ -11,6 +11,7 @@ pub mod Starting
 pub mod Written
 pub mod Marked
 pub mod Answered
+pub mod OpenName
 pub mod Asking
 pub mod Means
 pub mod HeldSet

@@ -6,8 +6,8 @@ use mathlib.Core.Logic.{_⊎_, inl, inr}
 use mathlib.Core.List.{List, [], _∷_}
 use lib.Dec.{ltb}
 use lib.ListN.{length}
+use denote.Ref.{now}
 use borrow.Author.Tests.{ne-eqb}
-use Rattle.notation.specs.Names.{Name}
 use Rattle.notation.specs.Refusals.{Refusal, shortBuffer, strangeShape, numberOf}
 use Rattle.notation.specs.Answers.{value, numberSaid}
 use Rattle.notation.specs.Layout.{setSize}
@@ -22,8 +22,9 @@ use Rattle.stored.specs.Automaton.{automatonSize}
 use Rattle.stored.specs.Answers.{openedSays, writtenSays}
 use Rattle.stored.specs.Build.{builtInto, writeConditions, writeRefusal}
 use Rattle.stored.specs.RunCalls.{startConditions, startRefusal, startRun, noCounters, openConditions, openRefusal, openWalk, closeConditions, closeRefusal}
-use Rattle.stored.specs.Asking.{askConditions, askRefusal, hasPath, hasFolder, hasStep, hasDepth, askPath, askFolder, askStep, askPrefix, nameRefusal, askName}
+use Rattle.stored.specs.Asking.{askConditions, askRefusal, hasPath, hasFolder, hasStep, hasDepth, askPath, askFolder, askStep, askPrefix, nameRefusal}
 use Rattle.stored.specs.Demand3.{Left, started}
+use Rattle.stored.proofs.Laws.Running.OpenName.{no-name}
 use Rattle.stored.specs.declared.counters.Counters.{Counters}
 use Rattle.stored.specs.declared.answers.Written.{Written}
 use Rattle.filing.specs.Limits.{listingSize}
@@ -108,11 +109,6 @@ module _ (text report a run out : List ℕ) (answer : Written) (a' run' out' : L
   print-left : (numberSaid (writtenSays answer) ≡ 0 → ⊥) → (a' ≡ a) × ((run' ≡ run) × (out' ≡ out))
   print-left h = cases (tooSmall a run out) (λ y. p .short y .1) (λ n. absurd (h (ap numberSaid (printed-says n .1))))
 
-module _ (a run : List ℕ) where
-  named : (d number : ℕ) (shown : Name) → number ≡ nameRefusal a run d → shown ≡ askName a run d → (number ≡ 0 → ⊥) → shown ≡ []
-  unfolding askName
-  named d number shown e s n = s ∙ kept (nameRefusal a run d) _ [] (some-given (nameRefusal a run d) number e n)
-
 pub demand1 : Demand1
 unfolding writeRefusal startRefusal openRefusal closeRefusal askRefusal askPath askFolder askStep askPrefix nameRefusal listingRefusal refusedRefusal
 demand1 = record {
@@ -139,7 +135,7 @@ demand1 = record {
   folders = λ a run number answer e. answers-by (askConditions a run (hasFolder (folderOf a number))) _ _ e;
   steps = λ a run place s answer e. answers-by (askConditions a run (hasStep (pathAt a place) s)) _ _ e;
   prefixes = λ a run answer e. answers-by (askConditions a run true) _ _ e;
-  names = λ a run d number shown e s. (given-is (askConditions a run (hasDepth run d)) number e, named a run d number shown e s);
+  names = λ a run d number shown e o. (given-is (askConditions a (now run) (hasDepth (now run) d)) number e, λ n. no-name run shown (o .empty (λ z. n (e ∙ z))));
   files = report-judged;
   lists = λ a run c before answer after w. written-by (listingConditions a run c before) (listingIn a run c) before (writtenSays answer) after w;
   listsRefusal = λ n before answer after w. written-by (gives (ltb (length before) listingSize) shortBuffer ∷ []) (refusedLine n) before (writtenSays answer) after w;

@@ -1,19 +1,15 @@
 -- A build that answers 0 left the automaton of its set.
 use Prim.Native.Nat.{ℕ}
-use native.Mathlib.Omega.{arith}
 use mathlib.Core.Path.{_≡_, sym, subst}
 use mathlib.Core.List.{List, _++_}
-use lib.Dec.{ltb}
-use lib.ListN.{length, take, drop}
+use lib.ListN.{take, drop}
 use lib.Seq.{take-at}
-use borrow.Author.Tests.{ltb-true, ltb-false}
 use Rattle.notation.specs.Sets.{FolderSet}
 use Rattle.notation.specs.Accepted.{Accepted}
-use Rattle.notation.specs.Judged.{accepts}
 use Rattle.notation.proofs.Laws.Refused.AcceptedSet.{accepted-fits}
-use Rattle.theory.proofs.Laws.Basics.{cases}
 use Rattle.stored.specs.Automaton.{automatonSize, allLabels, heads, links, masks, startState, automatonOf}
 use Rattle.stored.specs.Build.{Built}
+use Rattle.stored.proofs.Laws.Building.Built.{built-is}
 use Rattle.stored.proofs.Laws.Tables.Assembled.{assembled-length}
 use Rattle.stored.proofs.Laws.Tables.Compiled.{automaton-sized}
 use Rattle.stored.proofs.Laws.Running.Means.{Means, means}
@@ -28,10 +24,7 @@ module _ (text : List ℕ) (s : FolderSet) (acc : Accepted text s) where
 
   module _ (before a : List ℕ) (b : Built text before 0 a) where
     pub built-automaton : a ≡ automatonOf s ++ drop automatonSize before
-    built-automaton =
-        cases (ltb (length before) automatonSize)
-        (λ y. let one = b .short (ltb-true (length before) automatonSize y) .0 in absurd (omega arith))
-        (λ n. b .judged (ltb-false (length before) automatonSize n) (accepts s) acc .1)
+    built-automaton = built-is text before a s acc b
 
     pub built-means : Means s a
     built-means = subst (Means s) (sym built-automaton) (means text s acc (drop automatonSize before))

@@ -16,7 +16,6 @@ use Rattle.notation.specs.Answers.{Answer, value, said}
 use Rattle.notation.proofs.Laws.Said.{said-refused}
 use Rattle.notation.proofs.Laws.Refused.Numbers.{some-number}
 use Rattle.notation.specs.Fit.{nameAt, Active}
-use Rattle.notation.specs.Accepted.{Accepted}
 use Rattle.notation.specs.Refusals.{Refusal, numberOf}
 use Rattle.notation.specs.declared.PathPlace.{PathPlace}
 use Rattle.notation.specs.declared.FolderNumber.{FolderNumber}

@@ -1,6 +1,7 @@
-use mathlib.Core.Path.{sym, _∙_}
-use borrow.Author.Tests.{eq-eqb, ne-eqb}
-use Rattle.stored.specs.Asking.{nameRefusal, askName, hasDepth}
+use Prim.Native.Nat.{ℕ}
+use native.Mathlib.Nat.{add-zero}
+use mathlib.Core.Path.{refl, sym, ap, _∙_}
+use Rattle.stored.specs.Asking.{nameRefusal, hasDepth}
 use Rattle.stored.specs.RunCalls.{depthOf}
 use Rattle.stored.proofs.Laws.Shapes.Given.{may-ask}
 use Rattle.stored.proofs.Laws.Running.Answered.{depth-low}
@@ -15,8 +16,10 @@ slice-aggregate-result : tie.Need-slice-aggregate-result
 slice-aggregate-result c = search needs
 
 returns : tie.Need-returns
-unfolding askName
-returns c = rw (ne-eqb _ _ (λ z. c .before .if1 .taken (c .before .before .name-refusal .ensures ∙ z)))
+returns c = let run = c .before .before .before .before .before .args .run in record {
+  shown = λ z. absurd (c .before .if1 .taken (c .before .before .name-refusal .ensures ∙ z));
+  empty = λ n. record { begins = ap (λ (o : ℕ). (run .ptr .0, o)) (sym (add-zero (run .ptr .1))); shows = refl };
+}
 
 stored-name-requires : tie.Need-stored-name-requires
 unfolding nameRefusal
@@ -25,8 +28,10 @@ stored-name-requires c κs = let b = c .before .before .before .before .args in
     (m .0, depth-low (depthOf (b .run .now)) (b .d) (m .1))
 
 returns-2 : tie.Need-returns-2
-unfolding askName
-returns-2 c = rw (eq-eqb _ _ (sym (c .before .before .name-refusal .ensures) ∙ c .before .if1 .left)) (c .stored-name .ensures)
+returns-2 c = record {
+  shown = λ z. c .stored-name .ensures;
+  empty = λ n. absurd (n (sym (c .before .before .name-refusal .ensures) ∙ c .before .if1 .left));
+}
 
 pub open-name-spec : {M : Type 1} → statement M
 open-name-spec =

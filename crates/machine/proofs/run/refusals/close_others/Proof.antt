@@ -8,6 +8,7 @@ use Rattle.notation.specs.Activity.{sameName}
 use Rattle.theory.specs.Order.{first, given}
 use Rattle.stored.specs.RunCalls.{storedName, depthOf}
 use Rattle.stored.proofs.Laws.Shapes.Given.{close-name, close-named}
+use Rattle.stored.proofs.Laws.Running.OpenName.{row-name}
 use borrow.Author.Needs.{needs}
 use Rattle.machine.proofs.run.refusals.close_others.Statement.{statement}
 use Rattle.machine.proofs.run.refusals.close_others.Tie as tie
@@ -37,13 +38,13 @@ same-name-requires c κs = search needs
 returns-3 : tie.Need-returns-3
 unfolding given first
 returns-3 c = let b = c .before .before .before .before .before .before .before .before .before .before .args in
-    let t : sameName (storedName (b .run .now) (depthOf (b .run .now))) (b .e .now) ≡ false = ap (λ (n : ℕ). sameName (storedName (b .run .now) n) (b .e .now)) (sym (c .before .before .before .before .depth .ensures .0)) ∙ ap (λ (n : List ℕ). sameName n (b .e .now)) (sym (c .before .before .stored-name .ensures)) ∙ sym (c .before .same-name .ensures) ∙ not-true _ (c .if3 .taken) in
+    let t : sameName (storedName (b .run .now) (depthOf (b .run .now))) (b .e .now) ≡ false = ap (λ (n : ℕ). sameName (storedName (b .run .now) n) (b .e .now)) (sym (c .before .before .before .before .depth .ensures .0)) ∙ ap (λ (n : List ℕ). sameName n (b .e .now)) (sym (row-name _ _ _ (c .before .before .stored-name .ensures))) ∙ sym (c .before .same-name .ensures) ∙ not-true _ (c .if3 .taken) in
     rw (close-named (b .run .now) (b .e .now) (sym (c .before .before .before .before .before .before .name-refusal .ensures) ∙ c .before .before .before .before .before .if1 .left), t, ← c .before .before .before .before .depth .ensures .0, ne-eqb _ _ (c .before .before .before .if2 .left))
 
 returns-4 : tie.Need-returns-4
 unfolding given first
 returns-4 c = let b = c .before .before .before .before .before .before .before .before .before .before .args in
-    let t : sameName (storedName (b .run .now) (depthOf (b .run .now))) (b .e .now) ≡ true = ap (λ (n : ℕ). sameName (storedName (b .run .now) n) (b .e .now)) (sym (c .before .before .before .before .depth .ensures .0)) ∙ ap (λ (n : List ℕ). sameName n (b .e .now)) (sym (c .before .before .stored-name .ensures)) ∙ sym (c .before .same-name .ensures) ∙ not-false _ (c .if3 .left) in
+    let t : sameName (storedName (b .run .now) (depthOf (b .run .now))) (b .e .now) ≡ true = ap (λ (n : ℕ). sameName (storedName (b .run .now) n) (b .e .now)) (sym (c .before .before .before .before .depth .ensures .0)) ∙ ap (λ (n : List ℕ). sameName n (b .e .now)) (sym (row-name _ _ _ (c .before .before .stored-name .ensures))) ∙ sym (c .before .same-name .ensures) ∙ not-false _ (c .if3 .left) in
     rw (close-named (b .run .now) (b .e .now) (sym (c .before .before .before .before .before .before .name-refusal .ensures) ∙ c .before .before .before .before .before .if1 .left), t, ← c .before .before .before .before .depth .ensures .0, ne-eqb _ _ (c .before .before .before .if2 .left))
 
 pub close-others-spec : {M : Type 1} → statement M

@@ -1,10 +1,10 @@
-use Rattle.stored.specs.RunCalls.{nameLength}
 use native.Mathlib.Omega.{arith}
-use mathlib.Core.Path.{_≡_, _∙_, ap}
+use native.Mathlib.Nat.{add-comm}
+use mathlib.Core.Path.{_≡_, _∙_, ap, ap₂}
 use Prim.Native.Nat.{ℕ, _+_, _-_}
 use lib.ListN.{take, drop}
 use Rattle.notation.specs.Limits.{maxName}
-use Rattle.stored.specs.Run.{rowSize, runSize, nameIn}
+use Rattle.stored.specs.Run.{rowAt, rowSize, runSize, nameIn}
 use Rattle.stored.proofs.Laws.Shapes.RunShape.{run-shape}
 use borrow.Author.Needs.{needs}
 use Rattle.machine.proofs.run.refusals.stored_name.Statement.{statement}
@@ -39,9 +39,11 @@ returns : tie.Need-returns
 unfolding nameIn
 returns c = let b = c .before .before .before .before .before .args in
     let r = c .before .before .row-at in
-    let n = c .before .name-length in
-    let w : r .result + 1 + n .result - (r .result + 1) ≡ n .result = omega arith in
-    ap (λ (k : ℕ). take k (drop (r .result + 1) (b .run .now))) w ∙ ap (λ (k : ℕ). take k (drop (r .result + 1) (b .run .now))) (n .ensures .0) ∙ ap (λ (k : ℕ). take (nameLength (b .run .now) (b .d)) (drop (k + nameIn) (b .run .now))) (r .ensures .0)
+    let from : r .result + 1 ≡ rowAt (b .d) + nameIn = ap (λ (k : ℕ). k + nameIn) (r .ensures .0) in
+    record {
+      begins = ap (λ (o : ℕ). (b .run .ptr .0, o)) (add-comm _ _ ∙ ap (λ (o : ℕ). b .run .ptr .1 + o) from);
+      shows = ap₂ (λ (o n : ℕ). take (o + n - o) (drop o (b .run .now))) from (c .before .name-length .ensures .0);
+    }
 
 pub stored-name-spec : {M : Type 1} → statement M
 stored-name-spec =
