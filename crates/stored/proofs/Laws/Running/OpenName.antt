@@ -1,10 +1,11 @@
 -- The part of a run that is handed back as an open name has the bytes that `askName` says.
 use Prim.Native.Nat.{ℕ, _+_, _-_}
-use mathlib.Core.Path.{_≡_}
+use mathlib.Core.Path.{_≡_, ap, _∙_}
 use mathlib.Core.List.{List, []}
 use native.Mathlib.Omega.{arith}
 use borrow.Author.Tests.{eqb-true, eqb-false}
 use lib.Dec.{eqb}
+use lib.ListN.{take, drop}
 use denote.Ref.{RefT, now}
 use Rattle.notation.specs.Part.{PartOf}
 use Rattle.theory.proofs.Laws.Basics.{cases}
@@ -16,7 +17,7 @@ use Rattle.stored.specs.Asking.{nameRefusal, askName, RowName, OpenName}
 pub row-name : (run : RefT (List ℕ)) (d : ℕ) (r : RefT (List ℕ)) → RowName run d r → now r ≡ storedName (now run) d
 row-name run d r p =
     let w : rowAt d + nameIn + nameLength (now run) d - (rowAt d + nameIn) ≡ nameLength (now run) d = omega arith in
-    rw w at (p .shows)
+    p .shows ∙ ap (λ (n : ℕ). take n (drop (rowAt d + nameIn) (now run))) w
 
 -- and of an empty part
 pub no-name : (run r : RefT (List ℕ)) → PartOf run 0 0 r → now r ≡ []
