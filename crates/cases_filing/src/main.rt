@@ -1,4 +1,4 @@
-// Prints, for each case, its report and what filing it prints; a byte that does not print stands as `?`, and a long report as its name.
+// Prints, for each case, its set, its report and what filing it prints; a byte that does not print stands as `?`, and a long report as its name.
 mod say;
 mod texts;
 

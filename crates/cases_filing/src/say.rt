@@ -29,8 +29,10 @@ fn put(s: &[u8]) {
     }
 }
 
-fn line(text: &[u8]) {
-    put(text);
+// The set of a case, and the case's name.
+fn head(set: &[u8], name: &[u8]) {
+    io::write_all(1, set);
+    put(name);
     io::write_all(1, b"\n");
 }
 
@@ -84,11 +86,11 @@ fn none() -> Counters {
     }
 }
 
-// The name of a case, and what filing prints.
+// The set and the name of a case, and what filing prints.
 pub fn file(name: &[u8], set: &[u8], report: &[u8]) {
     let mut a = [0u8; 65536];
     let mut run = [0u8; 65536];
-    line(name);
+    head(set, name);
     build(set, &mut a);
     let done = file_by(&a, &mut run, none(), report);
     print_taken(&a, &run, done);
@@ -107,8 +109,9 @@ pub fn judge(report: &[u8]) {
 pub fn left(report: &[u8]) {
     let mut a = [0u8; 65536];
     let mut run = [0u8; 65536];
-    line(report);
-    build(b"(folders\n(folder 1 (//a))\n(folder 2 (//b))\n)\n", &mut a);
+    let set = b"(folders\n(folder 1 (//a))\n(folder 2 (//b))\n)\n";
+    head(set, report);
+    build(set, &mut a);
     let first = file_by(&a, &mut run, none(), b"<b/>");
     let done = file_by(&a, &mut run, first.counters, report);
     print_answer(done.refusal);
@@ -119,8 +122,9 @@ pub fn left(report: &[u8]) {
 pub fn strange(report: &[u8]) {
     let mut a = [0u8; 65536];
     let mut run = [0u8; 65536];
-    line(report);
-    build(b"(folders\n)\n", &mut a);
+    let set = b"(folders\n)\n";
+    head(set, report);
+    build(set, &mut a);
     a[3] = 255;
     let done = file_by(&a, &mut run, none(), report);
     print_answer(done.refusal);
@@ -149,8 +153,9 @@ fn lend(a: &[u8], run: &[u8], c: Counters, size: usize) {
 pub fn long(report: &[u8]) {
     let mut a = [0u8; 65536];
     let mut run = [0u8; 65536];
-    line(report);
-    build(b"(folders\n(folder 1 (//a) (//b))\n)\n", &mut a);
+    let set = b"(folders\n(folder 1 (//a) (//b))\n)\n";
+    head(set, report);
+    build(set, &mut a);
     let done = file_by(&a, &mut run, none(), report);
     a[TEXT_LEN_AT + 1] = 63;
     a[PATHS_AT + 7] = 63;
@@ -165,8 +170,9 @@ pub fn long(report: &[u8]) {
 pub fn short(report: &[u8]) {
     let mut a = [0u8; 65536];
     let mut run = [0u8; 65535];
-    line(report);
-    build(b"(folders\n)\n", &mut a);
+    let set = b"(folders\n)\n";
+    head(set, report);
+    build(set, &mut a);
     let done = file_by(&a, &mut run, none(), report);
     print_answer(done.refusal);
 }
