@@ -1,5 +1,5 @@
--- What the filing program prints of a set's text and a report (paper 01: The filing program), by printing and XPath 1.0 alone: no run, no
--- matches and no counters.
+-- What the filing program prints of a set's text and a report (paper 01: The filing program). Whether a report is filed or refused is the
+-- machine's word (Filing); what a filed one prints is by printing and XPath 1.0 alone: no run, no matches and no counters.
 use Prim.Native.Nat.{ℕ, _+_, _≤_}
 use mathlib.Core.Path.{_≡_}
 use mathlib.Core.List.{List, [], _∷_, _++_}

@@ -1,3 +1,5 @@
+-- The shared machine, in reading order: words and prefixes, the walk, the machine over calls, and what a list of calls says.
+pub mod Limits
 pub mod Words
 pub mod Prefix
 pub mod Walk
@@ -8,4 +10,3 @@ pub mod Moves
 pub mod Elements
 pub mod Folders
 pub mod Whole
-pub mod Limits

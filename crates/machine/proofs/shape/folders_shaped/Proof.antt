@@ -1,5 +1,4 @@
 -- `shape::folders_shaped`: what was tested so far passed.
--- `shape::folders_shaped`: what was tested so far passed.
 use borrow.Author.Tests.{not-true, not-false}
 use Rattle.notation.specs.Reads.{folderCount}
 use Rattle.stored.proofs.Laws.Bytes.AllBelow.{all-none, all-more, all-fails}

@@ -1,5 +1,4 @@
 -- `shape::heads_shaped`: what was tested so far passed.
--- `shape::heads_shaped`: what was tested so far passed.
 use borrow.Author.Tests.{not-true, not-false}
 use Rattle.stored.specs.Automaton.{hashes}
 use Rattle.stored.proofs.Laws.Bytes.AllBelow.{all-none, all-more, all-fails}

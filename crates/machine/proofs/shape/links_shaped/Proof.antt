@@ -1,5 +1,4 @@
 -- `shape::links_shaped`: what was tested so far passed.
--- `shape::links_shaped`: what was tested so far passed.
 use borrow.Author.Tests.{not-true, not-false}
 use Rattle.notation.specs.Reads.{labelCount}
 use Rattle.stored.proofs.Laws.Bytes.AllBelow.{all-none, all-more, all-fails}

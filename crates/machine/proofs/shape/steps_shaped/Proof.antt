@@ -1,5 +1,4 @@
 -- `shape::steps_shaped`: what was tested so far passed.
--- `shape::steps_shaped`: what was tested so far passed.
 use borrow.Author.Tests.{not-true, not-false}
 use Rattle.notation.specs.Reads.{stepCount}
 use Rattle.stored.proofs.Laws.Bytes.AllBelow.{all-none, all-more, all-fails}

@@ -1,5 +1,4 @@
 -- `build::fails::fail_labels`: the labels so far have been gone through.
--- `build::fails::fail_labels`: the labels so far have been gone through.
 use native.Mathlib.Numerals.{add-one}
 use Rattle.stored.proofs.Laws.Building.Growing.{grows-below}
 use Rattle.stored.specs.Code.Fails.{failedIf, failedBelow}
