@@ -58,7 +58,7 @@ fn add(out: &mut [u8], at: usize, bytes: &[u8]) -> usize {
     if out.len() - at < bytes.len() {
         return at;
     }
-    notation::store::copy(out, at, bytes);
+    text::store::copy(out, at, bytes);
     at + bytes.len()
 }
 

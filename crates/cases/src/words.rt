@@ -1,5 +1,5 @@
 // The parts of a line.
-use notation::arith::minus;
+use text::arith::minus;
 ghost use Prim.Native.Nat.{_<_, _≤_};
 ghost use lib.ListN.{length};
 

@@ -8,8 +8,8 @@ use machine::build::build;
 use notation::layout::PATH_SIZE;
 use notation::layout::PATHS_AT;
 use notation::layout::TEXT_LEN_AT;
-use stored::answers::Written;
 use stored::counters::Counters;
+use text::written::Written;
 
 fn put(s: &[u8]) {
     let mut i = 0;

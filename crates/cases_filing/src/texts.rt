@@ -1,6 +1,6 @@
 // Reports made of repeated pieces.
 use crate::say::file;
-use notation::store::copy;
+use text::store::copy;
 
 // The bytes from `at` on, and where they end; nothing where they do not fit.
 fn add(buffer: &mut [u8], at: usize, piece: &[u8]) -> usize {

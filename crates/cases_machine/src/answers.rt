@@ -2,7 +2,7 @@
 use cases::say::bytes;
 use cases::say::count;
 use notation::reads;
-use stored::answers::Written;
+use text::written::Written;
 
 // What writing a set back answered.
 pub fn written(name: &[u8], w: Written) {

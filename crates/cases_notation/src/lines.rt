@@ -6,7 +6,7 @@ use cases::expand::expand;
 use cases::expand::times;
 use cases::say;
 use cases::words;
-use notation::names;
+use text::names;
 
 pub fn line(s: &[u8], buffer: &mut [u8], size: usize) -> usize {
     if buffer.len() < size {

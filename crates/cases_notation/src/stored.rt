@@ -8,7 +8,7 @@ use notation::reads::FolderIndex;
 use notation::reads::LabelAt;
 use notation::reads::PathAt;
 use notation::reads::StepAt;
-use notation::write::Written;
+use text::written::Written;
 
 // The first, the last and the next byte of a buffer of one byte more than a set.
 pub fn edges(part: &[u8]) {
@@ -110,7 +110,7 @@ fn written(name: &[u8], part: &[u8], out: &mut [u8]) {
             say::count(b": ", size);
             say::bytes(b"\n");
         }
-        Written::Short => say::bytes(b": short\n"),
+        Written::Refused(_) => say::bytes(b": short\n"),
     }
     say::bytes(out);
 }

@@ -3,8 +3,8 @@ use Prim.Native.Nat.{ℕ, _+_}
 use mathlib.Core.Path.{_≡_}
 use mathlib.Core.Bool.{Bool, true, _&&_}
 use mathlib.Core.List.{List, [], _∷_, _++_}
-use Rattle.notation.specs.Names.{Name}
-use Rattle.notation.specs.Form.{every}
+use Rattle.text.specs.Names.{Name}
+use Rattle.text.specs.Lists.{every}
 use Rattle.documents.specs.Tree.{Node, element, text, comment, Nodes, none, _then_, Document}
 use Rattle.documents.specs.Tokens.{Token, declaration, startTag, emptyTag, endTag, text as textToken, comment as commentToken, printParts, blank, RunOfTokens}
 

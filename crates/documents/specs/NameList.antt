@@ -1,6 +1,6 @@
 -- The name list of an element: the names from the outermost element down to it, which are the names open while it is the innermost.
 use mathlib.Core.List.{List, [], _∷_, _++_}
-use Rattle.notation.specs.Names.{Name}
+use Rattle.text.specs.Names.{Name}
 use Rattle.documents.specs.Tree.{Document, Place, Kind, noNode, documentNode, elementNode, textNode, commentNode, kindAt, Node, element, text, comment, Nodes, none, _then_}
 
 -- an element's name; the others have none

@@ -4,7 +4,7 @@ use mathlib.Core.Path.{_≡_}
 use mathlib.Core.Bool.{true}
 use mathlib.Core.List.{List, _++_}
 use lib.ListN.{length, drop}
-use Rattle.notation.specs.Names.{Name}
+use Rattle.text.specs.Names.{Name}
 use Rattle.documents.specs.Tokens.{Attribute, Token, startTag, emptyTag, endTag, printToken, formedToken}
 
 -- the token is a tag of this name, and so many of its bytes stand before the name: `<`, of an end tag `</`

@@ -5,9 +5,9 @@ use mathlib.Core.Path.{_≡_}
 use mathlib.Core.Bool.{Bool, true, false, not, _&&_, _||_}
 use mathlib.Core.List.{List, [], _∷_, _++_}
 use lib.Dec.{eqb}
-use Rattle.notation.specs.Names.{Name, within, nameForm}
-use Rattle.notation.specs.Form.{every, nonEmpty}
-use Rattle.notation.specs.Activity.{sameName}
+use Rattle.text.specs.Names.{Name, within, nameForm, sameName}
+use Rattle.text.specs.Lists.{every, nonEmpty}
+use Rattle.text.specs.Read.{begins}
 
 -- the bytes that a report may have: 9, 10, 13 and 32 to 126
 unfoldable pub listed : ℕ → Bool
@@ -86,12 +86,7 @@ printTokens (t ∷ ts) = printToken t ++ printTokens ts
 
 -- Rules
 
--- the word stands at the front of the bytes, or anywhere in them
-unfoldable pub begins : List ℕ → List ℕ → Bool
-begins [] l = true
-begins (w ∷ ws) [] = false
-begins (w ∷ ws) (b ∷ l) = eqb w b && begins ws l
-
+-- the word stands somewhere in the bytes
 unfoldable pub occurs : List ℕ → List ℕ → Bool
 occurs w [] = begins w []
 occurs w (b ∷ l) = begins w (b ∷ l) || occurs w l

@@ -3,7 +3,7 @@
 use Prim.Native.Nat.{ℕ, zero, suc}
 use mathlib.Core.Bool.{Bool, true, false}
 use mathlib.Core.List.{List, [], _∷_}
-use Rattle.notation.specs.Names.{Name}
+use Rattle.text.specs.Names.{Name}
 
 infixr 40 _then_
 mutual

@@ -4,7 +4,7 @@ use mathlib.Core.Bool.{true}
 use mathlib.Core.Logic.{_⊎_}
 use mathlib.Core.List.{[], _∷_}
 use Prim.Native.Nat.{ℕ}
-use Rattle.notation.specs.Names.{Name}
+use Rattle.text.specs.Names.{Name}
 use Rattle.notation.specs.Sets.{Test, label, star, Step, step, Path, child as slash, descendant as doubleSlash}
 use Rattle.documents.specs.Tree.{Document, Place, Kind, elementNode, kindAt, isNode}
 

@@ -4,7 +4,7 @@ use mathlib.Core.Path.{_≡_}
 use mathlib.Core.List.{List}
 use lib.ListN.{take}
 use Rattle.io.specs.Counts.{Counts}
-use Rattle.stored.specs.declared.answers.Written.{Written}
+use Rattle.text.specs.declared.written.Written.{Written}
 use Rattle.filing.specs.Printed.{PrintedText}
 
 abbrev pub sizeOf : Written → ℕ

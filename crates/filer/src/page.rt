@@ -1,6 +1,6 @@
 // What is printed, at the start of a lent page of filing's LISTING_SIZE bytes.
 use filing::printing::print_filing;
-use stored::answers::Written;
+use text::written::Written;
 ghost use mathlib.Core.Path.{_≡_};
 ghost use Prim.Native.Nat.{_≤_};
 ghost use lib.ListN.{length};

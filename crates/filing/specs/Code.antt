@@ -3,5 +3,4 @@ pub mod Seen
 pub mod Reaches
 pub mod FileCall
 pub mod Taking
-pub mod Page
 pub mod Filer

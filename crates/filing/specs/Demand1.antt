@@ -6,25 +6,25 @@ use mathlib.Core.Path.{_≡_}
 use mathlib.Core.Bool.{true}
 use mathlib.Core.Logic.{_↔_, _⊎_}
 use mathlib.Core.List.{List, [], _∷_}
-use lib.Dec.{ltb}
 use lib.ListN.{length}
 use denote.Ref.{RefT, now}
-use Rattle.notation.specs.Names.{Name}
+use Rattle.text.specs.Names.{Name}
 use Rattle.notation.specs.Sets.{FolderSet}
-use Rattle.notation.specs.Refusals.{Refusal, shortBuffer, strangeShape, numberOf}
-use Rattle.notation.specs.Answers.{numberSaid, writtenSays as textSays}
+use Rattle.text.specs.Refusals.{Refusal, shortBuffer, strangeShape, numberOf}
+use Rattle.text.specs.Answers.{numberSaid}
+use Rattle.text.specs.Written.{writtenSays}
 use Rattle.notation.specs.Judged.{RefusedText}
 use Rattle.notation.specs.Accepted.{Accepted}
 use Rattle.notation.specs.Layout.{setSize}
-use Rattle.notation.specs.Reads.{textOf, pathAt, folderOf}
+use Rattle.notation.specs.Reads.{pathAt, folderOf}
 use Rattle.notation.specs.ReadSet.{ReadSet}
-use Rattle.notation.specs.WriteText.{WriteText}
+use Rattle.notation.specs.WriteText.{textConditions, WriteText}
 use Rattle.notation.specs.declared.PathPlace.{PathPlace}
 use Rattle.notation.specs.declared.FolderNumber.{FolderNumber}
-use Rattle.notation.specs.declared.write.Written.{Written as TextWritten}
-use Rattle.theory.specs.Order.{gives, GivenBy, AnswersBy}
+use Rattle.text.specs.declared.written.Written.{Written}
+use Rattle.text.specs.Order.{Condition, gives, GivenBy, AnswersBy}
 use Rattle.stored.specs.Automaton.{automatonSize}
-use Rattle.stored.specs.Answers.{openedSays, askedSays, lengthSays, writtenSays}
+use Rattle.stored.specs.Answers.{openedSays, askedSays, lengthSays}
 use Rattle.stored.specs.Build.{Built, SetWritten, writeConditions}
 use Rattle.stored.specs.RunCalls.{startConditions, openConditions, closeConditions, startRun, noCounters}
 use Rattle.stored.specs.RunContracts.{Starts, Opens, Closes}
@@ -34,15 +34,17 @@ use Rattle.stored.specs.declared.counters.Counters.{Counters}
 use Rattle.stored.specs.declared.answers.Opened.{Opened}
 use Rattle.stored.specs.declared.answers.Asked.{Asked}
 use Rattle.stored.specs.declared.answers.Length.{Length}
-use Rattle.stored.specs.declared.answers.Written.{Written}
-use Rattle.filing.specs.Limits.{listingSize}
 use Rattle.filing.specs.ReportRefusals.{RefusedReport, TakenReport, Files}
-use Rattle.filing.specs.Listed.{listingConditions, ListingWritten, RefusedWritten}
+use Rattle.filing.specs.Listed.{listingConditions, refusedConditions, ListingWritten, RefusedWritten}
 use Rattle.filing.specs.Filer.{tooSmall, Prints}
 
 -- with any number but 0 this is so
 abbrev pub IfRefused : ℕ → Type 0 → Type 0
 IfRefused number left = (number ≡ 0 → ⊥) → left
+
+-- what a call that writes a text answers by its order, and that a refusal changes nothing
+abbrev pub WrittenBy : List Condition → List ℕ → Written → List ℕ → Type 0
+WrittenBy order before answer after = AnswersBy order (writtenSays answer) × IfRefused (numberSaid (writtenSays answer)) (after ≡ before)
 
 -- a set's text is refused: 1 for a buffer below this size, then for the text's own fault
 pub data SetRefused (size : ℕ) (text before : List ℕ) (r : Refusal) : Type 0 where
@@ -71,10 +73,10 @@ pub record Demand1 : Type 0 where
   -- a set is read, built, and written back
   pub reads : (text before : List ℕ) (answer : ℕ) (after : List ℕ) → ReadSet text before answer after → SetJudged setSize text before answer after
   pub builds : (text before : List ℕ) (answer : ℕ) (after : List ℕ) → Built text before answer after → SetJudged automatonSize text before answer after
-  pub writesText : (part before : List ℕ) (answer : TextWritten) (after : List ℕ) → WriteText part before answer after
-      → AnswersBy (gives (ltb (length before) (length (textOf part))) shortBuffer ∷ []) (textSays answer) × IfRefused (numberSaid (textSays answer)) (after ≡ before)
+  pub writesText : (part before : List ℕ) (answer : Written) (after : List ℕ) → WriteText part before answer after
+      → WrittenBy (textConditions part before) before answer after
   pub writesSet : (a before : List ℕ) (answer : Written) (after : List ℕ) → SetWritten a before answer after
-      → AnswersBy (writeConditions a before) (writtenSays answer) × IfRefused (numberSaid (writtenSays answer)) (after ≡ before)
+      → WrittenBy (writeConditions a before) before answer after
   -- a run is started; elements are opened and closed
   pub starts : (a run : List ℕ) (c : Counters) (answer : ℕ) (run' : List ℕ) (c' : Counters) → Starts a run c answer run' c'
       → GivenBy (startConditions a run) answer × IfRefused answer ((run' ≡ run) × (c' ≡ c))
@@ -96,8 +98,8 @@ pub record Demand1 : Type 0 where
   pub files : (a run : List ℕ) (c : Counters) (report : List ℕ) (answer : ℕ) (run' : List ℕ) (c' : Counters) → Files a run c report answer run' c'
       → ReportJudged a run c report answer run' c'
   pub lists : (a run : List ℕ) (c : Counters) (before : List ℕ) (answer : Written) (after : List ℕ) → ListingWritten a run c before answer after
-      → AnswersBy (listingConditions a run c before) (writtenSays answer) × IfRefused (numberSaid (writtenSays answer)) (after ≡ before)
+      → WrittenBy (listingConditions a run c before) before answer after
   pub listsRefusal : (n : ℕ) (before : List ℕ) (answer : Written) (after : List ℕ) → RefusedWritten n before answer after
-      → AnswersBy (gives (ltb (length before) listingSize) shortBuffer ∷ []) (writtenSays answer) × IfRefused (numberSaid (writtenSays answer)) (after ≡ before)
+      → WrittenBy (refusedConditions before) before answer after
   pub prints : (text report a run out : List ℕ) (answer : Written) (a' run' out' : List ℕ) → Prints text report a run out answer a' run' out'
       → AnswersBy (gives (tooSmall a run out) shortBuffer ∷ []) (writtenSays answer) × IfRefused (numberSaid (writtenSays answer)) ((a' ≡ a) × ((run' ≡ run) × (out' ≡ out)))

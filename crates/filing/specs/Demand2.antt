@@ -6,7 +6,7 @@ use mathlib.Core.Logic.{_↔_}
 use mathlib.Core.List.{List, List·Memᴰ}
 use lib.Dec.{eqb}
 use Rattle.notation.specs.Sets.{Path, Folder, FolderSet, folderNumber}
-use Rattle.notation.specs.Refusals.{Refusal}
+use Rattle.text.specs.Refusals.{Refusal}
 use Rattle.notation.specs.Accepted.{Accepted}
 use Rattle.theory.specs.Calls.{State, pathAt, fresh, run}
 use Rattle.theory.specs.Folders.{placesOf, folderMatched, HasFolders}

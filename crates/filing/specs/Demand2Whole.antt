@@ -5,13 +5,13 @@ use mathlib.Core.List.{List, _++_}
 use lib.ListN.{length, take, drop}
 use Rattle.notation.specs.Limits.{maxSetBytes}
 use Rattle.notation.specs.Sets.{FolderSet}
-use Rattle.notation.specs.Answers.{value}
+use Rattle.text.specs.Answers.{value}
 use Rattle.notation.specs.Accepted.{Accepted}
 use Rattle.stored.specs.Automaton.{automatonSize}
 use Rattle.stored.specs.Run.{runSize}
-use Rattle.stored.specs.Answers.{writtenSays}
+use Rattle.text.specs.Written.{writtenSays}
 use Rattle.stored.specs.Build.{Built, SetWritten}
-use Rattle.stored.specs.declared.answers.Written.{Written}
+use Rattle.text.specs.declared.written.Written.{Written}
 use Rattle.stored.specs.declared.counters.Counters.{Counters}
 use Rattle.filing.specs.ReportRefusals.{Files}
 use Rattle.filing.specs.FiledReport.{Demand2Bytes}

@@ -4,9 +4,9 @@ use Prim.Native.Nat.{ℕ, zero, suc}
 use mathlib.Core.Bool.{Bool, not, _&&_, cond}
 use mathlib.Core.List.{List, [], _∷_}
 use lib.Dec.{eqb}
-use Rattle.notation.specs.Names.{Name}
-use Rattle.notation.specs.Form.{every}
-use Rattle.notation.specs.Refusals.{looseEnd, numberOf}
+use Rattle.text.specs.Names.{Name}
+use Rattle.text.specs.Lists.{every}
+use Rattle.text.specs.Refusals.{looseEnd, numberOf}
 use Rattle.stored.specs.RunCalls.{depthOf, openRefusal, openRun, openCounters, closeRefusal, closeRun, closeCounters}
 use Rattle.stored.specs.Demand3.{Left}
 use Rattle.documents.specs.Tokens.{blank}

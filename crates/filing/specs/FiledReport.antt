@@ -7,7 +7,7 @@ use mathlib.Core.List.{List, [], _∷_, _++_, map, List·Memᴰ}
 use lib.ListN.{length, drop}
 use Rattle.notation.specs.Sets.{Folder, FolderSet, folderNumber}
 use Rattle.notation.specs.Form.{pathsOf}
-use Rattle.notation.specs.Refusals.{Refusal, oversize, longName, foreignByte, torn, looseEnd, tooDeep, crossed, numberOf}
+use Rattle.text.specs.Refusals.{Refusal, oversize, longName, foreignByte, torn, looseEnd, tooDeep, crossed, numberOf}
 use Rattle.notation.specs.Accepted.{Accepted}
 use Rattle.notation.specs.declared.PathPlace.{PathPlace}
 use Rattle.notation.specs.declared.FolderNumber.{FolderNumber}

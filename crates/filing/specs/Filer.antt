@@ -6,14 +6,14 @@ use mathlib.Core.List.{List, _++_}
 use lib.Dec.{ltb}
 use lib.ListN.{length, drop}
 use Rattle.notation.specs.Sets.{FolderSet}
-use Rattle.notation.specs.Refusals.{Refusal, shortBuffer, numberOf}
-use Rattle.notation.specs.Answers.{refused, value}
+use Rattle.text.specs.Refusals.{Refusal, shortBuffer, numberOf}
+use Rattle.text.specs.Answers.{refused, value}
 use Rattle.notation.specs.Accepted.{Accepted}
 use Rattle.notation.specs.Judged.{RefusedText, Verdict, Judged}
-use Rattle.stored.specs.Answers.{writtenSays}
+use Rattle.text.specs.Written.{writtenSays}
 use Rattle.stored.specs.Build.{builtInto}
 use Rattle.stored.specs.RunCalls.{tooShort, noCounters}
-use Rattle.stored.specs.declared.answers.Written.{Written}
+use Rattle.text.specs.declared.written.Written.{Written}
 use Rattle.stored.specs.declared.counters.Counters.{Counters}
 use Rattle.filing.specs.Limits.{listingSize}
 use Rattle.filing.specs.ReportRefusals.{Files}

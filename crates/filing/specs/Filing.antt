@@ -8,13 +8,14 @@ use mathlib.Core.List.{List, [], _∷_, _++_}
 use lib.Dec.{eqb, ltb}
 use lib.ListN.{length}
 use Rattle.notation.specs.Sets.{FolderSet}
-use Rattle.notation.specs.Form.{every, nonEmpty}
-use Rattle.notation.specs.Refusals.{Refusal, oversize, foreignByte, torn, looseEnd, numberOf}
-use Rattle.theory.specs.Order.{FirstOf}
+use Rattle.text.specs.Lists.{every, nonEmpty}
+use Rattle.text.specs.Refusals.{Refusal, oversize, foreignByte, torn, looseEnd, numberOf}
+use Rattle.text.specs.Order.{FirstOf}
 use Rattle.theory.specs.Calls.{asLeft, Call, openCall, closeCall, State, nothingOpen, openOrder, closeOrder, fresh, refusal, accepted, step}
 use Rattle.filing.specs.Limits.{maxReportBytes}
 use Rattle.documents.specs.Tokens.{Token, declaration, comment, startTag, emptyTag, endTag, text, printParts, blank, listed, RunOfTokens}
-use Rattle.documents.specs.Reading.{Read, fail, got, readReport}
+use Rattle.text.specs.Read.{Read, fail, got}
+use Rattle.documents.specs.Reading.{readReport}
 use Rattle.documents.specs.Document.{Event, opening, closing, textHere, commentHere, eventsOfToken}
 
 -- refused, or filed with the machine as it is at the end

@@ -4,17 +4,17 @@ use mathlib.Core.Bool.{not, _||_, cond}
 use mathlib.Core.List.{List, [], _∷_, _++_}
 use lib.Dec.{ltb}
 use lib.ListN.{length}
-use Rattle.notation.specs.Print.{decimal, folderWord, footer}
-use Rattle.notation.specs.Refusals.{shortBuffer, strangeShape}
-use Rattle.notation.specs.WriteText.{TextWritten}
+use Rattle.text.specs.Decimal.{decimal}
+use Rattle.notation.specs.Print.{folderWord, footer}
+use Rattle.text.specs.Refusals.{shortBuffer, strangeShape}
+use Rattle.text.specs.Written.{TextWritten}
 use Rattle.notation.specs.declared.reads.FolderAt.{FolderAt}
 use Rattle.theory.specs.Folders.{countFrom}
-use Rattle.theory.specs.Order.{Condition, gives, given}
+use Rattle.text.specs.Order.{Condition, gives, given}
 use Rattle.stored.specs.RunCalls.{shaped, tooShort}
 use Rattle.stored.specs.HeldSet.{foldersHeld, folderHeld, pathHeld}
 use Rattle.stored.specs.Asking.{placeMatched, anyMatched, pathsOfFolder}
-use Rattle.stored.specs.Answers.{writtenSays}
-use Rattle.stored.specs.declared.answers.Written.{Written}
+use Rattle.text.specs.declared.written.Written.{Written}
 use Rattle.stored.specs.declared.counters.Counters.{Counters}
 use Rattle.filing.specs.Limits.{listingSize}
 use Rattle.filing.specs.Listing.{filedHeader, movesLine, refusedLine}
@@ -61,19 +61,15 @@ abbrev pub listingConditions : List ℕ → List ℕ → Counters → List ℕ �
 listingConditions a run c out =
     gives (tooShort a run || ltb (length out) (listingRoom a run c)) shortBuffer ∷ gives (not (shaped a run c)) strangeShape ∷ []
 
-unfoldable pub listingRefusal : List ℕ → List ℕ → Counters → List ℕ → ℕ
+abbrev pub listingRefusal : List ℕ → List ℕ → Counters → List ℕ → ℕ
 listingRefusal a run c out = given (listingConditions a run c out)
 
--- this text is written, or refused with this number
-abbrev pub Writes : ℕ → List ℕ → List ℕ → Written → List ℕ → Type 0
-Writes refusal text before answer after = TextWritten refusal text before (writtenSays answer) after
-
 abbrev pub ListingWritten : List ℕ → List ℕ → Counters → List ℕ → Written → List ℕ → Type 0
-ListingWritten a run c before answer after = Writes (listingRefusal a run c before) (listingIn a run c) before answer after
+ListingWritten a run c before answer after = TextWritten (listingConditions a run c before) (listingIn a run c) before answer after
 
 -- the line of a refusal: 1 for a short buffer
-unfoldable pub refusedRefusal : List ℕ → ℕ
-refusedRefusal out = given (gives (ltb (length out) listingSize) shortBuffer ∷ [])
+abbrev pub refusedConditions : List ℕ → List Condition
+refusedConditions out = gives (ltb (length out) listingSize) shortBuffer ∷ []
 
 abbrev pub RefusedWritten : ℕ → List ℕ → Written → List ℕ → Type 0
-RefusedWritten n before answer after = Writes (refusedRefusal before) (refusedLine n) before answer after
+RefusedWritten n before answer after = TextWritten (refusedConditions before) (refusedLine n) before answer after

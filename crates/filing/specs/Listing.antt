@@ -5,7 +5,8 @@ use mathlib.Core.Bool.{Bool, cond}
 use mathlib.Core.List.{List, [], _∷_, _++_}
 use lib.ListN.{length}
 use Rattle.notation.specs.Sets.{Path, folder, FolderSet}
-use Rattle.notation.specs.Print.{decimal, footer, printFolder}
+use Rattle.text.specs.Decimal.{decimal}
+use Rattle.notation.specs.Print.{footer, printFolder}
 use Rattle.theory.specs.Calls.{State}
 
 -- "(filed" and the line's end

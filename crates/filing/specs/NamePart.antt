@@ -2,7 +2,7 @@
 use Prim.Native.Nat.{ℕ}
 use mathlib.Core.List.{List}
 use denote.Ref.{RefT, now}
-use Rattle.notation.specs.Part.{PartOf}
+use Rattle.text.specs.Part.{PartOf}
 use Rattle.documents.specs.TagAt.{TagAt}
 
 -- r is the name of the tag at an offset of s, where it stands

@@ -2,11 +2,11 @@
 use Prim.Native.Nat.{ℕ, _+_, _-_}
 use mathlib.Core.Bool.{Bool, true, false}
 use lib.ListN.{length}
-use Rattle.notation.specs.Form.{every}
+use Rattle.text.specs.Lists.{every}
 use Rattle.filing.specs.declared.tokens.Found.{Found}
 use Rattle.filing.specs.declared.tokens.Found.the-variants.{Nothing, Declaration, Comment, Start, Empty, End, Text}
 use Rattle.documents.specs.Tokens.{Token, declaration, comment, startTag, emptyTag, endTag, text, printParts, blank}
-use Rattle.documents.specs.Reading.{Read, fail, got}
+use Rattle.text.specs.Read.{Read, fail, got}
 
 -- of a token with its `<` at an offset, in bytes of this length in all
 abbrev pub shown : Token → ℕ → ℕ → Found

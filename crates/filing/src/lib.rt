@@ -2,7 +2,6 @@
 
 pub mod limits;
 pub mod listing;
-mod page;
 pub mod printing;
 pub mod report;
 mod scan;

@@ -16,7 +16,7 @@ use stored::counters::Counters;
 ghost use mathlib.Core.Path.{_≡_};
 ghost use Prim.Native.Nat.{_≤_, _<_};
 ghost use lib.ListN.{length, drop};
-ghost use Rattle.notation.specs.Answers.{numberSaid};
+ghost use Rattle.text.specs.Answers.{numberSaid};
 ghost use Rattle.stored.specs.Answers.{openedSays};
 ghost use Rattle.stored.specs.Run.{runSize};
 ghost use Rattle.stored.specs.RunCalls.{startRun, noCounters};

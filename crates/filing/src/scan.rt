@@ -1,12 +1,10 @@
-// Scans over a report's bytes: how far names, blanks and words go.
-use notation::names;
+// The bytes of a report, and how far blanks go.
 ghost use mathlib.Core.Path.{_≡_};
 ghost use Prim.Native.Nat.{_+_, _≤_};
 ghost use lib.ListN.{length, drop};
-ghost use Rattle.notation.specs.Names.{inName};
-ghost use Rattle.notation.specs.Form.{every};
-ghost use Rattle.documents.specs.Tokens.{blank as blankByte, listed as listedByte, inText, begins};
-ghost use Rattle.documents.specs.Reading.{front};
+ghost use Rattle.text.specs.Lists.{every};
+ghost use Rattle.documents.specs.Tokens.{blank as blankByte, listed as listedByte, inText};
+ghost use Rattle.text.specs.Read.{front};
 
 // 9, 10, 13 or 32.
 pub fn blank(b: u8) -> bool
@@ -83,30 +81,4 @@ pub fn blanks_end(s: &[u8], at: usize) -> usize
         i += 1;
     }
     i
-}
-
-// Where the name bytes that begin at an offset end.
-pub fn name_end(s: &[u8], at: usize) -> usize
-    requires { ⌜ at ≤ length (now s) ⌝ }
-    ensures { λ r. ⌜ r ≡ at + length (front inName (drop at (now (s .entry)))) ⌝ }
-{
-    names::name_end(s, at)
-}
-
-// Whether the word stands at an offset.
-pub fn word_at(s: &[u8], at: usize, w: &[u8]) -> bool
-    requires { ⌜ at ≤ length (now s) ⌝ }
-    ensures { λ r. ⌜ r ≡ begins (now (w .entry)) (drop at (now (s .entry))) ⌝ }
-{
-    if s.len() - at < w.len() {
-        return false;
-    }
-    let mut i = 0;
-    while i < w.len() {
-        if s[at + i] != w[i] {
-            return false;
-        }
-        i += 1;
-    }
-    true
 }

@@ -1,16 +1,16 @@
 // The parts of tags: references, values, attributes. Each call answers how far a part goes that begins at an offset.
 use crate::scan::blanks_end;
 use crate::scan::in_text;
-use crate::scan::name_end;
-use crate::scan::word_at;
-use notation::names;
+use text::names;
+use text::names::name_end;
+use text::words::word_at;
 ghost use mathlib.Core.Path.{_≡_};
 ghost use Prim.Native.Nat.{_+_, _≤_};
 ghost use lib.ListN.{length, drop};
-ghost use Rattle.documents.specs.Tokens.{inValue};
+ghost use Rattle.documents.specs.Tokens.{inValue, blank as blankByte};
 ghost use mathlib.Core.List.{[], _∷_};
-ghost use Rattle.documents.specs.Tokens.{blank as blankByte};
-ghost use Rattle.documents.specs.Reading.{back, readWord, readName, readReference, readParts, readAttributeFrom};
+ghost use Rattle.text.specs.Read.{back, readWord, readName};
+ghost use Rattle.documents.specs.Reading.{readReference, readParts, readAttributeFrom};
 ghost use Rattle.filing.specs.Code.Reaches.{reachOf, quotedReach, valueReach, insideReach};
 
 // Nothing that can be read begins there, or where it ends.

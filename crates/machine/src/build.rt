@@ -7,7 +7,7 @@ mod parents;
 use crate::layout::AUTOMATON_SIZE;
 use notation::layout::SET_SIZE;
 use notation::read::read_set;
-use notation::store::clear;
+use text::store::clear;
 ghost use mathlib.Core.Path.{_≡_};
 ghost use mathlib.Core.List.{_++_};
 ghost use Prim.Native.Nat.{_-_, _≤_};

@@ -3,6 +3,7 @@ pub mod asking;
 mod candidates;
 pub mod close;
 pub mod layout;
+pub mod lent;
 pub mod matches;
 pub mod open;
 mod refusals;

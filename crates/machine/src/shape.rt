@@ -19,7 +19,6 @@ use notation::layout::PATH_SIZE;
 use notation::layout::PATHS_AT;
 use notation::layout::STEPS_AT;
 use notation::limits::MAX_LABELS;
-use notation::limits::MAX_NAME;
 use notation::limits::MAX_NUMBER;
 use notation::limits::MAX_PATHS;
 use notation::limits::MAX_SET_BYTES;
@@ -31,9 +30,10 @@ use notation::reads::paths;
 use notation::reads::steps;
 use notation::reads::text_len;
 use notation::reads::word_at;
-use notation::truth::between;
-use notation::truth::both;
-use notation::truth::either;
+use text::names::MAX_NAME;
+use text::truth::between;
+use text::truth::both;
+use text::truth::either;
 
 fn counts_shaped(a: &[u8]) -> bool
     ensures { λ r. ⌜ r ≡ countsShaped (now (a .entry)) ⌝ }

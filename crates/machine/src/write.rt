@@ -3,8 +3,8 @@ use crate::layout::AUTOMATON_SIZE;
 use crate::shape::automaton_shaped;
 use notation::limits::MAX_SET_BYTES;
 use notation::reads;
-use notation::store::copy;
-use stored::answers::Written;
+use text::store::copy;
+use text::written::Written;
 ghost use Rattle.stored.specs.Build.{SetWritten};
 
 // Writes the text of an automaton's set and answers its length, or the number of the refusal: 1 for a short automaton or buffer, 14 for

@@ -1,6 +1,3 @@
-pub mod Tests
-pub mod Said
-pub mod Bytes
 pub mod Meaning
 pub mod Form
 pub mod Scan

@@ -2,17 +2,11 @@
 use Prim.Native.Nat.{ℕ, zero, suc}
 use mathlib.Core.Bool.{Bool, true, false, _&&_, _||_}
 use mathlib.Core.List.{List, [], _∷_, reverse}
-use lib.Dec.{leb, eqb}
+use lib.Dec.{leb}
 use lib.ListN.{length}
-use Rattle.notation.specs.Names.{Name}
+use Rattle.text.specs.Names.{Name, sameName}
 use Rattle.notation.specs.Sets.{Axis, child, descendant, Test, label, star, Path, axisOf, testOf}
 use Rattle.notation.specs.Fit.{stepAt}
-
-unfoldable pub sameName : List ℕ → List ℕ → Bool
-sameName [] [] = true
-sameName [] (b ∷ bs) = false
-sameName (a ∷ rest) [] = false
-sameName (a ∷ rest) (b ∷ bs) = eqb a b && sameName rest bs
 
 abbrev pub takes : Test → Name → Bool
 takes (label l) n = sameName l n

@@ -3,7 +3,7 @@ use Prim.Native.Nat.{ℕ, suc, _≤_, _<_, pred}
 use mathlib.Core.Path.{_≡_}
 use mathlib.Core.List.{List, []}
 use lib.ListN.{length, getD}
-use Rattle.notation.specs.Names.{Name}
+use Rattle.text.specs.Names.{Name}
 use Rattle.notation.specs.Sets.{child, Test, label, star, Step, step, Path, axisOf, testOf}
 
 -- a label takes an element of its name, `*` takes any element

@@ -1,7 +1,7 @@
 -- Paper 01's table of cases of Fit.
 use mathlib.Core.Bool.{Bool, true, false}
 use mathlib.Core.List.{List, [], _∷_}
-use Rattle.notation.specs.Names.{Name}
+use Rattle.text.specs.Names.{Name}
 use Rattle.notation.specs.Sets.{child, descendant, label, star, step, Path}
 
 -- a path, the open names, and whether the path fits

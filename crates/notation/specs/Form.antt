@@ -6,19 +6,11 @@ use mathlib.Core.List.{List, [], _∷_, _++_}
 use lib.Dec.{leb, ltb}
 use lib.ListN.{length}
 use Rattle.notation.specs.Limits.{maxNumber, maxSteps, maxPaths, maxLabels, maxSetBytes}
-use Rattle.notation.specs.Names.{nameForm, tooLong, within}
+use Rattle.text.specs.Names.{nameForm, tooLong, within}
 use Rattle.notation.specs.Sets.{Test, label, star, Step, Path, Folder, folder, FolderSet, testOf, folderPaths}
 use Rattle.notation.specs.Print.{print}
-use Rattle.notation.specs.Refusals.{Refusal, outOfTurn, longName, longPath}
-
--- the test holds of every element
-unfoldable pub every {ℓ} : {A : Type ℓ} → (A → Bool) → List A → Bool
-every f [] = true
-every f (a ∷ l) = f a && every f l
-
-abbrev pub nonEmpty {ℓ} : {A : Type ℓ} → List A → Bool
-nonEmpty [] = false
-nonEmpty (a ∷ l) = true
+use Rattle.text.specs.Lists.{every, any, nonEmpty}
+use Rattle.text.specs.Refusals.{Refusal, outOfTurn, longName, longPath}
 
 -- labels have name form, of any length
 abbrev pub formedTest : Test → Bool
@@ -97,11 +89,6 @@ abbrev pub faults : FolderSet → List Refusal
 faults s = faultsAfter 0 s
 
 -- the conditions of 4, 5 and 6 by themselves, whatever stands before in the text
-
--- the test holds of some element
-unfoldable pub any {ℓ} : {A : Type ℓ} → (A → Bool) → List A → Bool
-any f [] = false
-any f (a ∷ l) = f a || any f l
 
 -- some number is not above the one before it; `last` stands before the first
 unfoldable pub numbersFallAfter : ℕ → FolderSet → Bool

@@ -3,7 +3,7 @@ use Prim.Native.Nat.{ℕ}
 use mathlib.Core.Path.{_≡_}
 use mathlib.Core.Bool.{true, false}
 use mathlib.Core.List.{List, [], _∷_}
-use Rattle.notation.specs.Refusals.{Refusal, oversize, bentForm, full, numberOf}
+use Rattle.text.specs.Refusals.{Refusal, oversize, bentForm, full, numberOf}
 use Rattle.notation.specs.Sets.{FolderSet}
 use Rattle.notation.specs.Form.{OfForm, overBytes, overFull, faults}
 use Rattle.notation.specs.Accepted.{Accepted}

@@ -1,12 +1,14 @@
 -- Where the parts of a read set stand in its buffer, and which bytes they are. Numbers take two bytes, the lower first; spare bytes are 0.
 -- The layout is the program's choice; what every choice has in common is that the reading calls (Reads) give the set and its text back.
-use Prim.Native.Nat.{ℕ, suc, _+_, _-_, _*_, _/_, _%_}
+use Prim.Native.Nat.{ℕ, suc, _+_, _*_}
 use mathlib.Core.List.{List, [], _∷_, _++_, map}
-use lib.ListN.{length, replicate}
+use lib.ListN.{length}
 use Rattle.notation.specs.Limits.{maxSetBytes, maxPaths, maxSteps, maxLabels}
 use Rattle.notation.specs.Sets.{Axis, child, descendant, Test, label, star, Step, step, Path, folder, FolderSet}
-use Rattle.notation.specs.Print.{decimal, printAxis, printStep, printPath, printFolder, print}
+use Rattle.text.specs.Decimal.{decimal}
+use Rattle.notation.specs.Print.{printAxis, printStep, printPath, printFolder, print}
 use Rattle.notation.specs.Form.{pathsOf, stepsOf}
+use Rattle.text.specs.Bytes.{le16, padded, joined}
 
 -- sizes of the entries
 unfoldable pub folderSize : ℕ
@@ -42,9 +44,6 @@ unfoldable pub setSize : ℕ
 unfolding labelsAt labelSize maxLabels
 setSize = labelsAt + labelSize * maxLabels
 
-abbrev pub le16 : ℕ → List ℕ
-le16 v = v % 256 ∷ v / 256 % 256 ∷ []
-
 -- a folder: its number and the place of its first path
 abbrev pub folderEntry : ℕ → ℕ → List ℕ
 folderEntry number first = le16 number ++ le16 first
@@ -74,14 +73,6 @@ pub record Tables : Type 0 where
   pub paths : List (List ℕ)
   pub steps : List (List ℕ)
   pub labels : List (List ℕ)
-
-unfoldable pub joined : List (List ℕ) → List ℕ
-joined [] = []
-joined (x ∷ xs) = x ++ joined xs
-
--- filled up with zeros
-unfoldable pub padded : ℕ → List ℕ → List ℕ
-padded n l = l ++ replicate (n - length l) 0
 
 abbrev pub counts : List ℕ → Tables → List ℕ
 counts text t =

@@ -1,9 +1,5 @@
--- The notation, in reading order: names and sets and how a set is printed; when a text is accepted; what a path means; what the calls promise.
+-- The notation, in reading order: sets and how a set is printed; when a text is accepted; what a path means; what the calls promise.
 pub mod Limits
-pub mod Refusals
-pub mod Answers
-pub mod Classes
-pub mod Names
 pub mod Sets
 pub mod Print
 pub mod Form
@@ -16,5 +12,4 @@ pub mod ReadSet
 pub mod WriteText
 pub mod Layout
 pub mod Reads
-pub mod Part
 pub mod Code

@@ -1,10 +1,6 @@
 -- Every limit of the notation, once. A proof that needs the number says `unfolding` of its name.
 use Prim.Native.Nat.{ℕ}
 
--- bytes of a name
-unfoldable pub maxName : ℕ
-maxName = 32
-
 -- bytes of a folder set
 unfoldable pub maxSetBytes : ℕ
 maxSetBytes = 16384

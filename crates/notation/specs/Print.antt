@@ -1,17 +1,8 @@
 -- The text of a folder set. The format is defined by printing: a text is of the form exactly when some well-formed set prints to it.
-use Prim.Native.Nat.{ℕ, zero, suc, _+_, _/_, _%_}
-use mathlib.Core.Bool.{true, false}
+use Prim.Native.Nat.{ℕ}
 use mathlib.Core.List.{List, [], _∷_, _++_}
-use lib.Dec.{ltb}
+use Rattle.text.specs.Decimal.{decimal}
 use Rattle.notation.specs.Sets.{Axis, child, descendant, Test, label, star, Step, step, Path, Folder, folder, FolderSet}
-
--- the decimal digits of n, as bytes, with no leading zero; `steps` bounds how many are written
-unfoldable pub digits : ℕ → ℕ → List ℕ
-digits zero n = []
-digits (suc steps) n = elim (ltb n 10) [ true ↦ (48 + n) ∷ [] | false ↦ digits steps (n / 10) ++ ((48 + n % 10) ∷ []) ]
-
-unfoldable pub decimal : ℕ → List ℕ
-decimal n = digits (suc n) n
 
 abbrev pub printAxis : Axis → List ℕ
 printAxis child = 47 ∷ []

@@ -3,7 +3,7 @@ use Prim.Native.Nat.{ℕ, _≤_, _<_}
 use mathlib.Core.Path.{_≡_}
 use mathlib.Core.List.{List, _++_}
 use lib.ListN.{length, drop}
-use Rattle.notation.specs.Refusals.{shortBuffer, numberOf}
+use Rattle.text.specs.Refusals.{shortBuffer, numberOf}
 use Rattle.notation.specs.Layout.{setSize, setPart}
 use Rattle.notation.specs.Judged.{Verdict, refuses, accepts, Judged, verdictNumber}
 

@@ -1,7 +1,7 @@
 -- Folder sets: a path is a list of steps, a folder a number with paths, a set a list of folders.
 use Prim.Native.Nat.{ℕ}
 use mathlib.Core.List.{List}
-use Rattle.notation.specs.Names.{Name}
+use Rattle.text.specs.Names.{Name}
 
 -- `/` and `//`
 pub data Axis : Type 0 where

@@ -1,30 +1,18 @@
--- What the calls that write a text promise.
-use Prim.Native.Nat.{ℕ, zero, suc}
-use mathlib.Core.Path.{_≡_}
-use mathlib.Core.Bool.{cond}
-use mathlib.Core.List.{List}
+-- What writing a stored set back promises.
+use Prim.Native.Nat.{ℕ}
+use mathlib.Core.List.{List, [], _∷_}
 use lib.Dec.{ltb}
 use lib.ListN.{length}
-use lib.Seq.{sets}
-use Rattle.notation.specs.Refusals.{numberOf, shortBuffer}
+use Rattle.text.specs.Refusals.{shortBuffer}
+use Rattle.text.specs.Order.{Condition, gives}
+use Rattle.text.specs.Written.{TextWritten}
+use Rattle.text.specs.declared.written.Written.{Written}
 use Rattle.notation.specs.Reads.{textOf}
-use Rattle.notation.specs.Answers.{Answer, said, writtenSays}
-use Rattle.notation.specs.declared.write.Written.{Written}
 
--- the text first, and bytes past it stay; a refusal changes nothing
-abbrev pub writtenInto : ℕ → List ℕ → List ℕ → List ℕ
-writtenInto zero text before = sets before 0 text
-writtenInto (suc r) text before = before
+-- 1 where the buffer is shorter than the text of the stored set
+abbrev pub textConditions : List ℕ → List ℕ → List Condition
+textConditions part before = gives (ltb (length before) (length (textOf part))) shortBuffer ∷ []
 
--- a call that gives this number, 0 for none, says so or the length of this text, and writes it
-pub record TextWritten (refusal : ℕ) (text before : List ℕ) (says : Answer ℕ) (after : List ℕ) : Type 0 where
-  pub answers : says ≡ said refusal (length text)
-  pub leaves : after ≡ writtenInto refusal text before
-
--- 1 where a buffer of this size is too short for the text of a stored set
-unfoldable pub textRefusal : List ℕ → ℕ → ℕ
-textRefusal part size = cond (ltb size (length (textOf part))) (numberOf shortBuffer) 0
-
--- a stored set is written back: any part and any buffer, by what is stored
+-- any part and any buffer, by what is stored
 abbrev pub WriteText : List ℕ → List ℕ → Written → List ℕ → Type 0
-WriteText part before answer after = TextWritten (textRefusal part (length before)) (textOf part) before (writtenSays answer) after
+WriteText part before answer after = TextWritten (textConditions part before) (textOf part) before answer after

@@ -1,14 +1,10 @@
 // The notation: names, folder sets and what a path means.
-pub mod arith;
 pub mod layout;
 pub mod limits;
-pub mod names;
 mod put;
 pub mod read;
 pub mod reads;
 mod scan;
-pub mod store;
-pub mod truth;
 pub mod write;
 
 // A path's place: its index among all paths of the set.

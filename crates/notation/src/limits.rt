@@ -1,8 +1,5 @@
 // Every limit of the notation, once; the specification's Limits has the same.
 
-// Bytes of a name.
-pub const MAX_NAME: usize = 32;
-
 // The highest folder number.
 pub const MAX_NUMBER: usize = 9999;
 

@@ -5,7 +5,7 @@ use crate::put;
 use crate::scan;
 use crate::scan::Scan;
 use crate::scan::Tally;
-use crate::store;
+use text::store;
 ghost use mathlib.Core.Path.{_≡_};
 ghost use mathlib.Core.List.{_++_};
 ghost use Prim.Native.Nat.{_≤_};

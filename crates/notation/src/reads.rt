@@ -7,8 +7,6 @@ ghost use Rattle.notation.specs.Limits.{maxPaths};
 ghost use Rattle.notation.specs.Reads.{word16, textLen, folderCount, pathCount, stepCount, labelCount, present, pathsEnd, folderAt, pathAt, stepAt, labelAt, textSlice, textOf, pathText, labelName, folderOf, folderTop, pathTop, labelTop};
 use crate::FolderNumber;
 use crate::PathPlace;
-use crate::arith::least;
-use crate::arith::minus;
 use crate::layout::FOLDER_COUNT_AT;
 use crate::layout::FOLDER_SIZE;
 use crate::layout::FOLDERS_AT;
@@ -27,6 +25,8 @@ use crate::layout::TEXT_LEN_AT;
 use crate::limits::MAX_LABELS;
 use crate::limits::MAX_PATHS;
 use crate::limits::MAX_SET_BYTES;
+use text::arith::least;
+use text::arith::minus;
 
 pub enum FolderAt {
     // The folder's number, the place of its first path, and its count of paths.

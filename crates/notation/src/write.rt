@@ -1,14 +1,8 @@
 // Writing a stored set back: its text, into a buffer.
 use crate::reads;
-use crate::store;
+use text::store;
+use text::written::Written;
 ghost use Rattle.notation.specs.WriteText.{WriteText};
-
-pub enum Written {
-    // The length of the text.
-    Bytes(usize),
-    // The buffer has fewer bytes than the text.
-    Short,
-}
 
 // Copies the text of the stored set to the first bytes of `out`; later bytes stay. A buffer that is too short is left as it was.
 pub fn write_text(part: &[u8], out: &mut [u8]) -> Written
@@ -17,7 +11,7 @@ pub fn write_text(part: &[u8], out: &mut [u8]) -> Written
     let text = reads::text(part);
     let size = text.len();
     if out.len() < size {
-        return Written::Short;
+        return Written::Refused(1);
     }
     store::copy(out, 0, text);
     Written::Bytes(size)

@@ -1,11 +1,10 @@
 -- What the answers of the machine's calls say, enum by enum (paper 01: If the answer is an enum).
 use Prim.Native.Nat.{ℕ}
 use mathlib.Core.Bool.{Bool, true, false}
-use Rattle.notation.specs.Answers.{Answer, refused, value}
+use Rattle.text.specs.Answers.{Answer, refused, value}
 use Rattle.stored.specs.declared.answers.Opened.{Opened}
 use Rattle.stored.specs.declared.answers.Asked.{Asked}
 use Rattle.stored.specs.declared.answers.Length.{Length}
-use Rattle.stored.specs.declared.answers.Written.{Written}
 
 -- an open's failure moves
 abbrev pub openedSays : Opened → Answer ℕ
@@ -22,8 +21,3 @@ askedSays (Asked.Refused n) = refused n
 abbrev pub lengthSays : Length → Answer ℕ
 lengthSays (Length.Symbols n) = value n
 lengthSays (Length.Refused n) = refused n
-
--- the length of a written text
-abbrev pub writtenSays : Written → Answer ℕ
-writtenSays (Written.Bytes n) = value n
-writtenSays (Written.Refused n) = refused n

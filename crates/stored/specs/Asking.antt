@@ -5,19 +5,19 @@ use mathlib.Core.Bool.{Bool, true, false, not, _&&_, cond}
 use mathlib.Core.List.{List, [], _∷_}
 use lib.Dec.{eqb}
 use denote.Ref.{RefT, now}
-use Rattle.notation.specs.Names.{Name, within}
-use Rattle.notation.specs.Part.{PartOf}
+use Rattle.text.specs.Names.{Name, within}
+use Rattle.text.specs.Part.{PartOf}
 use Rattle.notation.specs.Reads.{pathAt, folderOf}
-use Rattle.notation.specs.Answers.{Answer, said}
-use Rattle.notation.specs.Refusals.{shortBuffer, strangeShape, noSuchPlace}
+use Rattle.text.specs.Answers.{Answer, said}
+use Rattle.text.specs.Refusals.{shortBuffer, strangeShape, noSuchPlace}
 use Rattle.notation.specs.declared.PathPlace.{PathPlace}
 use Rattle.notation.specs.declared.FolderNumber.{FolderNumber}
 use Rattle.notation.specs.declared.reads.PathAt.{PathAt}
 use Rattle.notation.specs.declared.reads.FolderAt.{FolderAt}
 use Rattle.notation.specs.declared.reads.FolderIndex.{FolderIndex}
-use Rattle.notation.specs.Form.{any}
+use Rattle.text.specs.Lists.{any}
 use Rattle.theory.specs.Folders.{countFrom}
-use Rattle.theory.specs.Order.{Condition, gives, given}
+use Rattle.text.specs.Order.{Condition, gives, given}
 use Rattle.stored.specs.Tables.{sizeOf}
 use Rattle.stored.specs.Shape.{automatonShaped}
 use Rattle.stored.specs.HeldSet.{folderHeld}

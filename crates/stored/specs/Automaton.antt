@@ -7,11 +7,12 @@ use mathlib.Core.Bool.{Bool, true, false, not, _&&_, cond}
 use mathlib.Core.List.{List, [], _∷_, _++_, map}
 use lib.Dec.{eqb}
 use lib.ListN.{length}
-use Rattle.notation.specs.Names.{Name}
+use Rattle.text.specs.Names.{Name}
 use Rattle.notation.specs.Limits.{maxLabels}
 use Rattle.notation.specs.Sets.{Step, Path, FolderSet, axisOf, testOf}
 use Rattle.notation.specs.Form.{pathsOf, stepsOf, labelsOf}
-use Rattle.notation.specs.Layout.{setSize, setPart, le16, joined, padded}
+use Rattle.notation.specs.Layout.{setSize, setPart}
+use Rattle.text.specs.Bytes.{le16, joined, padded}
 use Rattle.notation.specs.Reads.{isDescendant, isStar}
 use Rattle.theory.specs.Words.{document, name, Word, sameSymbol, before, labelWords, begins}
 use Rattle.theory.specs.Prefix.{failure}

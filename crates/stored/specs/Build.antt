@@ -8,13 +8,12 @@ use lib.ListN.{length, drop}
 use Rattle.notation.specs.Limits.{maxSetBytes}
 use Rattle.notation.specs.Judged.{Verdict, refuses, accepts, Judged, verdictNumber}
 use Rattle.notation.specs.Reads.{textOf}
-use Rattle.notation.specs.Refusals.{shortBuffer, strangeShape, numberOf}
-use Rattle.notation.specs.WriteText.{TextWritten}
-use Rattle.theory.specs.Order.{Condition, gives, given}
+use Rattle.text.specs.Refusals.{shortBuffer, strangeShape, numberOf}
+use Rattle.text.specs.Written.{TextWritten}
+use Rattle.text.specs.Order.{Condition, gives}
 use Rattle.stored.specs.Automaton.{automatonOf, automatonSize}
 use Rattle.stored.specs.Shape.{automatonShaped}
-use Rattle.stored.specs.Answers.{writtenSays}
-use Rattle.stored.specs.declared.answers.Written.{Written}
+use Rattle.text.specs.declared.written.Written.{Written}
 
 -- an accepted text fills the buffer with the automaton of its set; a refusal changes nothing
 abbrev pub builtInto : Verdict → List ℕ → List ℕ
@@ -31,9 +30,6 @@ abbrev pub writeConditions : List ℕ → List ℕ → List Condition
 writeConditions a out =
     gives (ltb (length a) automatonSize || ltb (length out) maxSetBytes) shortBuffer ∷ gives (not (automatonShaped a)) strangeShape ∷ []
 
-unfoldable pub writeRefusal : List ℕ → List ℕ → ℕ
-writeRefusal a out = given (writeConditions a out)
-
 -- the stored set's text is written
 abbrev pub SetWritten : List ℕ → List ℕ → Written → List ℕ → Type 0
-SetWritten a before answer after = TextWritten (writeRefusal a before) (textOf a) before (writtenSays answer) after
+SetWritten a before answer after = TextWritten (writeConditions a before) (textOf a) before answer after

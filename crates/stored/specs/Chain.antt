@@ -2,9 +2,8 @@
 use Prim.Native.Nat.{ℕ, zero, suc}
 use mathlib.Core.Bool.{cond}
 use mathlib.Core.List.{List, [], _∷_, _++_}
-use Rattle.notation.specs.Names.{Name}
+use Rattle.text.specs.Names.{Name, sameName}
 use Rattle.notation.specs.Limits.{maxLabels}
-use Rattle.notation.specs.Activity.{sameName}
 use Rattle.notation.specs.Reads.{labelName}
 use Rattle.stored.specs.Automaton.{hash}
 use Rattle.stored.specs.Tables.{headAt, nextAt}

@@ -5,10 +5,9 @@ use mathlib.Core.Path.{_≡_}
 use mathlib.Core.Bool.{true, false, cond}
 use mathlib.Core.List.{List, [], _∷_, _++_}
 use lib.ListN.{length, getD, take}
-use Rattle.notation.specs.Names.{Name}
+use Rattle.text.specs.Names.{Name, sameName}
 use Rattle.notation.specs.Sets.{child, label, star, step, FolderSet, testOf}
 use Rattle.notation.specs.Form.{pathsOf, labelsOf}
-use Rattle.notation.specs.Activity.{sameName}
 use Rattle.notation.specs.Reads.{word16, pathCount, stepCount, labelCount, labelEntryAt}
 use Rattle.theory.specs.Words.{Word, begins}
 use Rattle.theory.specs.Prefix.{IsPrefix, failure}

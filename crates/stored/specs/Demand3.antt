@@ -7,18 +7,18 @@ use mathlib.Core.Logic.{_↔_}
 use mathlib.Core.Option.{none, some}
 use mathlib.Core.List.{List, [], _∷_, _++_, map, List·Memᴰ}
 use lib.ListN.{length}
-use Rattle.notation.specs.Names.{Name}
+use Rattle.text.specs.Names.{Name}
 use Rattle.notation.specs.Sets.{Folder, FolderSet, folderNumber}
 use Rattle.notation.specs.Form.{pathsOf}
 use Rattle.notation.specs.Accepted.{Accepted}
-use Rattle.notation.specs.Answers.{Answer, refused, value, numberSaid}
+use Rattle.text.specs.Answers.{Answer, refused, value, numberSaid}
 use Rattle.notation.specs.Fit.{nameAt, Active}
-use Rattle.notation.specs.Refusals.{Refusal, noSuchPlace, numberOf}
+use Rattle.text.specs.Refusals.{Refusal, noSuchPlace, numberOf}
 use Rattle.notation.specs.declared.PathPlace.{PathPlace}
 use Rattle.notation.specs.declared.FolderNumber.{FolderNumber}
 use Rattle.theory.specs.Words.{Word}
 use Rattle.theory.specs.Prefix.{CurrentPrefix}
-use Rattle.theory.specs.Order.{numberIn}
+use Rattle.text.specs.Order.{numberIn}
 use Rattle.theory.specs.Calls.{Lent, asLeft, otherwise, Call, openCall, closeCall, pathAt, refusal, run}
 use Rattle.theory.specs.History.{acceptedCalls, opensIn, closesIn, stillOpen, FittedAfterOpen, opensOf}
 use Rattle.theory.specs.Moves.{OpenMoves, MovesTold}

@@ -7,11 +7,10 @@ use mathlib.Core.Bool.{Bool, false, _&&_, cond}
 use mathlib.Core.List.{List, [], _∷_, _++_}
 use lib.Dec.{ltb, eqb}
 use lib.ListN.{length}
-use Rattle.notation.specs.Names.{Name}
-use Rattle.notation.specs.Limits.{maxName}
+use Rattle.text.specs.Names.{Name, maxName}
 use Rattle.notation.specs.Sets.{Path, FolderSet}
 use Rattle.notation.specs.Form.{pathsOf}
-use Rattle.notation.specs.Layout.{le16, joined, padded}
+use Rattle.text.specs.Bytes.{le16, joined, padded}
 use Rattle.notation.specs.Activity.{active, seen}
 use Rattle.theory.specs.Prefix.{prefixOf}
 use Rattle.stored.specs.Automaton.{maskSize, stateOf, bitBytes}

@@ -5,10 +5,8 @@ use mathlib.Core.List.{List, [], _∷_, _++_}
 use lib.Dec.{leb, ltb, eqb}
 use lib.ListN.{length, getD, take, drop, replicate}
 use lib.Seq.{sets}
-use Rattle.notation.specs.Names.{Name, nameForm, tooLong}
-use Rattle.notation.specs.Limits.{maxName}
-use Rattle.notation.specs.Layout.{le16, padded}
-use Rattle.notation.specs.Activity.{sameName}
+use Rattle.text.specs.Names.{Name, nameForm, tooLong, maxName, sameName}
+use Rattle.text.specs.Bytes.{le16, padded}
 use Rattle.notation.specs.Reads.{word16, stepCount, labelCount, labelEntryAt}
 use Rattle.theory.specs.Limits.{maxDepth, maxOpens}
 use Rattle.stored.specs.Automaton.{maskSize, masksAt, automatonSize, byteOf, tabulate}
@@ -19,9 +17,9 @@ use Rattle.stored.specs.Shape.{automatonShaped, allBelow}
 use Rattle.stored.specs.Run.{matchesAt, nameIn, stateIn, activeIn, seenIn, rowAt, rowSize, runSize}
 use Rattle.stored.specs.declared.counters.Counters.{Counters}
 use Rattle.stored.specs.declared.walk.Walk.{Walk}
-use Rattle.notation.specs.Refusals.{shortBuffer, strangeShape, torn, longName, looseEnd, tooDeep, full, crossed}
-use Rattle.notation.specs.Form.{any}
-use Rattle.theory.specs.Order.{Condition, gives, given}
+use Rattle.text.specs.Refusals.{shortBuffer, strangeShape, torn, longName, looseEnd, tooDeep, full, crossed}
+use Rattle.text.specs.Lists.{any}
+use Rattle.text.specs.Order.{Condition, gives, given}
 
 -- what is stored of a run
 

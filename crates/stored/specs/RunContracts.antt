@@ -5,8 +5,8 @@ use mathlib.Core.Path.{_≡_}
 use mathlib.Core.Bool.{cond}
 use mathlib.Core.List.{List}
 use lib.Dec.{eqb}
-use Rattle.notation.specs.Names.{Name}
-use Rattle.notation.specs.Answers.{said}
+use Rattle.text.specs.Names.{Name}
+use Rattle.text.specs.Answers.{said}
 use Rattle.stored.specs.Answers.{openedSays}
 use Rattle.stored.specs.RunCalls.{startRefusal, startRun, noCounters, openRefusal, openRun, openWalk, openCounters, closeRefusal, closeRun, closeCounters}
 use Rattle.stored.specs.declared.counters.Counters.{Counters}

@@ -5,8 +5,8 @@ use mathlib.Core.Bool.{Bool, true, _&&_, _||_}
 use mathlib.Core.List.{List}
 use lib.Dec.{leb, ltb, eqb}
 use lib.ListN.{getD}
-use Rattle.notation.specs.Names.{within}
-use Rattle.notation.specs.Limits.{maxName, maxSetBytes, maxNumber, maxPaths, maxSteps, maxLabels}
+use Rattle.text.specs.Names.{within, maxName}
+use Rattle.notation.specs.Limits.{maxSetBytes, maxNumber, maxPaths, maxSteps, maxLabels}
 use Rattle.notation.specs.Layout.{stepsAt}
 use Rattle.notation.specs.Reads.{word16, textLen, folderCount, pathCount, stepCount, labelCount, pathEntryAt, labelEntryAt, storedNumber, storedFirst}
 use Rattle.stored.specs.Automaton.{hashes}

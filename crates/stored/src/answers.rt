@@ -35,9 +35,3 @@ pub struct ClosedBy {
     pub refusal: u8,
     pub counters: Counters,
 }
-
-// A written text's length, or a refusal.
-pub enum Written {
-    Bytes(usize),
-    Refused(u8),
-}

@@ -1,3 +1,2 @@
-pub mod Basics
 pub mod Keywords
 pub mod Machine

@@ -5,14 +5,15 @@ use mathlib.Core.List.{List, [], _∷_, map, reverse}
 use mathlib.Core.Option.{Option}
 use lib.Dec.{leb}
 use lib.ListN.{length, getD}
-use Rattle.notation.specs.Names.{Name, nameForm, tooLong}
+use Rattle.text.specs.Names.{Name, nameForm, tooLong, sameName}
 use Rattle.notation.specs.Sets.{Path, FolderSet}
-use Rattle.notation.specs.Form.{pathsOf, nonEmpty}
-use Rattle.notation.specs.Refusals.{Refusal, torn, longName, looseEnd, tooDeep, full, crossed}
-use Rattle.notation.specs.Activity.{sameName, active, fits}
+use Rattle.notation.specs.Form.{pathsOf}
+use Rattle.text.specs.Lists.{nonEmpty}
+use Rattle.text.specs.Refusals.{Refusal, torn, longName, looseEnd, tooDeep, full, crossed}
+use Rattle.notation.specs.Activity.{active, fits}
 use Rattle.theory.specs.Limits.{maxDepth, maxOpens}
 use Rattle.theory.specs.Words.{document, Word, begins}
-use Rattle.theory.specs.Order.{Condition, gives, first, isNone}
+use Rattle.text.specs.Order.{Condition, gives, first, isNone}
 use Rattle.theory.specs.Walk.{movesOf, arrivedAt, walk}
 
 -- what a call was lent: automaton, run and counters as last left, or anything else. One lent anything else is in a list of calls only

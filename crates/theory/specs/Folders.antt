@@ -6,7 +6,7 @@ use mathlib.Core.List.{List, [], _∷_, _++_, List·Memᴰ}
 use lib.Dec.{eqb}
 use lib.ListN.{length}
 use Rattle.notation.specs.Sets.{Folder, folder, FolderSet}
-use Rattle.notation.specs.Form.{any}
+use Rattle.text.specs.Lists.{any}
 use Rattle.theory.specs.Calls.{State}
 
 -- as many numbers as `count`, from `first` on

@@ -3,7 +3,7 @@ use Prim.Native.Nat.{ℕ, zero, suc}
 use mathlib.Core.Path.{_≡_}
 use mathlib.Core.Bool.{true, cond}
 use mathlib.Core.List.{List, [], _∷_, _++_, map, reverse}
-use Rattle.notation.specs.Names.{Name}
+use Rattle.text.specs.Names.{Name}
 use Rattle.notation.specs.Sets.{FolderSet}
 use Rattle.notation.specs.Fit.{Fits}
 use Rattle.theory.specs.Calls.{asLeft, Call, openCall, closeCall, State, fresh, accepted, step, run, openNames, pathAt, activeStep}

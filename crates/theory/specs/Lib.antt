@@ -3,7 +3,6 @@ pub mod Limits
 pub mod Words
 pub mod Prefix
 pub mod Walk
-pub mod Order
 pub mod Calls
 pub mod History
 pub mod Moves

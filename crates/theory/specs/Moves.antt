@@ -1,7 +1,7 @@
 -- The failure moves of a list of calls (paper 01: fall-backs), by the walks of its accepted opens alone.
 use Prim.Native.Nat.{ℕ, _+_}
 use mathlib.Core.List.{List, [], _∷_}
-use Rattle.notation.specs.Names.{Name}
+use Rattle.text.specs.Names.{Name}
 use Rattle.notation.specs.Sets.{FolderSet}
 use Rattle.theory.specs.Words.{Word}
 use Rattle.theory.specs.Prefix.{CurrentPrefix}

@@ -3,7 +3,7 @@ use Prim.Native.Nat.{ℕ, zero, suc}
 use mathlib.Core.Bool.{Bool, false, not, cond}
 use mathlib.Core.List.{[], _∷_, _++_}
 use lib.ListN.{length}
-use Rattle.notation.specs.Names.{Name}
+use Rattle.text.specs.Names.{Name}
 use Rattle.notation.specs.Sets.{FolderSet}
 use Rattle.theory.specs.Words.{Symbol, name, Word, Begins, begins}
 use Rattle.theory.specs.Prefix.{LongestProperEnd, failure}

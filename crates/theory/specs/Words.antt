@@ -2,10 +2,10 @@
 use mathlib.Core.Path.{_≡_}
 use mathlib.Core.Bool.{Bool, true, false, _&&_}
 use mathlib.Core.List.{List, [], _∷_, _++_, List·Memᴰ}
-use Rattle.notation.specs.Names.{Name}
+use Rattle.text.specs.Names.{Name, sameName}
 use Rattle.notation.specs.Sets.{child, descendant, label, star, step, Path, FolderSet}
-use Rattle.notation.specs.Form.{pathsOf, any}
-use Rattle.notation.specs.Activity.{sameName}
+use Rattle.notation.specs.Form.{pathsOf}
+use Rattle.text.specs.Lists.{any}
 
 -- the document node `#`, and names
 pub data Symbol : Type 0 where

@@ -4,4 +4,3 @@ pub mod OneDocument
 pub mod Passed
 pub mod Places
 pub mod Select
-pub mod Steps

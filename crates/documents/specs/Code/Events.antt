@@ -2,9 +2,8 @@
 use Prim.Native.Nat.{ℕ}
 use mathlib.Core.Bool.{Bool, true, false, not, _&&_}
 use mathlib.Core.List.{List, [], _∷_, _++_, dropLast}
-use Rattle.notation.specs.Names.{Name}
-use Rattle.notation.specs.Form.{every}
-use Rattle.notation.specs.Activity.{sameName}
+use Rattle.text.specs.Names.{Name, sameName}
+use Rattle.text.specs.Lists.{every}
 use Rattle.documents.specs.Tokens.{blank}
 use Rattle.documents.specs.Document.{Event, opening, closing, textHere, commentHere, eventsOf, Report}
 

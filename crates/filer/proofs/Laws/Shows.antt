@@ -10,9 +10,9 @@ use borrow.Author.Tests.{le-ltb}
 use Rattle.io.specs.Counts.{Counts}
 use Rattle.stored.specs.Automaton.{automatonSize}
 use Rattle.stored.specs.Run.{runSize}
-use Rattle.notation.specs.Answers.{value}
-use Rattle.stored.specs.Answers.{writtenSays}
-use Rattle.stored.specs.declared.answers.Written.{Written}
+use Rattle.text.specs.Answers.{value}
+use Rattle.text.specs.Written.{writtenSays}
+use Rattle.text.specs.declared.written.Written.{Written}
 use Rattle.filing.specs.Limits.{listingSize}
 use Rattle.filing.specs.Filer.{tooSmall, PrintsText, Prints}
 use Rattle.filing.proofs.Laws.Listing.Printing.{some-printed}

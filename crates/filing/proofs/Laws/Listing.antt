@@ -1,5 +1,3 @@
-pub mod Numbers
-pub mod Pages
 pub mod PrintedOnce
 pub mod PrintedText
 pub mod PrintedXPath

@@ -5,13 +5,14 @@ use mathlib.Core.Bool.{not, _||_, cond}
 use mathlib.Core.List.{List, [], _∷_}
 use lib.Dec.{eqb, ltb}
 use lib.ListN.{length}
-use Rattle.notation.specs.Form.{every}
-use Rattle.notation.specs.Refusals.{oversize, foreignByte, torn, looseEnd, numberOf}
+use Rattle.text.specs.Lists.{every}
+use Rattle.text.specs.Refusals.{oversize, foreignByte, torn, looseEnd, numberOf}
 use Rattle.stored.specs.RunCalls.{depthOf, startRefusal}
 use Rattle.stored.specs.Demand3.{Left, started}
 use Rattle.stored.specs.declared.counters.Counters.{Counters}
 use Rattle.documents.specs.Tokens.{Token, listed}
-use Rattle.documents.specs.Reading.{Read, fail, got, readReport}
+use Rattle.text.specs.Read.{Read, fail, got}
+use Rattle.documents.specs.Reading.{readReport}
 use Rattle.documents.specs.Document.{eventsOfToken}
 use Rattle.filing.specs.Limits.{maxReportBytes}
 use Rattle.filing.specs.FileCall.{Outcome, refusedWith, leaving, thenGo, eventsOutcome}

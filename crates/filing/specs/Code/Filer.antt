@@ -3,9 +3,9 @@ use Prim.Native.Nat.{ℕ, zero, suc}
 use mathlib.Core.Path.{_≡_}
 use mathlib.Core.List.{List}
 use Rattle.notation.specs.Sets.{FolderSet}
-use Rattle.notation.specs.Refusals.{numberOf}
+use Rattle.text.specs.Refusals.{numberOf}
 use Rattle.stored.specs.RunCalls.{noCounters}
-use Rattle.stored.specs.declared.answers.Written.{Written}
+use Rattle.text.specs.declared.written.Written.{Written}
 use Rattle.stored.specs.declared.counters.Counters.{Counters}
 use Rattle.filing.specs.Code.FileCall.{fileAnswer, fileLeft}
 use Rattle.filing.specs.Filing.{Filed, refused, filed, fileReport}

@@ -5,7 +5,8 @@ use Rattle.filing.specs.declared.tags.Reach.{Reach}
 use Rattle.filing.specs.declared.tags.Reach.the-variants.{No, To}
 use mathlib.Core.List.{List, [], _∷_}
 use Rattle.documents.specs.Tokens.{quoteByte, blank, inValue}
-use Rattle.documents.specs.Reading.{Read, fail, got, thenRead, back, readWord, readQuote, readParts, readAttributes}
+use Rattle.text.specs.Read.{Read, fail, got, thenRead, back, readWord}
+use Rattle.documents.specs.Reading.{readQuote, readParts, readAttributes}
 
 abbrev pub reachOf : {A : Type 0} → ℕ → Read A → Reach
 reachOf total fail = No

@@ -4,11 +4,11 @@ use mathlib.Core.Bool.{Bool, true, false, cond}
 use mathlib.Core.List.{List, []}
 use lib.Dec.{eqb, ltb}
 use lib.ListN.{length, getD, drop}
-use Rattle.notation.specs.Names.{Name}
+use Rattle.text.specs.Names.{Name}
 use Rattle.filing.specs.declared.tokens.Found.{Found}
 use Rattle.filing.specs.declared.tokens.Found.the-variants.{Nothing, Start, Empty, Text}
 use Rattle.documents.specs.Tokens.{Token, declaration, comment, startTag, emptyTag, endTag, text, declarationBytes}
-use Rattle.documents.specs.Reading.{Read, fail, got, thenRead, readWord}
+use Rattle.text.specs.Read.{Read, fail, got, thenRead, readWord}
 use Rattle.filing.specs.Seen.{foundOf}
 
 -- `>` or `/>` at e, of a tag whose name stands from .. to

@@ -4,15 +4,15 @@ use mathlib.Core.Path.{_≡_}
 use mathlib.Core.Bool.{Bool, not, _&&_, _||_}
 use mathlib.Core.List.{List}
 use lib.Dec.{eqb, leb}
-use Rattle.notation.specs.Names.{Name}
-use Rattle.notation.specs.Refusals.{torn, numberOf}
+use Rattle.text.specs.Names.{Name}
+use Rattle.text.specs.Refusals.{torn, numberOf}
 use Rattle.stored.specs.RunCalls.{startRun}
 use Rattle.stored.specs.Demand3.{Left}
 use Rattle.stored.specs.declared.counters.Counters.{Counters}
 use Rattle.filing.specs.declared.tokens.Found.{Found}
 use Rattle.filing.specs.declared.tokens.Found.the-variants.{Nothing, Declaration, Comment, Start, Empty, End, Text}
 use Rattle.documents.specs.Tokens.{Token}
-use Rattle.documents.specs.Reading.{Read, fail, got}
+use Rattle.text.specs.Read.{Read, fail, got}
 use Rattle.filing.specs.Seen.{foundEnd, declares}
 use Rattle.filing.specs.FileCall.{Outcome, refusedWith, leaving, thenGo, outcome, openOutcome, closeOutcome, textOutcome}
 use Rattle.filing.specs.Code.FileCall.{numberLeft, leftIn, tokensOutcome}

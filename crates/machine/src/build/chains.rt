@@ -5,7 +5,7 @@ use crate::layout::LINK_SIZE;
 use crate::layout::LINKS_AT;
 use notation::limits::MAX_LABELS;
 use notation::reads;
-use notation::store::put16;
+use text::store::put16;
 ghost use mathlib.Core.Path.{_≡_};
 ghost use Prim.Native.Nat.{_≤_, _<_, min};
 ghost use lib.ListN.{length};

@@ -13,7 +13,7 @@ use notation::limits::MAX_STEPS;
 use notation::reads::label_name;
 use notation::reads::labels;
 use notation::reads::word_at;
-use notation::store::put16;
+use text::store::put16;
 
 // The state of the failure link of label `l`: the open's walk from its parent's.
 fn fail_to(a: &[u8], l: usize) -> usize

@@ -14,7 +14,7 @@ ghost use Prim.Native.Nat.{ℕ, _+_, _/_, _≤_, _<_};
 ghost use lib.Dec.{eqb};
 ghost use lib.ListN.{length};
 ghost use Rattle.notation.specs.Reads.{word16, labelCount, labelEntryAt};
-ghost use Rattle.notation.specs.Form.{any};
+ghost use Rattle.text.specs.Lists.{any};
 ghost use Rattle.stored.specs.Automaton.{maskSize, hash};
 ghost use Rattle.stored.specs.Bits.{bitAt};
 ghost use Rattle.stored.specs.Chain.{chainLabels, ownLabel};

@@ -1,12 +1,13 @@
 // A close: the innermost element's row becomes zero.
 use crate::run::layout::ROW_SIZE;
+use crate::run::lent;
 use crate::run::refusals;
 use crate::run::row;
 use crate::run::rows;
 use crate::run::shape;
-use notation::store::put16;
 use stored::answers::ClosedBy;
 use stored::counters::Counters;
+use text::store::put16;
 ghost use mathlib.Core.Path.{_≡_};
 ghost use Prim.Native.Nat.{_≤_, _<_};
 ghost use lib.ListN.{length};
@@ -56,7 +57,7 @@ pub fn close_usable(a: &[u8], run: &mut [u8], counters: Counters, e: &[u8]) -> C
 pub fn close_by(a: &[u8], run: &mut [u8], counters: Counters, e: &[u8]) -> ClosedBy
     ensures { λ r. ⌜ ClosesBy (now (a .entry)) (now (run .entry)) counters (now (e .entry)) r (now (run .exit)) ⌝ }
 {
-    let refused = refusals::lent_refusal(a, run, counters);
+    let refused = lent::refusal(a, run, counters);
     if refused != 0 {
         return ClosedBy {
             refusal: refused,

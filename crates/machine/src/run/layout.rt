@@ -1,6 +1,6 @@
 // Where the parts of a run stand in its buffer. Sizes are in bytes.
 use crate::layout::MASK_SIZE;
-use notation::limits::MAX_NAME;
+use text::names::MAX_NAME;
 
 // Elements open at once, and opens accepted in one run.
 pub const MAX_DEPTH: usize = 64;

@@ -4,24 +4,26 @@ use crate::layout::MASK_SIZE;
 use crate::run::candidates;
 use crate::run::layout::MATCHES_AT;
 use crate::run::layout::ROW_SIZE;
+use crate::run::lent;
 use crate::run::refusals;
 use crate::run::row;
 use crate::run::rows;
 use crate::run::shape;
 use crate::run::steps;
 use crate::walk;
-use notation::store::copy;
-use notation::store::put16;
 use stored::answers::Opened;
 use stored::answers::OpenedBy;
 use stored::counters::Counters;
 use stored::walk::Walk;
+use text::store::copy;
+use text::store::put16;
 ghost use mathlib.Core.Path.{_≡_};
 ghost use Prim.Native.Nat.{suc, _≤_, _<_};
 ghost use mathlib.Core.List.{_∷_, _++_};
 ghost use lib.ListN.{length};
-ghost use Rattle.notation.specs.Limits.{maxName, maxSteps};
-ghost use Rattle.notation.specs.Layout.{le16, padded};
+ghost use Rattle.text.specs.Names.{maxName};
+ghost use Rattle.notation.specs.Limits.{maxSteps};
+ghost use Rattle.text.specs.Bytes.{le16, padded};
 ghost use Rattle.theory.specs.Limits.{maxDepth};
 ghost use Rattle.stored.specs.Automaton.{maskSize, hash};
 ghost use Rattle.stored.specs.RunContracts.{Opens, OpensBy};
@@ -106,7 +108,7 @@ pub fn open_usable(a: &[u8], run: &mut [u8], counters: Counters, e: &[u8]) -> Op
 pub fn open_by(a: &[u8], run: &mut [u8], counters: Counters, e: &[u8]) -> OpenedBy
     ensures { λ r. ⌜ OpensBy (now (a .entry)) (now (run .entry)) counters (now (e .entry)) r (now (run .exit)) ⌝ }
 {
-    let refused = refusals::lent_refusal(a, run, counters);
+    let refused = lent::refusal(a, run, counters);
     if refused != 0 {
         return OpenedBy {
             answer: Opened::Refused(refused),

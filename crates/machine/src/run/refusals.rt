@@ -4,39 +4,17 @@ use crate::run::layout::MAX_DEPTH;
 use crate::run::layout::MAX_OPENS;
 use crate::run::layout::NAME_IN;
 use crate::run::layout::RUN_SIZE;
+use crate::run::lent;
 use crate::run::rows;
 use crate::run::shape;
-use crate::shape::automaton_shaped;
-use notation::names;
 use stored::counters::Counters;
+use text::names;
 ghost use mathlib.Core.Path.{_≡_};
-ghost use mathlib.Core.Bool.{_&&_};
 ghost use Prim.Native.Nat.{_≤_};
-ghost use Rattle.stored.specs.Shape.{automatonShaped};
-ghost use Rattle.theory.specs.Order.{given};
-ghost use Rattle.stored.specs.RunCalls.{depthOf, runShaped, shaped, rootShut, lentConditions, nameConditions, openOthers, closeOthers};
+ghost use Rattle.text.specs.Order.{given};
+ghost use Rattle.stored.specs.RunCalls.{depthOf, rootShut, nameConditions, openOthers, closeOthers};
 ghost use Rattle.stored.specs.Asking.{askRefusal, RowName};
 ghost use Rattle.stored.specs.Openable.{Ready};
-
-// Automaton and run pass the shape test.
-fn both_shaped(a: &[u8], run: &[u8]) -> bool
-    ensures { λ r. ⌜ r ≡ (automatonShaped (now (a .entry)) && runShaped (now (a .entry)) (now (run .entry))) ⌝ }
-{
-    if automaton_shaped(a) {
-        return shape::run_shaped(a, run);
-    }
-    false
-}
-
-// Automaton, run and counters do.
-fn all_shaped(a: &[u8], run: &[u8], c: Counters) -> bool
-    ensures { λ r. ⌜ r ≡ shaped (now (a .entry)) (now (run .entry)) c ⌝ }
-{
-    if both_shaped(a, run) {
-        return shape::counters_shaped(run, c);
-    }
-    false
-}
 
 // The name in the row of an open element, where it stands.
 pub fn stored_name<'a, 'r>(a: &'a [u8], run: &'r [u8], d: usize) -> &'r [u8]
@@ -46,22 +24,6 @@ pub fn stored_name<'a, 'r>(a: &'a [u8], run: &'r [u8], d: usize) -> &'r [u8]
     let from = rows::row_at(d) + NAME_IN;
     let to = from + rows::name_length(run, d);
     &run[from..to]
-}
-
-// 1, 14, with which open and close begin.
-pub fn lent_refusal(a: &[u8], run: &[u8], c: Counters) -> u8
-    ensures { λ r. ⌜ r ≡ given (lentConditions (now (a .entry)) (now (run .entry)) c) ⌝ }
-{
-    if a.len() < AUTOMATON_SIZE {
-        return 1;
-    }
-    if run.len() < RUN_SIZE {
-        return 1;
-    }
-    if !all_shaped(a, run, c) {
-        return 14;
-    }
-    0
 }
 
 // 9, 5, which are next.
@@ -136,7 +98,7 @@ pub fn ask_refusal(a: &[u8], run: &[u8], there: bool) -> u8
     if run.len() < RUN_SIZE {
         return 1;
     }
-    if !both_shaped(a, run) {
+    if !lent::both_shaped(a, run) {
         return 14;
     }
     if there {

@@ -1,10 +1,8 @@
 pub mod Modes
-pub mod Decimal
 pub mod Accepted
 pub mod Grown
 pub mod Sound
 pub mod Span
-pub mod Number
 pub mod SameStep
 pub mod SamePath
 pub mod SameSet

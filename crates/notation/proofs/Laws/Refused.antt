@@ -1,4 +1,3 @@
-pub mod Numbers
 pub mod Within
 pub mod WithinLimits
 pub mod Fitting

@@ -3,7 +3,7 @@ use Prim.Native.Nat.{ℕ, _+_, _-_}
 use mathlib.Core.Bool.{cond}
 use mathlib.Core.List.{List, [], _∷_, _++_}
 use lib.Dec.{eqb}
-use Rattle.notation.specs.Names.{inName}
+use Rattle.text.specs.Names.{inName}
 use Rattle.notation.specs.Layout.{Tables, folderEntry, pathEntry, labelEntry, layout}
 use Rattle.notation.specs.Code.Scan.{scanned, start}
 use Rattle.notation.specs.declared.scan.Mode.{Mode}

@@ -6,9 +6,10 @@ use lib.Dec.{eqb}
 use lib.ListN.{set}
 use lib.Seq.{sets}
 use Rattle.notation.specs.Limits.{maxPaths, maxSteps, maxLabels}
-use Rattle.notation.specs.Names.{inName}
+use Rattle.text.specs.Names.{inName}
 use Rattle.notation.specs.Code.Scan.{scanned}
-use Rattle.notation.specs.Layout.{le16, folderSize, pathSize, labelSize, foldersAt, pathsAt, stepsAt, labelsAt, folderEntry, pathEntry, labelEntry}
+use Rattle.text.specs.Bytes.{le16}
+use Rattle.notation.specs.Layout.{folderSize, pathSize, labelSize, foldersAt, pathsAt, stepsAt, labelsAt, folderEntry, pathEntry, labelEntry}
 use Rattle.notation.specs.declared.scan.Mode.{Mode}
 use Rattle.notation.specs.declared.scan.Mode.the-variants.{Header, LineStart, Word, NumberStart, Number, PathOpen, PathStart, Slash, Slashes, Label, Star, PathEnd, LineEnd, LastLine, Done, Bent}
 use Rattle.notation.specs.declared.scan.Tally.{Tally}

@@ -5,8 +5,8 @@ use mathlib.Core.Bool.{Bool, true, false, _&&_, _||_, cond}
 use mathlib.Core.List.{List, [], _∷_}
 use lib.Dec.{leb, ltb, eqb}
 use lib.ListN.{getD}
-use Rattle.notation.specs.Limits.{maxName, maxSteps, maxPaths, maxLabels}
-use Rattle.notation.specs.Names.{beginsName, inName, digit, within}
+use Rattle.text.specs.Names.{maxName, beginsName, inName, digit, within}
+use Rattle.notation.specs.Limits.{maxSteps, maxPaths, maxLabels}
 use Rattle.notation.specs.Print.{header, folderWord}
 use Rattle.notation.specs.Form.{overBytes}
 use Rattle.notation.specs.declared.scan.Mode.{Mode}

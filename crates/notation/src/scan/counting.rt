@@ -1,15 +1,15 @@
 // What the bytes of a set's text add to its counts, one byte at a time.
-use crate::arith::minus;
-use crate::limits::MAX_NAME;
 use crate::limits::MAX_STEPS;
-use crate::names;
 use crate::scan::Mode;
 use crate::scan::Tally;
+use text::arith::minus;
+use text::names;
+use text::names::MAX_NAME;
 ghost use mathlib.Core.Path.{_≡_};
 ghost use mathlib.Core.Bool.{cond};
 ghost use Prim.Native.Nat.{_<_};
 ghost use lib.Dec.{eqb};
-ghost use Rattle.notation.specs.Names.{inName};
+ghost use Rattle.text.specs.Names.{inName};
 ghost use Rattle.notation.specs.Code.Scan.{orElse, folderRead, pathBegun, deepened, labelBegun, labelRead, starRead, stepRead, pathRead, counted};
 ghost use Rattle.notation.specs.Code.Safe.{Small};
 

@@ -1,11 +1,11 @@
 // What the bytes of a set's text lead to, one byte at a time.
-use crate::names;
 use crate::scan::Mode;
+use text::names;
 ghost use mathlib.Core.Path.{_≡_};
 ghost use mathlib.Core.Bool.{cond};
 ghost use Prim.Native.Nat.{_+_, _≤_};
 ghost use lib.Dec.{eqb};
-ghost use Rattle.notation.specs.Names.{inName};
+ghost use Rattle.text.specs.Names.{inName};
 ghost use Rattle.notation.specs.Print.{header, folderWord};
 ghost use Rattle.notation.specs.Code.Scan.{next, testStart, testEnd, inWord, inNumber, lineStart, numberStart, pathEnd};
 ghost use Rattle.notation.specs.Code.Safe.{SmallMode};

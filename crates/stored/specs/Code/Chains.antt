@@ -3,7 +3,7 @@
 use Prim.Native.Nat.{ℕ, zero, suc, _+_, _*_}
 use mathlib.Core.List.{List}
 use lib.Seq.{sets}
-use Rattle.notation.specs.Layout.{le16}
+use Rattle.text.specs.Bytes.{le16}
 use Rattle.notation.specs.Reads.{labelName}
 use Rattle.stored.specs.Automaton.{headsAt, linksAt, linkSize, hash}
 use Rattle.stored.specs.Tables.{headAt}

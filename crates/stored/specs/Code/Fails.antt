@@ -7,7 +7,7 @@ use mathlib.Core.List.{List}
 use lib.Dec.{eqb}
 use lib.ListN.{length}
 use lib.Seq.{sets}
-use Rattle.notation.specs.Layout.{le16}
+use Rattle.text.specs.Bytes.{le16}
 use Rattle.notation.specs.Reads.{labelCount, labelName}
 use Rattle.stored.specs.Automaton.{automatonSize, linksAt, linkSize}
 use Rattle.stored.specs.Tables.{parentAt, sizeAt, sizeOf, failOf, walkOver}

@@ -1,4 +1,3 @@
-pub mod Order
 pub mod Steps
 pub mod Calls
 pub mod History

@@ -1,16 +1,18 @@
 -- A run of tokens has listed bytes only: refusal 8 comes before 9 and takes no run away.
 use Prim.Native.Nat.{ℕ, _≤_}
 use native.Mathlib.Omega.{arith}
-use mathlib.Core.Path.{_≡_, refl, sym, _∙_}
+use mathlib.Core.Path.{_≡_, refl}
 use mathlib.Core.Logic.{⊎-elim}
 use mathlib.Core.Bool.{Bool, true, _||_, false≢true, or-true}
 use mathlib.Core.List.{List, [], _∷_, _++_}
 use lib.Dec.{leb, eqb}
 use borrow.Author.Tests.{leb-true, le-leb, eqb-true}
-use Rattle.notation.specs.Names.{within, letter, digit, beginsName, inName, nameForm}
-use Rattle.notation.specs.Form.{every, nonEmpty}
+use Rattle.text.specs.Names.{within, letter, digit, beginsName, inName, nameForm}
+use Rattle.text.specs.Lists.{every, nonEmpty}
 use Rattle.documents.specs.Tokens.{blank, listed, isEntity, inText, inValue, Part, plain, reference, Quote, double, single, quoteByte, Attribute, attribute, Token, declaration, comment, startTag, emptyTag, endTag, text, declarationBytes, printPart, printParts, printAttribute, printAttributes, printToken, printTokens, formedPart, formedAttribute, formedTag, formedComment, formedText, formedToken, formedRun, RunOfTokens}
-use Rattle.documents.proofs.Laws.Read.Bytes.{left, right, join, every-head, every-rest, either, entity-cases, all-in-name, value-text, at-blank}
+use Rattle.text.proofs.Laws.Tests.{and-left, and-right, both-true, either}
+use Rattle.text.proofs.Laws.Lists.{every-head, every-rest}
+use Rattle.documents.proofs.Laws.Read.Bytes.{entity-cases, value-text, at-blank}
 use Rattle.documents.proofs.Laws.Printed.AttributesBack.{formed-parts}
 
 in-range : (b : ℕ) → 32 ≤ b → b ≤ 126 → listed b ≡ true
@@ -19,8 +21,8 @@ in-range b h k = rw (le-leb 32 b h, le-leb b 126 k) (or-true (eqb b 9 || eqb b 1
 
 between : (lo hi b : ℕ) → within lo hi b ≡ true → 32 ≤ lo → hi ≤ 126 → listed b ≡ true
 between lo hi b h k m =
-    let low : lo ≤ b = leb-true lo b (left _ _ h) in
-    let high : b ≤ hi = leb-true b hi (right (leb lo b) _ h) in
+    let low : lo ≤ b = leb-true lo b (and-left _ _ h) in
+    let high : b ≤ hi = leb-true b hi (and-right (leb lo b) _ h) in
     in-range b (omega arith) (omega arith)
 
 is-byte : (b c : ℕ) → eqb b c ≡ true → 32 ≤ c → c ≤ 126 → listed b ≡ true
@@ -54,30 +56,30 @@ blank-listed = at-blank listed true refl refl refl refl
 weaker : (ok : ℕ → Bool) → ((b : ℕ) → ok b ≡ true → listed b ≡ true) → (l : List ℕ) → every ok l ≡ true → every listed l ≡ true
 unfolding every
 weaker ok f [] h = refl
-weaker ok f (b ∷ l) h = join (f b (left _ _ h)) (weaker ok f l (right (ok b) _ h))
+weaker ok f (b ∷ l) h = both-true (f b (and-left _ _ h)) (weaker ok f l (and-right (ok b) _ h))
 
 both : (a b : List ℕ) → every listed a ≡ true → every listed b ≡ true → every listed (a ++ b) ≡ true
 unfolding every
 both [] b h k = k
-both (x ∷ a) b h k = join (every-head listed x a h) (both a b (every-rest listed x a h) k)
+both (x ∷ a) b h k = both-true (every-head listed x a h) (both a b (every-rest listed x a h) k)
 
 form-listed : (n : List ℕ) → nameForm n ≡ true → every listed n ≡ true
 unfolding nameForm every
 form-listed [] h = absurd (false≢true h)
-form-listed (b ∷ n) h = join (begins-listed b (left _ _ h)) (weaker inName name-listed n (sym (all-in-name n) ∙ right (beginsName b) _ h))
+form-listed (b ∷ n) h = both-true (begins-listed b (and-left _ _ h)) (weaker inName name-listed n (and-right (beginsName b) _ h))
 
 parts-listed : (ok : ℕ → Bool) → ((b : ℕ) → ok b ≡ true → listed b ≡ true) → (ps : List Part) → every (formedPart ok) ps ≡ true → every listed (printParts ps) ≡ true
 unfolding every printParts printPart listed
 parts-listed ok f [] h = refl
-parts-listed ok f (plain b ∷ ps) h = join (f b (left _ _ h)) (parts-listed ok f ps (right (ok b) _ h))
+parts-listed ok f (plain b ∷ ps) h = both-true (f b (and-left _ _ h)) (parts-listed ok f ps (and-right (ok b) _ h))
 parts-listed ok f (reference n ∷ ps) h =
     both (38 ∷ (n ++ (59 ∷ []))) (printParts ps)
-    (both n (59 ∷ []) (entity-cases n (left _ _ h) (λ e. rw e) (λ e. rw e) (λ e. rw e) (λ e. rw e) (λ e. rw e)) refl)
-    (parts-listed ok f ps (right (isEntity n) _ h))
+    (both n (59 ∷ []) (entity-cases n (and-left _ _ h) (λ e. rw e) (λ e. rw e) (λ e. rw e) (λ e. rw e) (λ e. rw e)) refl)
+    (parts-listed ok f ps (and-right (isEntity n) _ h))
 
 text-listed : (b : ℕ) → inText b ≡ true → listed b ≡ true
 unfolding inText
-text-listed b h = left _ _ h
+text-listed b h = and-left _ _ h
 
 quote-listed : (q : Quote) → listed (quoteByte q) ≡ true
 unfolding listed
@@ -93,38 +95,38 @@ attribute-listed (attribute s n before after q v) h =
     (both n _ (form-listed n (f .name))
     (both before _ (blanks before (f .blanks₂))
     (both after _ (blanks after (f .blanks₃))
-    (join (quote-listed q)
+    (both-true (quote-listed q)
     (both (printParts v) _ (parts-listed (inValue (quoteByte q)) (λ b k. text-listed b (value-text (quoteByte q) b k)) v (f .value))
-    (join (quote-listed q) refl))))))
+    (both-true (quote-listed q) refl))))))
 
 attributes-listed : (l : List Attribute) → every formedAttribute l ≡ true → every listed (printAttributes l) ≡ true
 unfolding printAttributes every
 attributes-listed [] h = refl
-attributes-listed (a ∷ l) h = both (printAttribute a) _ (attribute-listed a (left _ _ h)) (attributes-listed l (right (formedAttribute a) _ h))
+attributes-listed (a ∷ l) h = both (printAttribute a) _ (attribute-listed a (and-left _ _ h)) (attributes-listed l (and-right (formedAttribute a) _ h))
 
 tag-listed : (n : List ℕ) (l : List Attribute) (s e : List ℕ) → formedTag n l s ≡ true → every listed e ≡ true
     → every listed (n ++ (printAttributes l ++ (s ++ e))) ≡ true
 unfolding formedTag
 tag-listed n l s e h k =
-    let h₂ = right (nameForm n) _ h in
-    both n _ (form-listed n (left _ _ h))
-    (both (printAttributes l) _ (attributes-listed l (left _ _ h₂))
-    (both s e (weaker blank blank-listed s (right (every formedAttribute l) _ h₂)) k))
+    let h₂ = and-right (nameForm n) _ h in
+    both n _ (form-listed n (and-left _ _ h))
+    (both (printAttributes l) _ (attributes-listed l (and-left _ _ h₂))
+    (both s e (weaker blank blank-listed s (and-right (every formedAttribute l) _ h₂)) k))
 
 token-listed : (t : Token) → formedToken t ≡ true → every listed (printToken t) ≡ true
 unfolding formedToken formedComment formedText printToken declarationBytes every listed
 token-listed declaration h = refl
-token-listed (comment c) h = both c (45 ∷ 45 ∷ 62 ∷ []) (left _ _ h) refl
+token-listed (comment c) h = both c (45 ∷ 45 ∷ 62 ∷ []) (and-left _ _ h) refl
 token-listed (startTag n l s) h = tag-listed n l s (62 ∷ []) h refl
 token-listed (emptyTag n l s) h = tag-listed n l s (47 ∷ 62 ∷ []) h refl
-token-listed (endTag n s) h = both n _ (form-listed n (left _ _ h)) (both s (62 ∷ []) (weaker blank blank-listed s (right (nameForm n) _ h)) refl)
-token-listed (text ps) h = parts-listed inText text-listed ps (left _ _ (right (nonEmpty ps) _ h))
+token-listed (endTag n s) h = both n _ (form-listed n (and-left _ _ h)) (both s (62 ∷ []) (weaker blank blank-listed s (and-right (nameForm n) _ h)) refl)
+token-listed (text ps) h = parts-listed inText text-listed ps (and-left _ _ (and-right (nonEmpty ps) _ h))
 
 tokens-listed : (ts : List Token) → every formedToken ts ≡ true → every listed (printTokens ts) ≡ true
 unfolding printTokens every
 tokens-listed [] h = refl
-tokens-listed (t ∷ ts) h = both (printToken t) _ (token-listed t (left _ _ h)) (tokens-listed ts (right (formedToken t) _ h))
+tokens-listed (t ∷ ts) h = both (printToken t) _ (token-listed t (and-left _ _ h)) (tokens-listed ts (and-right (formedToken t) _ h))
 
 pub run-listed : (bytes : List ℕ) → RunOfTokens bytes → every listed bytes ≡ true
 unfolding formedRun
-run-listed bytes run = rw (run .prints) at (tokens-listed (run .tokens) (left _ _ (run .well)))
+run-listed bytes run = rw (run .prints) at (tokens-listed (run .tokens) (and-left _ _ (run .well)))

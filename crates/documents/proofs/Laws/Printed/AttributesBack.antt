@@ -6,11 +6,14 @@ use mathlib.Core.Bool.{true, false, _&&_, false≢true}
 use mathlib.Core.List.{List, [], _∷_, _++_, append-assoc}
 use borrow.Author.Tests.{eq-eqb}
 use lib.ListN.{length, length-append}
-use Rattle.notation.specs.Names.{nameForm}
-use Rattle.notation.specs.Form.{every, nonEmpty}
+use Rattle.text.specs.Names.{nameForm}
+use Rattle.text.specs.Lists.{every, nonEmpty}
 use Rattle.documents.specs.Tokens.{blank, listed, inText, inValue, Part, Quote, double, single, quoteByte, Attribute, attribute, printParts, printAttribute, printAttributes, formedPart, formedAttribute}
-use Rattle.documents.specs.Reading.{got, readWord, readQuote, readAttributeFrom, readAttribute, nameAhead, attributeAhead, readAttributes}
-use Rattle.documents.proofs.Laws.Read.Bytes.{left, right, text-no-amp, value-text, stops, front-of, back-of}
+use Rattle.text.specs.Read.{got, readWord}
+use Rattle.documents.specs.Reading.{readQuote, readAttributeFrom, readAttribute, nameAhead, attributeAhead, readAttributes}
+use Rattle.text.proofs.Laws.Tests.{and-left, and-right}
+use Rattle.documents.proofs.Laws.Read.Bytes.{text-no-amp, value-text}
+use Rattle.text.proofs.Laws.Fronts.{stops, front-of, back-of}
 use Rattle.documents.proofs.Laws.Printed.PartsBack.{name-back, equals, name-stops-blanks, blanks-stop-name, partsStop, parts-length, parts-back}
 
 pub quote-stops : (q : Quote) (r : List ℕ) → (partsStop (inValue (quoteByte q)) (quoteByte q ∷ r) ≡ true) × (stops blank (quoteByte q ∷ r) ≡ true)
@@ -35,17 +38,17 @@ pub formed-parts : (s n before after : List ℕ) (q : Quote) (v : List Part) →
     → Formed s n before after q v
 unfolding formedAttribute
 formed-parts s n before after q v h =
-    let h₁ = left (nonEmpty s && every blank s) _ h in
-    let h₂ = right (nonEmpty s && every blank s) _ h in
-    let h₃ = right (nameForm n) _ h₂ in
-    let h₄ = right (every blank before) _ h₃ in
+    let h₁ = and-left (nonEmpty s && every blank s) _ h in
+    let h₂ = and-right (nonEmpty s && every blank s) _ h in
+    let h₃ = and-right (nameForm n) _ h₂ in
+    let h₄ = and-right (every blank before) _ h₃ in
     record {
-      some = left _ _ h₁;
-      blanks = right (nonEmpty s) _ h₁;
-      name = left _ _ h₂;
-      blanks₂ = left _ _ h₃;
-      blanks₃ = left _ _ h₄;
-      value = right (every blank after) _ h₄;
+      some = and-left _ _ h₁;
+      blanks = and-right (nonEmpty s) _ h₁;
+      name = and-left _ _ h₂;
+      blanks₂ = and-left _ _ h₃;
+      blanks₃ = and-left _ _ h₄;
+      value = and-right (every blank after) _ h₄;
     }
 
 -- the bytes of an attribute and what follows it, from the name on
@@ -87,7 +90,7 @@ attribute-back (attribute s n before after q v) r h =
 pub name-ahead : (n r : List ℕ) → nameForm n ≡ true → nameAhead (n ++ r) ≡ true
 unfolding nameForm
 name-ahead [] r h = absurd (false≢true h)
-name-ahead (b ∷ n) r h = left _ _ h
+name-ahead (b ∷ n) r h = and-left _ _ h
 
 pub ahead-of : (a : Attribute) (r : List ℕ) → formedAttribute a ≡ true → attributeAhead (printAttribute a ++ r) ≡ true
 ahead-of (attribute s n before after q v) r h =
@@ -106,7 +109,7 @@ pub attributes-length : (l : List Attribute) → every formedAttribute l ≡ tru
 unfolding printAttributes every
 attributes-length [] h = omega arith
 attributes-length (a ∷ l) h =
-    omega (arith, length-append (printAttribute a) (printAttributes l), attribute-length a (left _ _ h), attributes-length l (right (formedAttribute a) _ h))
+    omega (arith, length-append (printAttribute a) (printAttributes l), attribute-length a (and-left _ _ h), attributes-length l (and-right (formedAttribute a) _ h))
 
 pub attributes-back : (steps : ℕ) (l : List Attribute) (r : List ℕ) → every formedAttribute l ≡ true → attributeAhead r ≡ false → length l ≤ steps
     → readAttributes steps (printAttributes l ++ r) ≡ got l r
@@ -115,8 +118,8 @@ attributes-back zero [] r h s k = refl
 attributes-back zero (a ∷ l) r h s k = absurd (omega arith)
 attributes-back (suc steps) [] r h s k = rw s
 attributes-back (suc steps) (a ∷ l) r h s k =
-    let now : formedAttribute a ≡ true = left _ _ h in
-    let rest : every formedAttribute l ≡ true = right (formedAttribute a) _ h in
+    let now : formedAttribute a ≡ true = and-left _ _ h in
+    let rest : every formedAttribute l ≡ true = and-right (formedAttribute a) _ h in
     rw (
       append-assoc (printAttribute a) (printAttributes l) r,
       ahead-of a (printAttributes l ++ r) now,

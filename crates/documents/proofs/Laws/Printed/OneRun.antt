@@ -6,10 +6,11 @@ use mathlib.Core.Bool.{Bool, true, false, not, _&&_, _||_, true≢false, false�
 use mathlib.Core.List.{List, [], _∷_, _++_}
 use borrow.Author.Tests.{not-true}
 use lib.ListN.{length, length-append}
-use Rattle.notation.specs.Form.{every, nonEmpty}
+use Rattle.text.specs.Lists.{every, nonEmpty}
 use Rattle.documents.specs.Tokens.{Part, Token, declaration, comment, startTag, emptyTag, endTag, text, declarationBytes, printToken, printTokens, formedToken, formedText, isText, isDeclaration, textFirst, textsApart, declarationFirst, formedRun, RunOfTokens}
-use Rattle.documents.specs.Reading.{got, thenRead, when, textEnds, readToken, readTokens, readReport}
-use Rattle.documents.proofs.Laws.Read.Bytes.{left, right}
+use Rattle.text.specs.Read.{got, thenRead, when}
+use Rattle.documents.specs.Reading.{textEnds, readToken, readTokens, readReport}
+use Rattle.text.proofs.Laws.Tests.{and-left, and-right}
 use Rattle.documents.proofs.Laws.Printed.PartsBack.{parts-length}
 use Rattle.documents.proofs.Laws.Printed.ReadBack.{token-back}
 
@@ -25,7 +26,7 @@ token-length (comment c) h = omega arith
 token-length (startTag n l s) h = omega arith
 token-length (emptyTag n l s) h = omega arith
 token-length (endTag n s) h = omega arith
-token-length (text ps) h = omega (arith, parts-length ps, some-part ps (left _ _ h))
+token-length (text ps) h = omega (arith, parts-length ps, some-part ps (and-left _ _ h))
 
 pub less-first : (t : Token) (r : List ℕ) → isText t ≡ false → textEnds (printToken t ++ r) ≡ true
 unfolding printToken declarationBytes
@@ -41,7 +42,7 @@ text-ends : (t : Token) (ts : List Token) → textsApart (t ∷ ts) ≡ true →
 unfolding textsApart printTokens
 text-ends t [] h e = refl
 text-ends t (u ∷ ts) h e =
-    let apart : not (isText t && isText u) ≡ true = left _ _ h in
+    let apart : not (isText t && isText u) ≡ true = and-left _ _ h in
     less-first u (printTokens ts) (rw e at (not-true (isText t && isText u) apart))
 
 -- where a declaration may stand
@@ -53,7 +54,7 @@ declared-here : (first : Bool) (t : Token) (ts : List Token) → declared first 
     → ((first || not (isDeclaration t)) ≡ true) × (declared false ts ≡ true)
 unfolding every
 declared-here true t ts h = (refl, h)
-declared-here false t ts h = (left _ _ h, right (not (isDeclaration t)) _ h)
+declared-here false t ts h = (and-left _ _ h, and-right (not (isDeclaration t)) _ h)
 
 pub read-more : (steps : ℕ) (first : Bool) (l : List ℕ) → 1 ≤ length l
     → readTokens (suc steps) first l
@@ -66,7 +67,7 @@ pub tokens-length : (ts : List Token) → every formedToken ts ≡ true → leng
 unfolding printTokens every
 tokens-length [] h = omega arith
 tokens-length (t ∷ ts) h =
-    omega (arith, length-append (printToken t) (printTokens ts), token-length t (left _ _ h), tokens-length ts (right (formedToken t) _ h))
+    omega (arith, length-append (printToken t) (printTokens ts), token-length t (and-left _ _ h), tokens-length ts (and-right (formedToken t) _ h))
 
 tokens-back : (steps : ℕ) (first : Bool) (ts : List Token)
     → every formedToken ts ≡ true → textsApart ts ≡ true → declared first ts ≡ true → length ts ≤ steps
@@ -76,9 +77,9 @@ tokens-back zero first [] f a d h = refl
 tokens-back zero first (t ∷ ts) f a d h = absurd (omega arith)
 tokens-back (suc steps) first [] f a d h = refl
 tokens-back (suc steps) first (t ∷ ts) f a d h =
-    let formed : formedToken t ≡ true = left _ _ f in
-    let rest : every formedToken ts ≡ true = right (formedToken t) _ f in
-    let apart : textsApart ts ≡ true = right (not (isText t && textFirst ts)) _ a in
+    let formed : formedToken t ≡ true = and-left _ _ f in
+    let rest : every formedToken ts ≡ true = and-right (formedToken t) _ f in
+    let apart : textsApart ts ≡ true = and-right (not (isText t && textFirst ts)) _ a in
     let (may, none) = declared-here first t ts d in
     rw (
       read-more steps first (printToken t ++ printTokens ts) (omega (arith, length-append (printToken t) (printTokens ts), token-length t formed)),
@@ -90,8 +91,8 @@ tokens-back (suc steps) first (t ∷ ts) f a d h =
 pub run-back : (ts : List Token) → formedRun ts ≡ true → readReport (printTokens ts) ≡ got ts []
 unfolding formedRun
 run-back ts h =
-    let h₂ = right (every formedToken ts) _ h in
-    tokens-back (length (printTokens ts)) true ts (left _ _ h) (left _ _ h₂) (right (textsApart ts) _ h₂) (tokens-length ts (left _ _ h))
+    let h₂ = and-right (every formedToken ts) _ h in
+    tokens-back (length (printTokens ts)) true ts (and-left _ _ h) (and-left _ _ h₂) (and-right (textsApart ts) _ h₂) (tokens-length ts (and-left _ _ h))
 
 -- at most one list of tokens prints to given bytes
 pub one-run : (bytes : List ℕ) (r s : RunOfTokens bytes) → r .tokens ≡ s .tokens

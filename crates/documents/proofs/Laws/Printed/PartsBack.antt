@@ -1,24 +1,28 @@
--- Names, references and parts are read back as they were printed, and what stands after them is left.
+-- Names, references and parts are read back as they were printed, and what stands after them is and-left.
 use Prim.Native.Nat.{ℕ, zero, suc, _≤_}
 use native.Mathlib.Omega.{arith}
-use mathlib.Core.Path.{_≡_, refl, sym, _∙_}
+use mathlib.Core.Path.{_≡_, refl}
 use mathlib.Core.Bool.{Bool, true, false, not, _&&_, false≢true}
 use mathlib.Core.List.{List, [], _∷_, _++_, append-assoc}
 use lib.Dec.{eqb}
 use borrow.Author.Tests.{not-true}
 use lib.ListN.{length, length-append}
-use Rattle.notation.specs.Names.{Name, letter, digit, beginsName, inName, nameForm}
-use Rattle.notation.specs.Form.{every}
-use Rattle.documents.specs.Tokens.{blank, isEntity, Part, plain, reference, printPart, printParts, begins, formedPart}
-use Rattle.documents.specs.Reading.{got, readName, readReference, readParts}
-use Rattle.documents.proofs.Laws.Read.Bytes.{left, right, every-head, blank-no-name, name-no-blank, entity-cases, all-in-name, stops, front-of, back-of}
+use Rattle.text.specs.Names.{Name, letter, digit, beginsName, inName, nameForm}
+use Rattle.text.specs.Lists.{every}
+use Rattle.documents.specs.Tokens.{blank, isEntity, Part, plain, reference, printPart, printParts, formedPart}
+use Rattle.text.specs.Read.{begins, got, readName}
+use Rattle.documents.specs.Reading.{readReference, readParts}
+use Rattle.text.proofs.Laws.Tests.{and-left, and-right}
+use Rattle.text.proofs.Laws.Lists.{every-head}
+use Rattle.documents.proofs.Laws.Read.Bytes.{blank-no-name, name-no-blank, entity-cases}
+use Rattle.text.proofs.Laws.Fronts.{stops, front-of, back-of}
 
 pub name-back : (n r : List ℕ) → nameForm n ≡ true → stops inName r ≡ true → readName (n ++ r) ≡ got n r
 unfolding nameForm readName
 name-back [] r h s = absurd (false≢true h)
 name-back (b ∷ n) r h s =
-    let first : beginsName b ≡ true = left _ _ h in
-    let rest : every inName n ≡ true = sym (all-in-name n) ∙ right (beginsName b) _ h in
+    let first : beginsName b ≡ true = and-left _ _ h in
+    let rest : every inName n ≡ true = and-right (beginsName b) _ h in
     rw (first, front-of inName n r rest s, back-of inName n r rest s)
 
 pub reference-back : (n r : List ℕ) → isEntity n ≡ true → readReference (n ++ (59 ∷ r)) ≡ got n r
@@ -38,7 +42,7 @@ pub name-stops-blanks : (n r : List ℕ) → nameForm n ≡ true → stops blank
 unfolding nameForm
 name-stops-blanks [] r h = absurd (false≢true h)
 name-stops-blanks (b ∷ n) r h =
-    let first : beginsName b ≡ true = left _ _ h in
+    let first : beginsName b ≡ true = and-left _ _ h in
     rw (name-no-blank b first)
 
 pub blanks-stop-name : (s r : List ℕ) → every blank s ≡ true → stops inName r ≡ true → stops inName (s ++ r) ≡ true
@@ -68,16 +72,16 @@ module _ (ok : ℕ → Bool) (no-amp : (b : ℕ) → ok b ≡ true → eqb b 38 
   parts-back zero (p ∷ ps) r h s l = absurd (omega arith)
   parts-back (suc steps) [] [] h s l = refl
   parts-back (suc steps) [] (b ∷ r) h s l =
-      let amp : eqb b 38 ≡ false = not-true (eqb b 38) (left _ _ s) in
-      let end : ok b ≡ false = not-true (ok b) (right (not (eqb b 38)) _ s) in
+      let amp : eqb b 38 ≡ false = not-true (eqb b 38) (and-left _ _ s) in
+      let end : ok b ≡ false = not-true (ok b) (and-right (not (eqb b 38)) _ s) in
       rw (amp, end)
   parts-back (suc steps) (plain b ∷ ps) r h s l =
-      let now : ok b ≡ true = left _ _ h in
-      let rest : every (formedPart ok) ps ≡ true = right (ok b) _ h in
+      let now : ok b ≡ true = and-left _ _ h in
+      let rest : every (formedPart ok) ps ≡ true = and-right (ok b) _ h in
       rw (no-amp b now, now, parts-back steps ps r rest s (omega arith))
   parts-back (suc steps) (reference n ∷ ps) r h s l =
-      let entity : isEntity n ≡ true = left _ _ h in
-      let rest : every (formedPart ok) ps ≡ true = right (isEntity n) _ h in
+      let entity : isEntity n ≡ true = and-left _ _ h in
+      let rest : every (formedPart ok) ps ≡ true = and-right (isEntity n) _ h in
       rw (
         append-assoc (n ++ (59 ∷ [])) (printParts ps) r,
         append-assoc n (59 ∷ []) (printParts ps ++ r),

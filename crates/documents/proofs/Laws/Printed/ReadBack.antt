@@ -7,11 +7,15 @@ use mathlib.Core.List.{List, [], _∷_, _++_, append-assoc}
 use lib.Dec.{eqb}
 use borrow.Author.Tests.{eqb-true, not-true}
 use lib.ListN.{length, length-append}
-use Rattle.notation.specs.Names.{Name, letter, digit, beginsName, inName, nameForm}
-use Rattle.notation.specs.Form.{every, nonEmpty}
-use Rattle.documents.specs.Tokens.{blank, listed, inText, Part, plain, reference, Attribute, attribute, Token, declaration, comment, startTag, emptyTag, endTag, text, declarationBytes, printPart, printParts, printAttribute, printAttributes, printToken, begins, occurs, endsIn, formedPart, formedAttribute, formedTag, formedComment, formedText, formedToken, isText}
-use Rattle.documents.specs.Reading.{got, front, readWord, nameAhead, attributeAhead, readTagEnd, readTag, readEndTag, readContents, readComment, readMarkup, textEnds, readText, readToken}
-use Rattle.documents.proofs.Laws.Read.Bytes.{left, right, neither, every-head, every-rest, differs, blank-no-name, text-no-amp, text-no-less, stops, front-of, back-of}
+use Rattle.text.specs.Names.{Name, letter, digit, beginsName, inName, nameForm}
+use Rattle.text.specs.Lists.{every, nonEmpty}
+use Rattle.documents.specs.Tokens.{blank, listed, inText, Part, plain, reference, Attribute, attribute, Token, declaration, comment, startTag, emptyTag, endTag, text, declarationBytes, printPart, printParts, printAttribute, printAttributes, printToken, occurs, endsIn, formedPart, formedAttribute, formedTag, formedComment, formedText, formedToken, isText}
+use Rattle.text.specs.Read.{begins, got, front, readWord}
+use Rattle.documents.specs.Reading.{nameAhead, attributeAhead, readTagEnd, readTag, readEndTag, readContents, readComment, readMarkup, textEnds, readText, readToken}
+use Rattle.text.proofs.Laws.Tests.{and-left, and-right, neither}
+use Rattle.text.proofs.Laws.Lists.{every-head, every-rest}
+use Rattle.text.proofs.Laws.Fronts.{differs, stops, front-of, back-of}
+use Rattle.documents.proofs.Laws.Read.Bytes.{blank-no-name, text-no-amp, text-no-less}
 use Rattle.documents.proofs.Laws.Printed.PartsBack.{name-back, blanks-stop-name, partsStop, parts-length, parts-back}
 use Rattle.documents.proofs.Laws.Printed.AttributesBack.{formed-parts, attributes-length, attributes-back}
 
@@ -21,9 +25,9 @@ attributes-stop-name : (l : List Attribute) (s r : List ℕ) → every formedAtt
 unfolding printAttributes printAttribute every
 attributes-stop-name [] s r h k e = blanks-stop-name s r k e
 attributes-stop-name (attribute [] n before after q v ∷ l) s r h k e =
-    absurd (false≢true (formed-parts [] n before after q v (left _ _ h) .some))
+    absurd (false≢true (formed-parts [] n before after q v (and-left _ _ h) .some))
 attributes-stop-name (attribute (b ∷ f) n before after q v ∷ l) s r h k e =
-    let now = formed-parts (b ∷ f) n before after q v (left _ _ h) in
+    let now = formed-parts (b ∷ f) n before after q v (and-left _ _ h) in
     rw (blank-no-name b (every-head blank b f (now .blanks)))
 
 -- a tag up to the blanks before its end, whichever end follows
@@ -36,10 +40,10 @@ tag-back : (n : Name) (l : List Attribute) (s e : List ℕ) → formedTag n l s 
     → readTag (n ++ (printAttributes l ++ (s ++ e))) ≡ readTagEnd n l s e
 unfolding readTag formedTag
 tag-back n l s e h end =
-    let name : nameForm n ≡ true = left _ _ h in
-    let h₂ = right (nameForm n) _ h in
-    let attributes : every formedAttribute l ≡ true = left _ _ h₂ in
-    let blanks : every blank s ≡ true = right (every formedAttribute l) _ h₂ in
+    let name : nameForm n ≡ true = and-left _ _ h in
+    let h₂ = and-right (nameForm n) _ h in
+    let attributes : every formedAttribute l ≡ true = and-left _ _ h₂ in
+    let blanks : every blank s ≡ true = and-right (every formedAttribute l) _ h₂ in
     let rest : List ℕ = printAttributes l ++ (s ++ e) in
     let front-is = front-of blank s e blanks (end .no-blank) in
     let back-is = back-of blank s e blanks (end .no-blank) in
@@ -84,27 +88,27 @@ contents (b ∷ c) r h o e =
 contents-back : (c r : List ℕ) → formedComment c ≡ true → readContents (c ++ (45 ∷ 45 ∷ 62 ∷ r)) ≡ got c r
 unfolding formedComment
 contents-back c r h =
-    let h₂ = right (every listed c) _ h in
-    contents c r (left _ _ h) (not-true _ (left (not (occurs (45 ∷ 45 ∷ []) c)) _ h₂)) (not-true _ (right (not (occurs (45 ∷ 45 ∷ []) c)) _ h₂))
+    let h₂ = and-right (every listed c) _ h in
+    contents c r (and-left _ _ h) (not-true _ (and-left (not (occurs (45 ∷ 45 ∷ []) c)) _ h₂)) (not-true _ (and-right (not (occurs (45 ∷ 45 ∷ []) c)) _ h₂))
 
 tag-name : (n : Name) (l : List Attribute) (s : List ℕ) → formedTag n l s ≡ true → nameForm n ≡ true
 unfolding formedTag
-tag-name n l s h = left _ _ h
+tag-name n l s h = and-left _ _ h
 
 -- the bytes of a name are none of those that markup of another kind begins with
 name-first : (n r : List ℕ) → nameForm n ≡ true → readMarkup (n ++ r) ≡ readTag (n ++ r)
 unfolding nameForm readMarkup beginsName letter
 name-first [] r h = absurd (false≢true h)
 name-first (b ∷ n) r h =
-    let first : beginsName b ≡ true = left _ _ h in
+    let first : beginsName b ≡ true = and-left _ _ h in
     rw (differs beginsName b 33 first refl, differs beginsName b 47 first refl, differs beginsName b 63 first refl)
 
 text-first : (ps : List Part) (r : List ℕ) → formedText ps ≡ true → readToken (printParts ps ++ r) ≡ readText (printParts ps ++ r)
 unfolding formedText printParts printPart readToken every
 text-first [] r h = absurd (false≢true h)
 text-first (plain b ∷ ps) r h =
-    let parts : every (formedPart inText) (plain b ∷ ps) ≡ true = left _ _ h in
-    let now : inText b ≡ true = left _ _ parts in
+    let parts : every (formedPart inText) (plain b ∷ ps) ≡ true = and-left _ _ h in
+    let now : inText b ≡ true = and-left _ _ parts in
     rw (text-no-less b now)
 text-first (reference n ∷ ps) r h = refl
 
@@ -116,10 +120,10 @@ less-stops (b ∷ r) e = ap (λ (x : ℕ). not (eqb x 38) && not (inText x)) (eq
 text-back : (ps : List Part) (r : List ℕ) → formedText ps ≡ true → textEnds r ≡ true → readText (printParts ps ++ r) ≡ got (text ps) r
 unfolding readText formedText
 text-back ps r h e =
-    let h₂ = right (nonEmpty ps) _ h in
-    let some : nonEmpty ps ≡ true = left _ _ h in
-    let parts : every (formedPart inText) ps ≡ true = left _ _ h₂ in
-    let clean : not (occurs (93 ∷ 93 ∷ 62 ∷ []) (printParts ps)) ≡ true = right (every (formedPart inText) ps) _ h₂ in
+    let h₂ = and-right (nonEmpty ps) _ h in
+    let some : nonEmpty ps ≡ true = and-left _ _ h in
+    let parts : every (formedPart inText) ps ≡ true = and-left _ _ h₂ in
+    let clean : not (occurs (93 ∷ 93 ∷ 62 ∷ []) (printParts ps)) ≡ true = and-right (every (formedPart inText) ps) _ h₂ in
     rw (
       parts-back inText text-no-amp (length (printParts ps ++ r)) ps r parts (less-stops r e)
           (omega (arith, parts-length ps, length-append (printParts ps) r)),
@@ -149,5 +153,5 @@ token-back (startTag n l s) r h e =
 token-back (emptyTag n l s) r h e =
     simp append-assoc
     (name-first n (printAttributes l ++ (s ++ (47 ∷ 62 ∷ r))) (tag-name n l s h) ∙ tag-back n l s (47 ∷ 62 ∷ r) h (empties (62 ∷ r)))
-token-back (endTag n s) r h e = simp append-assoc (end-tag-back n s r (left _ _ h) (right (nameForm n) _ h))
+token-back (endTag n s) r h e = simp append-assoc (end-tag-back n s r (and-left _ _ h) (and-right (nameForm n) _ h))
 token-back (text ps) r h e = text-first ps r h ∙ text-back ps r h (e refl)

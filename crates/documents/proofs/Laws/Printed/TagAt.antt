@@ -8,11 +8,12 @@ use mathlib.Core.Bool.{true, false≢true}
 use mathlib.Core.List.{List, [], _∷_, _++_, append-assoc}
 use lib.ListN.{length, take, drop, length-append, length-drop}
 use lib.Seq.{take-append-seam, drop-append-seam, drop-drop}
-use Rattle.notation.specs.Names.{Name, nameForm}
+use Rattle.text.specs.Names.{Name, nameForm}
 use Rattle.documents.specs.Tokens.{Token, printAttributes, printToken, formedTag, formedToken, isText}
-use Rattle.documents.specs.Reading.{fail, got, readToken}
+use Rattle.text.specs.Read.{fail, got}
+use Rattle.documents.specs.Reading.{readToken}
 use Rattle.documents.specs.TagAt.{Tag, start, empty, end, WholeTag, NoTag, TagAt, whole, none}
-use Rattle.documents.proofs.Laws.Read.Bytes.{left}
+use Rattle.text.proofs.Laws.Tests.{and-left}
 use Rattle.documents.proofs.Laws.Printed.ReadBack.{token-back}
 
 -- a name that stands between two offsets
@@ -53,9 +54,9 @@ tag-no-text end e = false≢true e
 
 tag-form : {t : Token} {before : ℕ} {n : Name} → Tag t before n → formedToken t ≡ true → nameForm n ≡ true
 unfolding formedToken formedTag
-tag-form start h = left _ _ h
-tag-form empty h = left _ _ h
-tag-form end h = left _ _ h
+tag-form start h = and-left _ _ h
+tag-form empty h = and-left _ _ h
+tag-form end h = and-left _ _ h
 
 no-empty-name : nameForm [] ≡ true → ⊥
 unfolding nameForm

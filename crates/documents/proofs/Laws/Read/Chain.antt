@@ -7,9 +7,9 @@ use mathlib.Core.List.{List}
 use lib.Dec.{leb}
 use borrow.Author.Tests.{le-leb, lt-leb, leb-true, leb-false}
 use lib.ListN.{length}
-use Rattle.notation.specs.Names.{Name}
+use Rattle.text.specs.Names.{Name}
 use Rattle.notation.specs.Sets.{Path, child, axisOf, testOf}
-use Rattle.notation.proofs.Laws.Tests.{cases}
+use Rattle.text.proofs.Laws.Tests.{cases}
 use Rattle.notation.specs.Fit.{Takes, stepAt, nameAt, Fits}
 
 -- from the position of step i to that of the next

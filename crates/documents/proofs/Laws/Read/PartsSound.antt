@@ -6,20 +6,23 @@ use mathlib.Core.List.{List, [], _∷_, _++_, append-assoc}
 use lib.Dec.{eqb}
 use borrow.Author.Tests.{eqb-true}
 use lib.ListN.{length, drop}
-use Rattle.notation.specs.Form.{every, nonEmpty}
-use Rattle.notation.specs.Activity.{sameName}
-use Rattle.documents.specs.Tokens.{blank, amp, lt, gt, quot, apos, isEntity, inValue, Part, reference, Quote, quoteByte, attribute, printPart, printParts, printAttribute, printAttributes, begins, formedPart, formedAttribute}
-use Rattle.documents.specs.Reading.{front, back, readReference, readParts, readAttributeFrom, readAttribute, attributeAhead, readAttributes}
-use Rattle.documents.proofs.Laws.Read.Bytes.{left, right, join}
+use Rattle.text.specs.Lists.{every, nonEmpty}
+use Rattle.text.specs.Names.{sameName}
+use Rattle.documents.specs.Tokens.{blank, amp, lt, gt, quot, apos, isEntity, inValue, Part, reference, Quote, quoteByte, attribute, printPart, printParts, printAttribute, printAttributes, formedPart, formedAttribute}
+use Rattle.text.specs.Read.{begins, front, back}
+use Rattle.documents.specs.Reading.{readReference, readParts, readAttributeFrom, readAttribute, attributeAhead, readAttributes}
+use Rattle.text.proofs.Laws.Tests.{and-left, and-right, both-true}
 use Rattle.documents.proofs.Laws.Printed.AttributesBack.{spread}
-use Rattle.documents.proofs.Laws.Read.Holds.{Holds, failed, gotten, then-holds, cond-holds, front-back, front-every, word-sound, name-sound, quote-sound}
+use Rattle.text.proofs.Laws.Reads.{Holds, failed, gotten, then-holds, cond-holds, word-sound, name-sound}
+use Rattle.text.proofs.Laws.Fronts.{front-back, front-every}
+use Rattle.documents.proofs.Laws.Read.Holds.{quote-sound}
 
 pub begins-drop : (w l : List ℕ) → begins w l ≡ true → w ++ drop (length w) l ≡ l
 unfolding begins
 begins-drop [] l h = refl
 begins-drop (b ∷ w) [] h = absurd (false≢true h)
 begins-drop (b ∷ w) (c ∷ l) h =
-    rw (eqb-true b c (left _ _ h)) (ap (_∷_ c) (begins-drop w l (right (eqb b c) _ h)))
+    rw (eqb-true b c (and-left _ _ h)) (ap (_∷_ c) (begins-drop w l (and-right (eqb b c) _ h)))
 
 pub reference-sound : (l : List ℕ) → Holds (λ n r. (isEntity n ≡ true) × (n ++ (59 ∷ r) ≡ l)) (readReference l)
 unfolding readReference isEntity sameName
@@ -46,10 +49,10 @@ parts-sound (suc steps) ok (b ∷ l) =
     (λ t.
     then-holds (reference-sound l) (λ n s name.
     then-holds (parts-sound steps ok s) (λ ps r more.
-    gotten (join (name .0) (more .0), reference-prints b l n s r ps (eqb-true b 38 t) (name .1) (more .1)))))
+    gotten (both-true (name .0) (more .0), reference-prints b l n s r ps (eqb-true b 38 t) (name .1) (more .1)))))
     (λ f.
     cond-holds (ok b)
-    (λ t. then-holds (parts-sound steps ok l) (λ ps r more. gotten (join t (more .0), ap (_∷_ b) (more .1))))
+    (λ t. then-holds (parts-sound steps ok l) (λ ps r more. gotten (both-true t (more .0), ap (_∷_ b) (more .1))))
     (λ n. gotten (refl, refl)))
 
 pub attribute-prints : (l n r r₂ r₃ r₄ r₅ : List ℕ) (q : Quote) (v : List Part)
@@ -69,7 +72,7 @@ attribute-sound l some =
     then-holds (parts-sound (length r₃) (inValue (quoteByte q)) r₃) (λ v r₄ more.
     then-holds (word-sound (quoteByte q ∷ []) r₄) (λ u r₅ close.
     gotten (
-      join (join some (front-every blank l)) (join (name .0) (join (front-every blank r) (join (front-every blank r₂) (more .0)))),
+      both-true (both-true some (front-every blank l)) (both-true (name .0) (both-true (front-every blank r) (both-true (front-every blank r₂) (more .0)))),
       attribute-prints l n r r₂ r₃ r₄ r₅ q v (name .1) eq quote (more .1) close,
     ))))))
 
@@ -80,7 +83,7 @@ attributes-sound zero l = gotten (refl, refl)
 attributes-sound (suc steps) l =
     cond-holds (attributeAhead l)
     (λ t.
-    then-holds (attribute-sound l (left _ _ t)) (λ a r one.
+    then-holds (attribute-sound l (and-left _ _ t)) (λ a r one.
     then-holds (attributes-sound steps r) (λ m r₂ more.
-    gotten (join (one .0) (more .0), rw (append-assoc (printAttribute a) (printAttributes m) r₂, more .1) (one .1)))))
+    gotten (both-true (one .0) (more .0), rw (append-assoc (printAttribute a) (printAttributes m) r₂, more .1) (one .1)))))
     (λ f. gotten (refl, refl))

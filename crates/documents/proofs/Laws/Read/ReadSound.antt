@@ -7,13 +7,16 @@ use mathlib.Core.List.{List, [], _∷_, _++_, append-assoc}
 use lib.Dec.{eqb}
 use borrow.Author.Tests.{eqb-true}
 use lib.ListN.{length}
-use Rattle.notation.specs.Names.{Name}
-use Rattle.notation.specs.Form.{every, nonEmpty}
-use Rattle.documents.specs.Tokens.{blank, listed, inText, Part, plain, reference, Attribute, Token, declaration, comment, startTag, emptyTag, endTag, text, declarationBytes, printPart, printParts, printAttributes, printToken, printTokens, begins, occurs, endsIn, formedPart, formedTag, formedComment, formedText, formedToken, isText, isDeclaration, textFirst, textsApart, formedRun, RunOfTokens}
-use Rattle.documents.specs.Reading.{Read, fail, got, front, back, readTagEnd, readTag, readEndTag, readContents, readComment, readMarkup, textEnds, readText, readToken, readTokens, readReport}
-use Rattle.documents.proofs.Laws.Read.Bytes.{left, right, join, text-no-less}
+use Rattle.text.specs.Names.{Name}
+use Rattle.text.specs.Lists.{every, nonEmpty}
+use Rattle.documents.specs.Tokens.{blank, listed, inText, Part, plain, reference, Attribute, Token, declaration, comment, startTag, emptyTag, endTag, text, declarationBytes, printPart, printParts, printAttributes, printToken, printTokens, occurs, endsIn, formedPart, formedTag, formedComment, formedText, formedToken, isText, isDeclaration, textFirst, textsApart, formedRun, RunOfTokens}
+use Rattle.text.specs.Read.{begins, Read, fail, got, front, back}
+use Rattle.documents.specs.Reading.{readTagEnd, readTag, readEndTag, readContents, readComment, readMarkup, textEnds, readText, readToken, readTokens, readReport}
+use Rattle.text.proofs.Laws.Tests.{and-left, and-right, both-true}
+use Rattle.documents.proofs.Laws.Read.Bytes.{text-no-less}
 use Rattle.documents.proofs.Laws.Printed.OneRun.{declared, run-back}
-use Rattle.documents.proofs.Laws.Read.Holds.{Holds, failed, gotten, holds-got, then-holds, holds-map, when-holds, cond-holds, front-back, front-every, word-sound, name-sound}
+use Rattle.text.proofs.Laws.Reads.{Holds, failed, gotten, holds-got, then-holds, holds-map, when-holds, cond-holds, word-sound, name-sound}
+use Rattle.text.proofs.Laws.Fronts.{front-back, front-every}
 use Rattle.documents.proofs.Laws.Read.PartsSound.{parts-sound, attributes-sound}
 
 -- a token read at the front of l: within its rule, its bytes stand there, and a text goes up to `<` or the end
@@ -45,7 +48,7 @@ unfolding readTag formedTag
 tag-sound l =
     then-holds (name-sound l) (λ n r name.
     then-holds (attributes-sound (length r) r) (λ m r₂ more.
-    tag-end-sound n m (front blank r₂) (back blank r₂) l (join (name .0) (join (more .0) (front-every blank r₂)))
+    tag-end-sound n m (front blank r₂) (back blank r₂) l (both-true (name .0) (both-true (more .0) (front-every blank r₂)))
     (rw (front-back blank r₂, more .1) (name .1))))
 
 end-tag-sound : (l : List ℕ) → Holds (Good (60 ∷ 47 ∷ l)) (readEndTag l)
@@ -54,7 +57,7 @@ end-tag-sound l =
     then-holds (name-sound l) (λ n r name.
     then-holds (word-sound (62 ∷ []) (back blank r)) (λ u r₂ e.
     let prints : n ++ (front blank r ++ (62 ∷ r₂)) ≡ l = rw (e, front-back blank r) (name .1) in
-    gotten (join (name .0) (front-every blank r), ap (λ (w : List ℕ). 60 ∷ 47 ∷ w) (simp append-assoc prints), no-text)))
+    gotten (both-true (name .0) (front-every blank r), ap (λ (w : List ℕ). 60 ∷ 47 ∷ w) (simp append-assoc prints), no-text)))
 
 -- a byte before contents without `--`, where `--` begins not at it
 dash-sound : (b : ℕ) (c r : List ℕ) → begins (45 ∷ 45 ∷ []) (b ∷ (c ++ (45 ∷ r))) ≡ false → occurs (45 ∷ 45 ∷ []) c ≡ false → endsIn 45 c ≡ false
@@ -80,7 +83,7 @@ contents-sound (b ∷ l) =
     then-holds (contents-sound l) (λ c r in'.
     let begins-not : begins (45 ∷ 45 ∷ []) (b ∷ (c ++ (45 ∷ 45 ∷ 62 ∷ r))) ≡ false = rw (in' .3) f in
     let (o, e) = dash-sound b c (45 ∷ 62 ∷ r) begins-not (in' .1) (in' .2) in
-    gotten (join t (in' .0), o, e, ap (_∷_ b) (in' .3)))))
+    gotten (both-true t (in' .0), o, e, ap (_∷_ b) (in' .3)))))
 
 comment-sound : (l : List ℕ) → Holds (Good (60 ∷ 33 ∷ l)) (readComment l)
 unfolding readComment formedToken formedComment printToken
@@ -89,7 +92,7 @@ comment-sound l =
     then-holds (contents-sound r) (λ c r₂ in'.
     let prints : 45 ∷ 45 ∷ (c ++ (45 ∷ 45 ∷ 62 ∷ r₂)) ≡ l = rw (in' .3) e in
     gotten (
-      join (in' .0) (join (ap not (in' .1)) (ap not (in' .2))),
+      both-true (in' .0) (both-true (ap not (in' .1)) (ap not (in' .2))),
       ap (λ (w : List ℕ). 60 ∷ 33 ∷ w) (rw (append-assoc c (45 ∷ 45 ∷ 62 ∷ []) r₂) prints),
       no-text,
     )))
@@ -112,13 +115,13 @@ unfolding readText formedToken formedText printToken
 text-sound l =
     then-holds (parts-sound (length l) inText l) (λ ps r in'.
     when-holds (nonEmpty ps && (not (occurs (93 ∷ 93 ∷ 62 ∷ []) (printParts ps)) && textEnds r)) (λ t.
-    let t₂ = right (nonEmpty ps) _ t in
-    let some : nonEmpty ps ≡ true = left _ _ t in
-    let clean : not (occurs (93 ∷ 93 ∷ 62 ∷ []) (printParts ps)) ≡ true = left _ _ t₂ in
+    let t₂ = and-right (nonEmpty ps) _ t in
+    let some : nonEmpty ps ≡ true = and-left _ _ t in
+    let clean : not (occurs (93 ∷ 93 ∷ 62 ∷ []) (printParts ps)) ≡ true = and-left _ _ t₂ in
     gotten (
-      join some (join (in' .0) clean),
+      both-true some (both-true (in' .0) clean),
       in' .1,
-      λ e. right (not (occurs (93 ∷ 93 ∷ 62 ∷ []) (printParts ps))) _ t₂,
+      λ e. and-right (not (occurs (93 ∷ 93 ∷ 62 ∷ []) (printParts ps))) _ t₂,
     )))
 
 pub token-sound : (l : List ℕ) → Holds (Good l) (readToken l)
@@ -134,8 +137,8 @@ text-starts : (ps : List Part) (r : List ℕ) → formedText ps ≡ true → tex
 unfolding formedText printParts printPart every
 text-starts [] r h = absurd (false≢true h)
 text-starts (plain b ∷ ps) r h =
-    let parts : every (formedPart inText) (plain b ∷ ps) ≡ true = left _ _ (right (nonEmpty (plain b ∷ ps)) _ h) in
-    text-no-less b (left _ _ parts)
+    let parts : every (formedPart inText) (plain b ∷ ps) ≡ true = and-left _ _ (and-right (nonEmpty (plain b ∷ ps)) _ h) in
+    text-no-less b (and-left _ _ parts)
 text-starts (reference n ∷ ps) r h = refl
 
 apart-text : (a : Bool) (ps : List Part) (r : List ℕ) → formedText ps ≡ true → (a ≡ true → textEnds (printParts ps ++ r) ≡ true)
@@ -152,7 +155,7 @@ apart t (comment c ∷ ts) f h = rw (and-false (isText t))
 apart t (startTag n l s ∷ ts) f h = rw (and-false (isText t))
 apart t (emptyTag n l s ∷ ts) f h = rw (and-false (isText t))
 apart t (endTag n s ∷ ts) f h = rw (and-false (isText t))
-apart t (text ps ∷ ts) f h = apart-text (isText t) ps (printTokens ts) (left _ _ f) h
+apart t (text ps ∷ ts) f h = apart-text (isText t) ps (printTokens ts) (and-left _ _ f) h
 
 declared-none : (first : Bool) → declared first [] ≡ true
 unfolding every
@@ -163,7 +166,7 @@ declared-more : (first : Bool) (t : Token) (ts : List Token) → (first || not (
     → declared first (t ∷ ts) ≡ true
 unfolding every
 declared-more true t ts may h = h
-declared-more false t ts may h = join may h
+declared-more false t ts may h = both-true may h
 
 tokens-sound : (steps : ℕ) (first : Bool) (l : List ℕ)
     → Holds (λ ts r. (r ≡ []) × (every formedToken ts ≡ true) × (textsApart ts ≡ true) × (declared first ts ≡ true) × (printTokens ts ≡ l))
@@ -178,8 +181,8 @@ tokens-sound (suc steps) first (b ∷ l) =
     then-holds (tokens-sound steps false r) (λ ts r₂ more.
     gotten (
       more .0,
-      join (g .0) (more .1),
-      join (apart t ts (more .1) (λ e. rw (more .4) (g .2 e))) (more .2),
+      both-true (g .0) (more .1),
+      both-true (apart t ts (more .1) (λ e. rw (more .4) (g .2 e))) (more .2),
       declared-more first t ts may (more .3),
       rw (more .4) (g .1),
     ))))
@@ -189,7 +192,7 @@ pub found-run : (bytes : List ℕ) (ts : List Token) (r : List ℕ) → readRepo
 unfolding formedRun
 found-run bytes ts r e =
     let h = holds-got (rw e at (tokens-sound (length bytes) true bytes)) in
-    record { tokens = ts; well = join (h .1) (join (h .2) (h .3)); prints = h .4 }
+    record { tokens = ts; well = both-true (h .1) (both-true (h .2) (h .3)); prints = h .4 }
 
 -- reading finds the one run of tokens
 pub run-found : (bytes : List ℕ) (run : RunOfTokens bytes) → readReport bytes ≡ got (run .tokens) []

@@ -6,15 +6,14 @@ use mathlib.Core.Logic.{_↔_}
 use mathlib.Core.Bool.{Bool, true, false, not, true≢false, false≢true}
 use mathlib.Core.List.{List, [], _∷_, _++_, append-assoc, append-nil, tail-eq-of-cons-eq}
 use borrow.Author.Tests.{not-true}
-use Rattle.notation.specs.Names.{Name}
-use Rattle.notation.specs.Form.{every}
-use Rattle.notation.specs.Activity.{sameName}
-use Rattle.notation.proofs.Laws.Meaning.Fit.{sameName-is}
+use Rattle.text.specs.Names.{Name, sameName}
+use Rattle.text.specs.Lists.{every}
+use Rattle.text.proofs.Laws.Bytes.SameName.{sameName-is}
 use Rattle.documents.specs.Tree.{Node, element, text, comment, Nodes, none, _then_}
 use Rattle.documents.specs.Tokens.{Token, blank}
 use Rattle.documents.specs.Document.{Event, opening, closing, textHere, commentHere, eventsOf, eventsAt, eventsIn, elementsAmong, blankAmong, TreeOf}
 use Rattle.documents.specs.Code.Events.{balanced}
-use Rattle.documents.proofs.Laws.Read.Bytes.{left, right, join}
+use Rattle.text.proofs.Laws.Tests.{and-left, and-right, both-true}
 
 -- the events of siblings inside an element leave the balance as it is
 mutual
@@ -47,8 +46,8 @@ beside (element n kids then xs) false r b =
     rw (append-assoc (eventsIn kids) (closing n ∷ []) (eventsIn xs), inside kids n [] true (closing n ∷ eventsIn xs), sameName-is n n .1 refl)
     (beside xs true (omega arith) b)
 beside (text c then xs) seen r b =
-    let now : every blank c ≡ true = left _ _ b in
-    rw now (beside xs seen (omega arith) (right (every blank c) _ b))
+    let now : every blank c ≡ true = and-left _ _ b in
+    rw now (beside xs seen (omega arith) (and-right (every blank c) _ b))
 beside (comment c then xs) seen r b = beside xs seen (omega arith) b
 
 -- what balanced events are, with these names open: siblings and the close of the innermost, and so on outwards
@@ -67,8 +66,8 @@ unfolding Rest balanced eventsIn eventsAt elementsAmong blankAmong
 rest [] [] seen h = (none, refl, ap roots (sym h), refl)
 rest [] (m ∷ names) seen h = absurd (false≢true h)
 rest (opening n ∷ es) [] seen h =
-    let unseen : seen ≡ false = not-true seen (left _ _ h) in
-    let (kids, after, e, (xs, same, r, b)) = rest es (n ∷ []) true (right (not seen) _ h) in
+    let unseen : seen ≡ false = not-true seen (and-left _ _ h) in
+    let (kids, after, e, (xs, same, r, b)) = rest es (n ∷ []) true (and-right (not seen) _ h) in
     (element n kids then xs, rw (append-assoc (eventsIn kids) (closing n ∷ []) (eventsIn xs), same, ← e), ap (λ (k : ℕ). 1 + k) r ∙ ap roots (sym unseen), b)
 rest (opening n ∷ es) (m ∷ names) seen h =
     let (kids, after, e, r) = rest es (n ∷ m ∷ names) seen h in
@@ -76,12 +75,12 @@ rest (opening n ∷ es) (m ∷ names) seen h =
     rw (append-assoc (eventsIn kids) (closing n ∷ []) after, ← e) at all
 rest (closing n ∷ es) [] seen h = absurd (false≢true h)
 rest (closing n ∷ es) (m ∷ names) seen h =
-    let same : m ≡ n = sameName-is m n .0 (left _ _ h) in
-    (none, es, ap (λ (k : Name). closing k ∷ es) (sym same), rest es names seen (right (sameName m n) _ h))
+    let same : m ≡ n = sameName-is m n .0 (and-left _ _ h) in
+    (none, es, ap (λ (k : Name). closing k ∷ es) (sym same), rest es names seen (and-right (sameName m n) _ h))
 rest (textHere b ∷ es) [] seen h =
-    let now : every blank b ≡ true = left _ _ h in
-    let (xs, same, r, k) = rest es [] seen (right (every blank b) _ h) in
-    (text b then xs, ap (_∷_ (textHere b)) same, omega arith, join now k)
+    let now : every blank b ≡ true = and-left _ _ h in
+    let (xs, same, r, k) = rest es [] seen (and-right (every blank b) _ h) in
+    (text b then xs, ap (_∷_ (textHere b)) same, omega arith, both-true now k)
 rest (textHere b ∷ es) (m ∷ names) seen h = one-more (text b) m names seen es (rest es (m ∷ names) seen h)
 rest (commentHere b ∷ es) [] seen h =
     let (xs, same, r, k) = rest es [] seen h in

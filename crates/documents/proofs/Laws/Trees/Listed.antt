@@ -5,7 +5,7 @@ use mathlib.Core.Path.{_≡_, refl, sym, ap, _∙_}
 use mathlib.Core.Logic.{_↔_, ⊎-elim}
 use mathlib.Core.Bool.{false≢true}
 use mathlib.Core.List.{List, [], _∷_, _++_, append-nil, append-assoc, List·Memᴰ, List·Memᴰ·head, List·Memᴰ·tail, List·Memᴰ·not-nil, List·Memᴰ·cases-cons, List·Memᴰ·append-cases, Memᴰ·append-left, Memᴰ·append-right, Memᴰ·cast}
-use Rattle.notation.specs.Names.{Name}
+use Rattle.text.specs.Names.{Name}
 use Rattle.documents.specs.Tree.{Document, Place, noNode, elementNode, Node, element, text, comment, Nodes, none, _then_, kindOf, childrenOf, kindIn, childrenIn, childrenAt, kindAt, isNode}
 use Rattle.documents.specs.XPath.{IsElement}
 use Rattle.documents.specs.NameList.{nameOf, namesTo, listsOf, listsIn, nameLists}

@@ -2,7 +2,7 @@
 use mathlib.Core.Path.{_≡_, refl, sym, ap, _∙_}
 use mathlib.Core.Logic.{_↔_}
 use mathlib.Core.List.{List, [], _∷_, _++_, dropLast, append-assoc, append-nil, List·Memᴰ}
-use Rattle.notation.specs.Names.{Name}
+use Rattle.text.specs.Names.{Name}
 use Rattle.notation.specs.Sets.{Path}
 use Rattle.notation.specs.Fit.{Fits}
 use Rattle.documents.specs.Tree.{Node, element, text, comment, Nodes, none, _then_, Place, kindAt}

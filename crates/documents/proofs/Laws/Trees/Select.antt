@@ -7,7 +7,7 @@ use mathlib.Core.Bool.{true}
 use mathlib.Core.List.{[], _∷_}
 use lib.ListN.{length, drop, length-drop}
 use lib.Seq.{drop-cons, drop-length, drop-drop}
-use Rattle.notation.specs.Names.{Name}
+use Rattle.text.specs.Names.{Name}
 use Rattle.notation.specs.Sets.{Test, label, star, Step, step, Path, axisOf, testOf, child as slash, descendant as doubleSlash}
 use Rattle.notation.specs.Fit.{Takes, stepAt, Fits}
 use Rattle.documents.specs.Tree.{Document, Place, Kind, elementNode, kindAt, isNode}

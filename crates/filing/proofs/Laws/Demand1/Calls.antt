@@ -6,12 +6,13 @@ use mathlib.Core.List.{List}
 use lib.Dec.{eqb}
 use lib.ListN.{length}
 use borrow.Author.Tests.{ne-eqb}
-use Rattle.notation.specs.Answers.{Answer, said, numberSaid}
-use Rattle.notation.specs.WriteText.{writtenInto, TextWritten}
-use Rattle.notation.proofs.Laws.Said.{said-number}
-use Rattle.theory.specs.Order.{Condition, given, GivenBy, AnswersBy}
-use Rattle.theory.proofs.Laws.Machine.Order.{given-by, answers-by}
-use Rattle.filing.specs.Demand1.{IfRefused}
+use Rattle.text.specs.Answers.{Answer, said, numberSaid}
+use Rattle.text.specs.Written.{writtenSays, writtenInto, TextWritten}
+use Rattle.text.specs.declared.written.Written.{Written}
+use Rattle.text.proofs.Laws.Said.{said-number}
+use Rattle.text.specs.Order.{Condition, given, GivenBy}
+use Rattle.text.proofs.Laws.Order.{given-by, answers-by}
+use Rattle.filing.specs.Demand1.{WrittenBy}
 
 pub given-is : (order : List Condition) (number : ℕ) → number ≡ given order → GivenBy order number
 given-is order number e = rw e (given-by order)
@@ -32,9 +33,8 @@ into-kept : (n : ℕ) (text before : List ℕ) → (n ≡ 0 → ⊥) → written
 into-kept zero text before h = absurd (h refl)
 into-kept (suc n) text before h = refl
 
-pub written-by : (order : List Condition) (text before : List ℕ) (says : Answer ℕ) (after : List ℕ) → TextWritten (given order) text before says after
-    → AnswersBy order says × IfRefused (numberSaid says) (after ≡ before)
-written-by order text before says after w = (
-  answers-by order (length text) says (w .answers),
-  λ n. w .leaves ∙ into-kept (given order) text before (some-said (given order) (length text) says (w .answers) n),
+pub written-by : (order : List Condition) (text before : List ℕ) (answer : Written) (after : List ℕ) → TextWritten order text before answer after → WrittenBy order before answer after
+written-by order text before answer after w = (
+  answers-by order (length text) (writtenSays answer) (w .answers),
+  λ n. w .leaves ∙ into-kept (given order) text before (some-said (given order) (length text) (writtenSays answer) (w .answers) n),
 )

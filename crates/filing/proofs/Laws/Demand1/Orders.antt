@@ -3,9 +3,9 @@ use mathlib.Core.Path.{_≡_, refl}
 use mathlib.Core.Option.{Option, none, some}
 use mathlib.Core.Logic.{_⊎_, inl, inr}
 use mathlib.Core.List.{List}
-use Rattle.notation.specs.Refusals.{Refusal, numberOf}
-use Rattle.theory.specs.Order.{Condition, Unmet, FirstOf, first, given}
-use Rattle.theory.proofs.Laws.Machine.Order.{first-is, first-none, given-by}
+use Rattle.text.specs.Refusals.{Refusal, numberOf}
+use Rattle.text.specs.Order.{Condition, Unmet, FirstOf, first, given}
+use Rattle.text.proofs.Laws.Order.{first-is, first-none, given-by}
 
 pub given-number : (order : List Condition) (r : Refusal) → FirstOf order r → given order ≡ numberOf r
 given-number order r f = given-by order .refusals r .1 f

@@ -4,8 +4,8 @@ use mathlib.Core.Path.{_≡_, refl, sym, ap, _∙_}
 use mathlib.Core.Bool.{cond}
 use mathlib.Core.Logic.{inl, inr}
 use mathlib.Core.List.{List}
-use Rattle.notation.specs.Refusals.{Refusal, shortBuffer, oversize, bentForm, outOfTurn, longName, longPath, full, foreignByte, torn, looseEnd, tooDeep, crossed, noSuchPlace, strangeShape}
-use Rattle.theory.proofs.Laws.Basics.{cases}
+use Rattle.text.specs.Refusals.{Refusal, shortBuffer, oversize, bentForm, outOfTurn, longName, longPath, full, foreignByte, torn, looseEnd, tooDeep, crossed, noSuchPlace, strangeShape}
+use Rattle.text.proofs.Laws.Tests.{cases}
 use Rattle.stored.specs.Demand3.{Left, started}
 use Rattle.stored.specs.declared.counters.Counters.{Counters}
 use Rattle.filing.specs.ReportRefusals.{RefusedReport, refusedLeft, Files}

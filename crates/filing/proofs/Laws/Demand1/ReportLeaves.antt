@@ -7,10 +7,10 @@ use lib.Dec.{eqb, ltb}
 use lib.ListN.{length}
 use borrow.Author.Tests.{eqb-true, not-true}
 use native.Mathlib.Omega.{arith}
-use Rattle.notation.specs.Form.{every}
-use Rattle.notation.specs.Refusals.{Refusal, shortBuffer, oversize, foreignByte, strangeShape, numberOf}
-use Rattle.theory.specs.Order.{Condition, gives, refusalOf, FirstOf, first, given}
-use Rattle.theory.proofs.Laws.Basics.{cases, both, clash}
+use Rattle.text.specs.Lists.{every}
+use Rattle.text.specs.Refusals.{Refusal, shortBuffer, oversize, foreignByte, strangeShape, numberOf}
+use Rattle.text.specs.Order.{Condition, gives, refusalOf, FirstOf, first, given}
+use Rattle.text.proofs.Laws.Tests.{cases, both, clash}
 use Rattle.stored.specs.Shape.{automatonShaped}
 use Rattle.stored.specs.RunCalls.{tooShort, startRefusal}
 use Rattle.stored.specs.Demand3.{Left, started}
@@ -21,7 +21,7 @@ use Rattle.filing.specs.Limits.{maxReportBytes}
 use Rattle.filing.specs.FileCall.{Outcome, refusedWith, leaving}
 use Rattle.filing.specs.Code.FileCall.{numberLeft, leftIn, reportOutcome, fileAnswer, fileLeft}
 use Rattle.filing.specs.ReportRefusals.{reportConditions, eventConditions, RefusedReport, atOnce, noTokens, atEvent, atEnd}
-use Rattle.notation.proofs.Laws.Refused.Numbers.{some-number}
+use Rattle.text.proofs.Laws.Numbers.{some-number}
 use Rattle.filing.proofs.Laws.Demand1.Orders.{given-number}
 
 -- 1 and 14 are of what is lent; any other number is of the report

@@ -8,11 +8,11 @@ use lib.Dec.{eqb, ltb}
 use lib.ListN.{length}
 use borrow.Author.Tests.{ne-eqb}
 use native.Mathlib.Omega.{arith}
-use Rattle.notation.specs.Form.{every}
-use Rattle.notation.specs.Refusals.{Refusal, shortBuffer, oversize, foreignByte, torn, looseEnd, strangeShape, numberOf}
-use Rattle.theory.specs.Order.{Condition, gives, Unmet, FirstOf, first, given}
+use Rattle.text.specs.Lists.{every}
+use Rattle.text.specs.Refusals.{Refusal, shortBuffer, oversize, foreignByte, torn, looseEnd, strangeShape, numberOf}
+use Rattle.text.specs.Order.{Condition, gives, Unmet, FirstOf, first, given}
 use Rattle.stored.specs.Shape.{automatonShaped}
-use Rattle.theory.proofs.Laws.Basics.{cases}
+use Rattle.text.proofs.Laws.Tests.{cases}
 use Rattle.stored.specs.RunCalls.{depthOf, tooShort, startRefusal, openRun, openCounters, closeRun, closeCounters}
 use Rattle.stored.specs.Openable.{Usable}
 use Rattle.stored.specs.Demand3.{Left, started}
@@ -20,7 +20,8 @@ use Rattle.stored.specs.declared.counters.Counters.{Counters}
 use Rattle.stored.proofs.Laws.Shapes.Given.{open-others, close-others}
 use Rattle.stored.proofs.Laws.Shapes.Kept.{start-usable, open-usable, close-usable}
 use Rattle.documents.specs.Tokens.{Token, blank, listed, RunOfTokens}
-use Rattle.documents.specs.Reading.{Read, fail, got, readReport}
+use Rattle.text.specs.Read.{Read, fail, got}
+use Rattle.documents.specs.Reading.{readReport}
 use Rattle.documents.specs.Document.{Event, opening, closing, textHere, commentHere, eventsOfToken, eventsOf}
 use Rattle.documents.proofs.Laws.Read.ReadSound.{found-run, run-found, none-found}
 use Rattle.filing.specs.Limits.{maxReportBytes}
@@ -29,7 +30,7 @@ use Rattle.filing.specs.Code.FileCall.{numberLeft, tokensOutcome, endOut
 use Rattle.filing.specs.ReportRefusals.{reportConditions, eventConditions, StopsAtEvent, unfinishedIn, RefusedReport, atOnce, noTokens, atEvent, atEnd, TakenReport}
 use Rattle.filing.proofs.Laws.Filing.FilingParts.{clash}
 use Rattle.filing.proofs.Laws.Filing.Taking.{go-same}
-use Rattle.notation.proofs.Laws.Refused.Numbers.{some-number}
+use Rattle.text.proofs.Laws.Numbers.{some-number}
 use Rattle.filing.proofs.Laws.Demand1.Orders.{decided, given-number, given-zero}
 
 -- outcomes

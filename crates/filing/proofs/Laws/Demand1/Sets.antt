@@ -6,13 +6,13 @@ use mathlib.Core.List.{List}
 use lib.Dec.{ltb}
 use lib.ListN.{length}
 use borrow.Author.Tests.{ltb-true, ltb-false}
-use Rattle.notation.specs.Refusals.{Refusal, shortBuffer, numberOf}
+use Rattle.text.specs.Refusals.{Refusal, shortBuffer, numberOf}
 use Rattle.notation.specs.Sets.{FolderSet}
 use Rattle.notation.specs.Accepted.{Accepted}
 use Rattle.notation.specs.Judged.{RefusedText, Verdict, refuses, accepts, Judged, verdictNumber}
-use Rattle.notation.proofs.Laws.Refused.Numbers.{one-refusal, some-number}
+use Rattle.text.proofs.Laws.Numbers.{one-refusal, some-number}
 use Rattle.notation.proofs.Laws.Refused.Judging.{some-verdict}
-use Rattle.theory.proofs.Laws.Basics.{cases}
+use Rattle.text.proofs.Laws.Tests.{cases}
 use Rattle.filing.specs.Demand1.{SetRefused, shortFirst, ofText, SetJudged}
 
 -- `into` is what an accepted set leaves

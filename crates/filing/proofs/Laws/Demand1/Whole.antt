@@ -4,33 +4,32 @@ use mathlib.Core.Path.{_≡_, refl, sym, ap, _∙_, subst}
 use mathlib.Core.Bool.{Bool, true, false, cond}
 use mathlib.Core.Logic.{_⊎_, inl, inr}
 use mathlib.Core.List.{List, [], _∷_}
-use lib.Dec.{ltb}
 use lib.ListN.{length}
 use denote.Ref.{now}
 use borrow.Author.Tests.{ne-eqb}
-use Rattle.notation.specs.Refusals.{Refusal, shortBuffer, strangeShape, numberOf}
-use Rattle.notation.specs.Answers.{value, numberSaid}
+use Rattle.text.specs.Refusals.{Refusal, shortBuffer, strangeShape, numberOf}
+use Rattle.text.specs.Answers.{value, numberSaid}
 use Rattle.notation.specs.Layout.{setSize}
 use Rattle.notation.specs.Reads.{textOf, pathAt, folderOf}
 use Rattle.notation.specs.ReadSet.{readInto}
-use Rattle.notation.specs.WriteText.{textRefusal}
-use Rattle.notation.proofs.Laws.Refused.Numbers.{one-refusal, number-within, some-number}
-use Rattle.theory.specs.Order.{gives, given, AnswersBy}
-use Rattle.theory.proofs.Laws.Basics.{cases}
-use Rattle.theory.proofs.Laws.Machine.Order.{answers-by, given-none, given-cons}
+use Rattle.notation.specs.WriteText.{textConditions}
+use Rattle.text.proofs.Laws.Numbers.{one-refusal, number-within, some-number}
+use Rattle.text.specs.Order.{gives, given, AnswersBy}
+use Rattle.text.proofs.Laws.Tests.{cases}
+use Rattle.text.proofs.Laws.Order.{answers-by, given-none, given-cons}
 use Rattle.stored.specs.Automaton.{automatonSize}
-use Rattle.stored.specs.Answers.{openedSays, writtenSays}
-use Rattle.stored.specs.Build.{builtInto, writeConditions, writeRefusal}
+use Rattle.stored.specs.Answers.{openedSays}
+use Rattle.text.specs.Written.{writtenSays}
+use Rattle.stored.specs.Build.{builtInto, writeConditions}
 use Rattle.stored.specs.RunCalls.{startConditions, startRefusal, startRun, noCounters, openConditions, openRefusal, openWalk, closeConditions, closeRefusal}
 use Rattle.stored.specs.Asking.{askConditions, askRefusal, hasPath, hasFolder, hasStep, hasDepth, askPath, askFolder, askStep, askPrefix, nameRefusal}
 use Rattle.stored.specs.Demand3.{Left, started}
 use Rattle.stored.proofs.Laws.Running.OpenName.{no-name}
 use Rattle.stored.specs.declared.counters.Counters.{Counters}
-use Rattle.stored.specs.declared.answers.Written.{Written}
-use Rattle.filing.specs.Limits.{listingSize}
+use Rattle.text.specs.declared.written.Written.{Written}
 use Rattle.filing.specs.ReportRefusals.{RefusedReport, TakenReport, refusedLeft, Files}
 use Rattle.filing.specs.Listing.{refusedLine}
-use Rattle.filing.specs.Listed.{listingConditions, listingRefusal, listingIn, refusedRefusal}
+use Rattle.filing.specs.Listed.{listingConditions, listingIn, refusedConditions}
 use Rattle.filing.specs.Filer.{tooSmall, Prints}
 use Rattle.filing.specs.Demand1.{ReportJudged, Demand1}
 use Rattle.filing.proofs.Laws.Demand1.ReportRefused.{file-decided}
@@ -42,10 +41,6 @@ use Rattle.filing.proofs.Laws.Demand1.Calls.{given-is, kept, some-given
 -- one condition alone
 alone : (b : Bool) (r : Refusal) → given (gives b r ∷ []) ≡ cond b (numberOf r) 0
 alone b r = given-cons b r [] ∙ rw given-none
-
-text-order : (part before : List ℕ) → textRefusal part (length before) ≡ given (gives (ltb (length before) (length (textOf part))) shortBuffer ∷ [])
-unfolding textRefusal
-text-order part before = sym (alone (ltb (length before) (length (textOf part))) shortBuffer)
 
 -- a report
 module _ (a run : List ℕ) (c : Counters) (report : List ℕ) (answer : ℕ) (run' : List ℕ) (c' : Counters) (f : Files a run c report answer run' c') where
@@ -110,14 +105,14 @@ module _ (text report a run out : List ℕ) (answer : Written) (a' run' out' : L
   print-left h = cases (tooSmall a run out) (λ y. p .short y .1) (λ n. absurd (h (ap numberSaid (printed-says n .1))))
 
 pub demand1 : Demand1
-unfolding writeRefusal startRefusal openRefusal closeRefusal askRefusal askPath askFolder askStep askPrefix nameRefusal listingRefusal refusedRefusal
+unfolding startRefusal openRefusal closeRefusal askRefusal askPath askFolder askStep askPrefix nameRefusal
 demand1 = record {
   fourteen = number-within;
   different = one-refusal;
   reads = λ text before answer after r. set-judged setSize text before answer after (λ v. readInto v before) (λ r. refl) (r .short) (r .judged);
   builds = λ text before answer after b. set-judged automatonSize text before answer after (λ v. builtInto v before) (λ r. refl) (b .short) (b .judged);
-  writesText = λ part before answer after w. written-by (gives (ltb (length before) (length (textOf part))) shortBuffer ∷ []) (textOf part) before _ after (rw (text-order part before) at w);
-  writesSet = λ a before answer after w. written-by (writeConditions a before) (textOf a) before (writtenSays answer) after w;
+  writesText = λ part before answer after w. written-by (textConditions part before) (textOf part) before answer after w;
+  writesSet = λ a before answer after w. written-by (writeConditions a before) (textOf a) before answer after w;
   starts = λ a run c answer run' c' s. (
     given-is (startConditions a run) answer (s .answers),
     λ n. let h = some-given (startRefusal a run) answer (s .answers) n in (s .runAfter ∙ kept (startRefusal a run) _ run h, s .countersAfter ∙ kept (startRefusal a run) _ c h),
@@ -137,7 +132,7 @@ demand1 = record {
   prefixes = λ a run answer e. answers-by (askConditions a run true) _ _ e;
   names = λ a run d number shown e o. (given-is (askConditions a (now run) (hasDepth (now run) d)) number e, λ n. no-name run shown (o .empty (λ z. n (e ∙ z))));
   files = report-judged;
-  lists = λ a run c before answer after w. written-by (listingConditions a run c before) (listingIn a run c) before (writtenSays answer) after w;
-  listsRefusal = λ n before answer after w. written-by (gives (ltb (length before) listingSize) shortBuffer ∷ []) (refusedLine n) before (writtenSays answer) after w;
+  lists = λ a run c before answer after w. written-by (listingConditions a run c before) (listingIn a run c) before answer after w;
+  listsRefusal = λ n before answer after w. written-by (refusedConditions before) (refusedLine n) before answer after w;
   prints = λ text report a run out answer a' run' out' p. (print-answers text report a run out answer a' run' out' p, print-left text report a run out answer a' run' out' p);
 }

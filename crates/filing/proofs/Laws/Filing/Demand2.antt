@@ -7,8 +7,8 @@ use mathlib.Core.List.{List, [], _∷_}
 use lib.Dec.{eqb}
 use lib.ListN.{length}
 use native.Mathlib.Omega.{arith}
-use Rattle.notation.specs.Names.{Name}
-use Rattle.notation.specs.Form.{nonEmpty, any}
+use Rattle.text.specs.Names.{Name}
+use Rattle.text.specs.Lists.{nonEmpty, any}
 use Rattle.notation.specs.Sets.{FolderSet}
 use Rattle.notation.specs.Activity.{fits}
 use Rattle.notation.proofs.Laws.Meaning.Fit.{fits-is}
@@ -16,7 +16,7 @@ use Rattle.theory.specs.Calls.{Call, Level, State, openNames, pathAt, fresh, ru
 use Rattle.theory.specs.Folders.{folderMatched}
 use Rattle.theory.specs.Elements.{elementsOf, childlessDepths}
 use Rattle.theory.specs.History.{acceptedCalls}
-use Rattle.theory.proofs.Laws.Basics.{any-is, is-any}
+use Rattle.text.proofs.Laws.Lists.{any-is, is-any}
 use Rattle.theory.proofs.Laws.Machine.Folders.{folder-matched}
 use Rattle.theory.proofs.Laws.Machine.Sound.{Sound, sound}
 use Rattle.theory.proofs.Laws.Machine.Whole.{whole}
@@ -25,7 +25,7 @@ use Rattle.documents.specs.Code.Events.{passed, passedIn}
 use Rattle.documents.specs.NameList.{nameLists}
 use Rattle.filing.specs.Filing.{filed, fileEvents, callsIn, allAccepted, FiledWith}
 use Rattle.filing.specs.Demand2.{countIn, childlessIn, SelectsElement, FolderSelects, OfDocument, Demand2}
-use Rattle.documents.proofs.Laws.Read.Bytes.{neither}
+use Rattle.text.proofs.Laws.Tests.{neither}
 use Rattle.documents.proofs.Laws.Trees.Balance.{balanced-is}
 use Rattle.documents.proofs.Laws.Trees.Passed.{passed-is}
 use Rattle.documents.proofs.Laws.Trees.OneDocument.{one-document, report-selects}

@@ -5,13 +5,13 @@ use lib.ListN.{length, take, drop, take-append-drop}
 use Prim.Native.Nat.{ℕ, _≤_}
 use Rattle.notation.specs.Limits.{maxSetBytes}
 use Rattle.notation.specs.Sets.{FolderSet}
-use Rattle.notation.specs.Answers.{value}
+use Rattle.text.specs.Answers.{value}
 use Rattle.notation.specs.Accepted.{Accepted}
 use Rattle.notation.specs.Judged.{accepts}
 use Rattle.stored.specs.Automaton.{automatonSize}
-use Rattle.stored.specs.Answers.{writtenSays}
+use Rattle.text.specs.Written.{writtenSays}
 use Rattle.stored.specs.Build.{Built, SetWritten}
-use Rattle.stored.specs.declared.answers.Written.{Written}
+use Rattle.text.specs.declared.written.Written.{Written}
 use Rattle.stored.proofs.Laws.Building.WriteSet.{written-length, written-text, written-rest}
 use Rattle.filing.specs.Demand2Whole.{Demand2Whole}
 use Rattle.filing.proofs.Laws.Filing.BuiltSet.{automaton-taken, built-automaton, built-means}

@@ -4,8 +4,8 @@ use mathlib.Core.Path.{_≡_, refl, sym, ap, _∙_}
 use mathlib.Core.Bool.{Bool, true, false, not, _&&_}
 use mathlib.Core.Option.{none}
 use mathlib.Core.List.{List, [], _∷_, _++_, map}
-use Rattle.notation.specs.Names.{Name}
-use Rattle.notation.specs.Form.{every, nonEmpty}
+use Rattle.text.specs.Names.{Name}
+use Rattle.text.specs.Lists.{every, nonEmpty}
 use Rattle.notation.specs.Sets.{FolderSet, folderNumber}
 use Rattle.notation.specs.Accepted.{Accepted}
 use Rattle.notation.proofs.Laws.Refused.AcceptedSet.{accepted-faultless}

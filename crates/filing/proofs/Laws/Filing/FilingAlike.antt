@@ -6,19 +6,19 @@ use mathlib.Core.Option.{Option, none, some}
 use mathlib.Core.List.{List, [], _∷_, _++_, map}
 use lib.Dec.{ltb}
 use lib.ListN.{length, length-map}
-use Rattle.notation.specs.Names.{Name}
-use Rattle.notation.specs.Form.{every}
+use Rattle.text.specs.Names.{Name, sameName}
+use Rattle.text.specs.Lists.{every}
 use Rattle.notation.specs.Sets.{FolderSet}
-use Rattle.notation.specs.Refusals.{Refusal, looseEnd}
-use Rattle.notation.specs.Activity.{sameName}
-use Rattle.theory.specs.Order.{first}
+use Rattle.text.specs.Refusals.{Refusal, looseEnd}
+use Rattle.text.specs.Order.{first}
 use Rattle.theory.specs.Calls.{asLeft, Call, openCall, closeCall, Level, level, nameOf, State, fresh, isInnermost, refusal, step, after, run}
-use Rattle.theory.proofs.Laws.Basics.{cases}
+use Rattle.text.proofs.Laws.Tests.{cases}
 use Rattle.theory.proofs.Laws.Machine.Steps.{one-more}
 use Rattle.theory.proofs.Laws.Machine.Alike.{run-alike}
 use Rattle.filing.specs.Limits.{maxReportBytes}
 use Rattle.documents.specs.Tokens.{Token, listed}
-use Rattle.documents.specs.Reading.{Read, fail, got, readReport}
+use Rattle.text.specs.Read.{Read, fail, got}
+use Rattle.documents.specs.Reading.{readReport}
 use Rattle.documents.specs.Document.{Event, opening, closing, textHere, commentHere, eventsOf}
 use Rattle.filing.specs.Filing.{Filed, refused, filed, numberGiven, thenFile, unless, fileCall, looseText, fileEvents, unfinished, fileEnd, fileRun, fileReport}
 use Rattle.filing.proofs.Laws.Filing.FilingRun.{tokens-events}

@@ -7,7 +7,7 @@ use lib.Dec.{eqb}
 use lib.ListN.{length, length-append}
 use borrow.Author.Tests.{ne-eqb}
 use native.Mathlib.Omega.{arith}
-use Rattle.notation.specs.Names.{Name}
+use Rattle.text.specs.Names.{Name}
 use Rattle.notation.specs.Sets.{FolderSet}
 use Rattle.theory.specs.Calls.{asLeft, Call, openCall, closeCall, State, fresh, accepted, step}
 use Rattle.theory.specs.History.{acceptedAfter, acceptedCalls}
@@ -17,7 +17,7 @@ use Rattle.documents.specs.NameList.{listsOf, listsIn}
 use Rattle.documents.specs.Document.{Event, opening, closing, textHere, commentHere, eventsAt, eventsIn, elementHere, elementsAmong, keep, documentOf}
 use Rattle.filing.specs.Filing.{callsIn, allAccepted}
 use Rattle.filing.specs.Demand2.{countAt, countIn, childlessAt, childlessIn}
-use Rattle.documents.proofs.Laws.Read.Bytes.{left, right}
+use Rattle.text.proofs.Laws.Tests.{and-left, and-right}
 
 -- as many elements as name lists
 mutual
@@ -41,8 +41,8 @@ accepted-all : (set : FolderSet) (calls : List Call) (m : State) (earlier : List
 unfolding allAccepted acceptedAfter pushed
 accepted-all set [] m earlier h = refl
 accepted-all set (call ∷ calls) m earlier h =
-    let now : accepted m call ≡ true = left _ _ h in
-    rw now (accepted-all set calls (step set m call) (call ∷ earlier) (right (accepted m call) _ h))
+    let now : accepted m call ≡ true = and-left _ _ h in
+    rw now (accepted-all set calls (step set m call) (call ∷ earlier) (and-right (accepted m call) _ h))
 
 -- the elements after some events
 unfoldable after : Elements → List Event → Elements

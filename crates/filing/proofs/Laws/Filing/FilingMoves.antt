@@ -4,7 +4,7 @@ use mathlib.Core.Path.{_≡_, refl, ap, _∙_}
 use mathlib.Core.Bool.{true}
 use mathlib.Core.List.{List, [], _∷_, _++_, dropLast, append-assoc, append-nil}
 use native.Mathlib.Omega.{arith}
-use Rattle.notation.specs.Names.{Name}
+use Rattle.text.specs.Names.{Name}
 use Rattle.notation.specs.Sets.{FolderSet}
 use Rattle.theory.specs.Prefix.{prefixOf}
 use Rattle.theory.specs.Walk.{movesOf, walk}
@@ -15,7 +15,7 @@ use Rattle.theory.proofs.Laws.Machine.MovesTold.{open-moves, open-moves-only}
 use Rattle.theory.proofs.Laws.Machine.Sound.{Sound, fresh-sound, open-sound, close-sound}
 use Rattle.documents.specs.Tree.{Node, element, text, comment, Nodes, none, _then_}
 use Rattle.documents.specs.Document.{Event, opening, closing, textHere, commentHere, eventsAt, eventsIn, documentOf}
-use Rattle.documents.proofs.Laws.Read.Bytes.{left, right}
+use Rattle.text.proofs.Laws.Tests.{and-left, and-right}
 use Rattle.documents.proofs.Laws.Trees.Passed.{last-off}
 use Rattle.filing.specs.Filing.{callsIn, allAccepted}
 use Rattle.filing.specs.Printed.{MovesIn, noNodes, ofElement, ofText, ofComment}
@@ -58,22 +58,22 @@ module _ (set : FolderSet) where
   unfolding allAccepted callsIn after movesOver
   moves-over [] m g h = omega arith
   moves-over (opening e ∷ es) m g h =
-      let now : accepted m (openCall asLeft e) ≡ true = left _ _ h in
+      let now : accepted m (openCall asLeft e) ≡ true = and-left _ _ h in
       let t : State = step set m (openCall asLeft e) in
       let names : openNames t ≡ openNames m ++ (e ∷ []) = step-open-names set m e now in
       omega (
         arith,
-        moves-over es t (open-kept m e g now) (right (accepted m (openCall asLeft e)) _ h),
+        moves-over es t (open-kept m e g now) (and-right (accepted m (openCall asLeft e)) _ h),
         counted-open m e g now,
         ap (λ (l : List Name). movesOver set l es) names,
       )
   moves-over (closing e ∷ es) m g h =
-      let now : accepted m (closeCall asLeft e) ≡ true = left _ _ h in
+      let now : accepted m (closeCall asLeft e) ≡ true = and-left _ _ h in
       let t : State = step set m (closeCall asLeft e) in
       let names : dropLast (openNames m) ≡ openNames t = ap dropLast (step-close-names set m e now) ∙ last-off (openNames t) e in
       omega (
         arith,
-        moves-over es t (close-kept m e g now) (right (accepted m (closeCall asLeft e)) _ h),
+        moves-over es t (close-kept m e g now) (and-right (accepted m (closeCall asLeft e)) _ h),
         close-moves m e now,
         ap (λ (l : List Name). movesOver set l es) names,
       )

@@ -6,13 +6,14 @@ use mathlib.Core.Option.{some, Option·none-ne-some}
 use mathlib.Core.List.{List, [], _∷_, List·Memᴰ}
 use lib.Dec.{eqb}
 use borrow.Author.Tests.{eqb-true}
-use Rattle.notation.specs.Names.{Name}
-use Rattle.notation.specs.Form.{every, any}
-use Rattle.notation.specs.Refusals.{Refusal, numberOf}
-use Rattle.theory.specs.Order.{Condition, gives, holds, refusalOf, FirstOf, first}
+use Rattle.text.specs.Names.{Name}
+use Rattle.text.specs.Lists.{every, any}
+use Rattle.text.specs.Refusals.{Refusal, numberOf}
+use Rattle.text.specs.Order.{Condition, gives, holds, refusalOf, FirstOf, first}
 use Rattle.theory.specs.Calls.{State, opensSpent, openOrder, closeOrder}
-use Rattle.theory.proofs.Laws.Basics.{any-is, both}
-use Rattle.theory.proofs.Laws.Machine.Order.{first-is}
+use Rattle.text.proofs.Laws.Lists.{any-is}
+use Rattle.text.proofs.Laws.Tests.{both}
+use Rattle.text.proofs.Laws.Order.{first-is}
 use Rattle.documents.specs.Tokens.{Token, declaration, comment, startTag, emptyTag, endTag, text}
 use Rattle.filing.specs.Filing.{Stops}
 use Rattle.filing.specs.FiledReport.{reportNumbers}

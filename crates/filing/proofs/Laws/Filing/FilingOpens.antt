@@ -7,13 +7,13 @@ use mathlib.Core.List.{List, [], _∷_, _++_, dropLast, List·Memᴰ}
 use lib.ListN.{length, length-append}
 use borrow.Author.Tests.{lt-leb}
 use native.Mathlib.Omega.{arith}
-use Rattle.notation.specs.Names.{Name}
+use Rattle.text.specs.Names.{Name}
 use Rattle.notation.specs.Sets.{FolderSet}
-use Rattle.notation.specs.Refusals.{Refusal, full, numberOf}
-use Rattle.notation.specs.Form.{any}
+use Rattle.text.specs.Refusals.{Refusal, full, numberOf}
+use Rattle.text.specs.Lists.{any}
 use Rattle.theory.specs.Limits.{maxOpens}
 use Rattle.theory.specs.Calls.{State, openNames, opensSpent, fresh}
-use Rattle.theory.proofs.Laws.Basics.{clash}
+use Rattle.text.proofs.Laws.Tests.{clash}
 use Rattle.documents.specs.Tokens.{Token, declaration, comment, startTag, emptyTag, endTag, text, printAttributes, printToken, printTokens, RunOfTokens}
 use Rattle.documents.specs.Document.{eventsOf}
 use Rattle.documents.specs.Code.Events.{passed}

@@ -7,14 +7,15 @@ use mathlib.Core.List.{List, [], _∷_, _++_}
 use lib.Dec.{ltb}
 use lib.ListN.{length}
 use borrow.Author.Tests.{ltb-true, ltb-false, lt-ltb, le-ltb}
-use Rattle.notation.specs.Form.{every}
+use Rattle.text.specs.Lists.{every}
 use Rattle.notation.specs.Sets.{FolderSet}
-use Rattle.notation.specs.Refusals.{Refusal, oversize, foreignByte, torn, looseEnd}
+use Rattle.text.specs.Refusals.{Refusal, oversize, foreignByte, torn, looseEnd}
 use Rattle.theory.specs.Calls.{State, fresh}
-use Rattle.theory.proofs.Laws.Basics.{cases}
+use Rattle.text.proofs.Laws.Tests.{cases}
 use Rattle.filing.specs.Limits.{maxReportBytes}
 use Rattle.documents.specs.Tokens.{Token, listed, RunOfTokens}
-use Rattle.documents.specs.Reading.{Read, fail, got, readReport}
+use Rattle.text.specs.Read.{Read, fail, got}
+use Rattle.documents.specs.Reading.{readReport}
 use Rattle.documents.specs.Document.{eventsOfToken}
 use Rattle.filing.specs.Filing.{Filed, refused, filed, thenFile, fileEvents, fileTokens, unfinished, fileEnd, fileRun, fileReport, StopsAt, Refused, tooMany, notListed, noRun, atToken, atEnd, FiledWith}
 use Rattle.filing.proofs.Laws.Filing.FilingParts.{clash, first-refused, both-filed}

@@ -2,7 +2,7 @@
 use Prim.Native.Nat.{ℕ}
 use mathlib.Core.Path.{_≡_, refl}
 use native.Mathlib.Omega.{arith}
-use Rattle.notation.specs.Refusals.{Refusal}
+use Rattle.text.specs.Refusals.{Refusal}
 use Rattle.theory.specs.Calls.{State}
 use Rattle.filing.specs.Filing.{Filed, refused, filed, thenFile}
 

@@ -8,12 +8,12 @@ use lib.Dec.{eqb, ltb}
 use lib.ListN.{length}
 use borrow.Author.Tests.{lt-ltb, eqb-false, not-false}
 use native.Mathlib.Omega.{arith}
-use Rattle.notation.specs.Names.{Name}
-use Rattle.notation.specs.Form.{every, nonEmpty, any}
+use Rattle.text.specs.Names.{Name}
+use Rattle.text.specs.Lists.{every, nonEmpty, any}
 use Rattle.notation.specs.Sets.{FolderSet}
-use Rattle.notation.specs.Refusals.{Refusal, looseEnd}
+use Rattle.text.specs.Refusals.{Refusal, looseEnd}
 use Rattle.notation.specs.Activity.{fits}
-use Rattle.notation.proofs.Laws.Meaning.Fit.{sameName-is}
+use Rattle.text.proofs.Laws.Bytes.SameName.{sameName-is}
 use Rattle.theory.specs.Calls.{asLeft, openCall, closeCall, Level, level, nameOf, State, openNames, pathAt, fresh, opened, closedFrom, refusal, accepted, step, after}
 use Rattle.theory.proofs.Laws.Machine.Calls.{open-accepted, Closable, close-accepted}
 use Rattle.theory.proofs.Laws.Machine.Steps.{open-accepted-is, close-accepted-is, step-accepted, step-open-names, step-close-names}
@@ -22,7 +22,7 @@ use Rattle.documents.specs.Tokens.{Token, blank}
 use Rattle.documents.specs.Document.{Event, opening, closing, textHere, commentHere, eventsOfToken, eventsOf}
 use Rattle.documents.specs.Code.Events.{balanced, passed}
 use Rattle.filing.specs.Filing.{Filed, refused, filed, thenFile, unless, fileCall, looseText, fileEvent, fileEvents, fileTokens, callsIn, allAccepted, unfinished}
-use Rattle.documents.proofs.Laws.Read.Bytes.{join, neither}
+use Rattle.text.proofs.Laws.Tests.{both-true, neither}
 use Rattle.documents.proofs.Laws.Trees.Passed.{last-off}
 use Rattle.filing.proofs.Laws.Filing.FilingParts.{clash, both-filed}
 
@@ -91,7 +91,7 @@ taken-after set =
 pub taken-accepted : (set : FolderSet) (es : List Event) (m n : State) → fileEvents set m es ≡ filed n → allAccepted set m (callsIn es) ≡ true
 unfolding allAccepted callsIn
 taken-accepted set =
-    taken set (λ m es n. allAccepted set m (callsIn es) ≡ true) (λ n. refl) (λ m n e es a p. join a p) (λ m n e es a p. join a p) (λ m n b es l p. p) (λ m n b es p. p)
+    taken set (λ m es n. allAccepted set m (callsIn es) ≡ true) (λ n. refl) (λ m n e es a p. both-true a p) (λ m n e es a p. both-true a p) (λ m n b es l p. p) (λ m n b es p. p)
 
 -- Balance: the open names and whether there was an open are those of the machine
 
@@ -118,7 +118,7 @@ open-balanced (level n w ∷ levels) opens e es root h p =
 text-balanced : (levels : List Level) (seen : Bool) (b : List ℕ) (es : List Event) → (not (nonEmpty levels) && not (every blank b)) ≡ false
     → balanced (map nameOf levels) seen es ≡ true → balanced (map nameOf levels) seen (textHere b ∷ es) ≡ true
 unfolding balanced
-text-balanced [] seen b es h p = join (not-false (every blank b) h) p
+text-balanced [] seen b es h p = both-true (not-false (every blank b) h) p
 text-balanced (level n w ∷ levels) seen b es h p = p
 
 comment-balanced : (levels : List Level) (seen : Bool) (b : List ℕ) (es : List Event)

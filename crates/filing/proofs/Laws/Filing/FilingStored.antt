@@ -9,23 +9,24 @@ use lib.Dec.{eqb, ltb}
 use lib.ListN.{length, drop}
 use borrow.Author.Tests.{ne-eqb}
 use native.Mathlib.Omega.{arith}
-use Rattle.notation.specs.Form.{every, nonEmpty}
+use Rattle.text.specs.Lists.{every, nonEmpty}
 use Rattle.notation.specs.Sets.{FolderSet}
-use Rattle.notation.specs.Refusals.{Refusal, looseEnd, numberOf}
-use Rattle.theory.specs.Order.{numberIn}
+use Rattle.text.specs.Refusals.{Refusal, looseEnd, numberOf}
+use Rattle.text.specs.Order.{numberIn}
 use Rattle.theory.specs.Calls.{asLeft, openCall, closeCall, Level, State, fresh, refusal, step}
 use Rattle.stored.specs.Run.{runSize}
 use Rattle.stored.specs.RunCalls.{openRefusal, openRun, openCounters, closeRefusal, closeRun, closeCounters}
 use Rattle.stored.specs.Demand3.{Left, started}
-use Rattle.theory.proofs.Laws.Basics.{cases}
+use Rattle.text.proofs.Laws.Tests.{cases}
 use Rattle.theory.proofs.Laws.Machine.Moves.{Few, fresh-few}
 use Rattle.stored.proofs.Laws.Running.Means.{Means}
-use Rattle.theory.proofs.Laws.Machine.Order.{number-none}
+use Rattle.text.proofs.Laws.Order.{number-none}
 use Rattle.stored.proofs.Laws.Running.Following.{leftOf, few-after, one-leaves, start-left}
 use Rattle.stored.proofs.Laws.Shapes.Passing.{stored-depth, open-refused, close-refused}
 use Rattle.filing.specs.Limits.{maxReportBytes}
 use Rattle.documents.specs.Tokens.{Token, listed}
-use Rattle.documents.specs.Reading.{Read, fail, got, readReport}
+use Rattle.text.specs.Read.{Read, fail, got}
+use Rattle.documents.specs.Reading.{readReport}
 use Rattle.documents.specs.Document.{Event, opening, closing, textHere, commentHere, eventsOfToken, eventsOf}
 use Rattle.filing.specs.Filing.{Filed, refused, filed, thenFile, unless, looseText, fileEvent, fileEvents, fileTokens, callsIn, unfinished, fileEnd, fileRun, fileReport}
 use Rattle.filing.specs.FileCall.{Outcome, refusedWith, leaving, thenGo, outcome, eventOutcome, eventsOutcome}

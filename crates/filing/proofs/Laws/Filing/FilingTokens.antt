@@ -6,11 +6,11 @@ use mathlib.Core.Logic.{_↔_}
 use mathlib.Core.Bool.{Bool, true, false, cond}
 use mathlib.Core.Option.{Option, none, some, Option·none-ne-some}
 use mathlib.Core.List.{List, [], _∷_}
-use Rattle.notation.specs.Names.{Name}
+use Rattle.text.specs.Names.{Name}
 use Rattle.notation.specs.Sets.{FolderSet}
-use Rattle.notation.specs.Refusals.{Refusal, looseEnd}
-use Rattle.notation.proofs.Laws.Meaning.Fit.{sameName-is}
-use Rattle.theory.specs.Order.{FirstOf, first}
+use Rattle.text.specs.Refusals.{Refusal, looseEnd}
+use Rattle.text.proofs.Laws.Bytes.SameName.{sameName-is}
+use Rattle.text.specs.Order.{FirstOf, first}
 use Rattle.theory.specs.Calls.{asLeft, Call, openCall, closeCall, State, openOrder, closeOrder, opened, refusal, accepted, step}
 use Rattle.theory.proofs.Laws.Machine.Calls.{open-accepted}
 use Rattle.theory.proofs.Laws.Machine.Steps.{refusal-is, open-accepted-is, step-accepted}

@@ -8,11 +8,12 @@ use lib.Dec.{eqb}
 use lib.ListN.{length, drop}
 use borrow.Author.Tests.{eq-eqb}
 use Rattle.notation.specs.Sets.{Folder, FolderSet, folderNumber}
-use Rattle.notation.specs.Form.{pathsOf, any}
-use Rattle.notation.specs.Refusals.{Refusal, numberOf}
-use Rattle.notation.specs.Answers.{Answer, value}
+use Rattle.notation.specs.Form.{pathsOf}
+use Rattle.text.specs.Lists.{any}
+use Rattle.text.specs.Refusals.{Refusal, numberOf}
+use Rattle.text.specs.Answers.{Answer, value}
 use Rattle.notation.specs.Accepted.{Accepted}
-use Rattle.notation.proofs.Laws.Refused.Numbers.{one-refusal, some-number}
+use Rattle.text.proofs.Laws.Numbers.{one-refusal, some-number}
 use Rattle.notation.specs.declared.PathPlace.{PathPlace}
 use Rattle.notation.specs.declared.FolderNumber.{FolderNumber}
 use Rattle.theory.specs.Calls.{Call, State, pathAt, fresh, run}
@@ -23,7 +24,7 @@ use Rattle.stored.specs.RunCalls.{startRefusal, startRun, noCounters}
 use Rattle.stored.specs.Asking.{askPath, askFolder}
 use Rattle.stored.specs.Demand3.{Left, started, Answers, HasFolder, HasMatchedPath}
 use Rattle.stored.specs.declared.counters.Counters.{Counters}
-use Rattle.theory.proofs.Laws.Basics.{is-any}
+use Rattle.text.proofs.Laws.Lists.{is-any}
 use Rattle.theory.proofs.Laws.Machine.Matches.{run-matched}
 use Rattle.theory.proofs.Laws.Machine.Moves.{Few, fresh-few}
 use Rattle.stored.proofs.Laws.Running.Means.{Means}

@@ -7,11 +7,11 @@ use mathlib.Core.List.{List, _∷_}
 use lib.Dec.{eqb, leb}
 use lib.ListN.{length, drop}
 use borrow.Author.Tests.{eq-eqb, ne-eqb, leb-false, lt-leb, lt-ltb, le-ltb}
-use Rattle.notation.specs.Names.{Name}
-use Rattle.notation.specs.Refusals.{torn, numberOf}
-use Rattle.notation.specs.Form.{every}
-use Rattle.notation.specs.Answers.{numberSaid}
-use Rattle.notation.proofs.Laws.Said.{said-number}
+use Rattle.text.specs.Names.{Name}
+use Rattle.text.specs.Refusals.{torn, numberOf}
+use Rattle.text.specs.Lists.{every}
+use Rattle.text.specs.Answers.{numberSaid}
+use Rattle.text.proofs.Laws.Said.{said-number}
 use Rattle.stored.specs.Answers.{openedSays}
 use Rattle.stored.specs.RunCalls.{depthOf, startRefusal, startRun, openRefusal, openWalk, openRun, openCounters, closeRefusal, closeRun, closeCounters, noCounters}
 use Rattle.stored.specs.RunContracts.{Starts, Opens, Closes}
@@ -25,7 +25,8 @@ use Rattle.filing.specs.Limits.{maxReportBytes}
 use Rattle.filing.specs.declared.tokens.Found.{Found}
 use Rattle.filing.specs.declared.tokens.Found.the-variants.{Nothing, Declaration, Comment, Start, Empty, End, Text}
 use Rattle.documents.specs.Tokens.{Token, declaration, comment, startTag, emptyTag, endTag, text, listed, isDeclaration}
-use Rattle.documents.specs.Reading.{Read, fail, got, thenRead, readToken, readReport}
+use Rattle.text.specs.Read.{Read, fail, got, thenRead}
+use Rattle.documents.specs.Reading.{readToken, readReport}
 use Rattle.documents.specs.Document.{eventsOfToken}
 use Rattle.filing.specs.Seen.{shown, foundOf, foundEnd, declares}
 use Rattle.filing.specs.Code.Seen.{tagName, nameOfToken}

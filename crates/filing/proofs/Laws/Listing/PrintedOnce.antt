@@ -3,7 +3,7 @@ use Prim.Native.Nat.{ℕ}
 use mathlib.Core.Path.{_≡_, refl, sym, ap, _∙_}
 use mathlib.Core.List.{List, _∷_}
 use Rattle.notation.specs.Sets.{Path, FolderSet}
-use Rattle.notation.specs.Refusals.{Refusal, numberOf}
+use Rattle.text.specs.Refusals.{Refusal, numberOf}
 use Rattle.documents.specs.Tree.{Document}
 use Rattle.documents.specs.Document.{documentIn}
 use Rattle.documents.proofs.Laws.Trees.OneDocument.{one-document}

@@ -3,7 +3,7 @@ use Prim.Native.Nat.{ℕ}
 use mathlib.Core.Path.{_≡_, ap, subst}
 use mathlib.Core.List.{List}
 use Rattle.notation.specs.Sets.{FolderSet}
-use Rattle.notation.specs.Refusals.{Refusal, numberOf}
+use Rattle.text.specs.Refusals.{Refusal, numberOf}
 use Rattle.notation.specs.Judged.{Verdict, refuses, accepts, Judged}
 use Rattle.notation.proofs.Laws.Refused.Judging.{some-verdict, only-verdict}
 use Rattle.filing.specs.Listing.{refusedLine}

@@ -13,8 +13,8 @@ use Rattle.notation.specs.Form.{pathsOf}
 use Rattle.notation.specs.Print.{footer}
 use Rattle.notation.specs.Accepted.{Accepted}
 use Rattle.theory.specs.Calls.{State, fresh, run as after}
-use Rattle.theory.proofs.Laws.Basics.{cases, clash}
-use Rattle.stored.specs.declared.answers.Written.{Written}
+use Rattle.text.proofs.Laws.Tests.{cases, clash}
+use Rattle.text.specs.declared.written.Written.{Written}
 use Rattle.documents.specs.Tree.{Document}
 use Rattle.documents.specs.Document.{Event, eventsIn, documentIn}
 use Rattle.filing.specs.Filing.{Filed, refused, filed, callsIn, allAccepted, fileReport, FiledWith}

@@ -10,18 +10,20 @@ use borrow.Author.Tests.{le-ltb, ltb-false}
 use native.Mathlib.Nat.{zero-add}
 use native.Mathlib.Omega.{arith}
 use Rattle.notation.specs.Sets.{FolderSet}
-use Rattle.notation.specs.Refusals.{Refusal, numberOf}
+use Rattle.text.specs.Refusals.{Refusal, numberOf}
 use Rattle.notation.specs.Accepted.{Accepted}
 use Rattle.notation.specs.Judged.{RefusedText, Verdict, refuses, accepts, Judged, verdictNumber}
-use Rattle.notation.proofs.Laws.Refused.Numbers.{number-within, some-number}
-use Rattle.theory.proofs.Laws.Basics.{clash}
+use Rattle.text.proofs.Laws.Numbers.{number-within, some-number}
+use Rattle.text.proofs.Laws.Tests.{clash}
 use Rattle.stored.specs.Automaton.{automatonOf, automatonSize}
 use Rattle.stored.specs.Run.{runSize}
-use Rattle.theory.specs.Order.{first, given}
+use Rattle.text.specs.Order.{Condition, first, given}
+use Rattle.text.specs.Answers.{said}
+use Rattle.text.specs.Written.{writtenInto, TextWritten}
 use Rattle.stored.specs.RunCalls.{noCounters}
 use Rattle.stored.specs.Build.{Built, builtInto}
 use Rattle.stored.specs.Demand3.{Left}
-use Rattle.stored.specs.declared.answers.Written.{Written}
+use Rattle.text.specs.declared.written.Written.{Written}
 use Rattle.stored.specs.declared.counters.Counters.{Counters}
 use Rattle.stored.proofs.Laws.Running.Means.{Means, means}
 use Rattle.filing.specs.Limits.{listingSize}
@@ -30,14 +32,14 @@ use Rattle.filing.specs.ReportRefusals.{Files}
 use Rattle.filing.specs.Code.FileCall.{fileAnswer, fileLeft, FilesBy}
 use Rattle.filing.specs.FiledReport.{Demand2Bytes}
 use Rattle.filing.specs.Listing.{listing, refusedLine}
-use Rattle.filing.specs.Listed.{Writes, ListingWritten, refusedRefusal, RefusedWritten}
+use Rattle.filing.specs.Listed.{ListingWritten, refusedConditions, RefusedWritten}
 use Rattle.filing.specs.Printed.{PrintedText, ofRefusedSet, ofSet}
 use Rattle.filing.specs.Filer.{tooSmall, PrintsText, Prints}
 use Rattle.filing.specs.Code.Filer.{printed, filerPrints, OutcomeWritten, FiledAndListed}
 use Rattle.filing.proofs.Laws.Demand1.ReportFiles.{by-verdict, by-equations}
 use Rattle.filing.proofs.Laws.Filing.FromBytes.{answer-is, left-filed, few-end, demand2-bytes}
 use Rattle.filing.proofs.Laws.Listing.PrintedText.{printed-is, printed-text-some}
-use Rattle.filing.proofs.Laws.Listing.Whole.{listing-fits, listing-written}
+use Rattle.filing.proofs.Laws.Listing.Whole.{listing-fits, not-refused, listing-written}
 use Rattle.filing.proofs.Laws.Listing.Written.{refused-short}
 
 -- where nothing is too small
@@ -61,22 +63,22 @@ module _ (a run out : List ℕ) (h : tooSmall a run out ≡ false) where
   out-room = ltb-false (length out) listingSize (none-small .1 .1)
 
 -- a text no longer than a listing, in a buffer of a listing's size
-text-printed : (text out after : List ℕ) (answer : Written) → length text ≤ listingSize → listingSize ≤ length out → Writes 0 text out answer after
-    → PrintsText text out answer after
-text-printed text out after answer fits room w = record {
+text-printed : (text out after : List ℕ) (answer : Written) → length text ≤ listingSize → listingSize ≤ length out
+    → (order : List Condition) → given order ≡ 0 → TextWritten order text out answer after → PrintsText text out answer after
+text-printed text out after answer fits room order z w = record {
   fits = fits;
-  answers = w .answers;
-  leaves = w .leaves ∙ (sets-eq text out 0 (omega arith) ∙ ap (λ (k : ℕ). text ++ drop k out) (zero-add (length text)));
+  answers = w .answers ∙ ap (λ (n : ℕ). said n (length text)) z;
+  leaves = w .leaves ∙ ap (λ (n : ℕ). writtenInto n text out) z ∙ (sets-eq text out 0 (omega arith) ∙ ap (λ (k : ℕ). text ++ drop k out) (zero-add (length text)));
 }
 
 -- a refusal's line
 line-printed : (r : Refusal) (out after : List ℕ) (answer : Written) → listingSize ≤ length out → RefusedWritten (numberOf r) out answer after
     → PrintsText (refusedLine (numberOf r)) out answer after
-unfolding refusedRefusal given first
+unfolding given first
 line-printed r out after answer room w =
     let t : ltb (length out) listingSize ≡ false = le-ltb (length out) listingSize room in
     let small : numberOf r < 256 = omega (arith, number-within r .1) in
-    text-printed (refusedLine (numberOf r)) out after answer (refused-short (numberOf r) small) room (rw t at w)
+    text-printed (refusedLine (numberOf r)) out after answer (refused-short (numberOf r) small) room (refusedConditions out) (rw t) w
 
 outcome-line : (n : ℕ) (a run : List ℕ) (c : Counters) (out after : List ℕ) (answer : Written)
     → (n ≡ 0 → ⊥) → OutcomeWritten n a run c out answer after → RefusedWritten n out answer after
@@ -139,7 +141,7 @@ module _ (text : List ℕ) (s : FolderSet) (acc : Accepted text s) (behind run r
         let few = few-end s a w run long noCounters report (fileAnswer a run report) (left .bytes) (left .counters) files (filed m) e in
         let v : OutcomeWritten 0 a (left .bytes) (left .counters) out answer after =
         subst (λ (k : ℕ). OutcomeWritten k a (left .bytes) (left .counters) out answer after) n h in
-        text-printed (listing s m) out after answer (listing-fits s a w m few (drop runSize run)) room
+        text-printed (listing s m) out after answer (listing-fits s a w m few (drop runSize run)) room _ (not-refused s a w m few (drop runSize run) out room)
         (listing-written s a w m few (drop runSize run) out after answer room
         (subst (λ (x : Left). ListingWritten a (x .bytes) (x .counters) out answer after) t v))
 

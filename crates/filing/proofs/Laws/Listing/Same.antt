@@ -1,4 +1,4 @@
--- On the automaton of a set and the run of a machine's state, the listing by what is stored is the listing of the set and the state.
+-- Within the automaton of a set and the run of a machine's state, the listing by what is stored is the listing of the set and the state.
 use Prim.Native.Nat.{ℕ, zero, suc, _+_, _<_, suc-le-suc}
 use native.Mathlib.Omega.{arith}
 use native.Mathlib.Nat.{zero-add, add-zero, add-suc, suc-add, not-suc-le-zero, le-of-suc-le-suc}
@@ -8,7 +8,8 @@ use mathlib.Core.List.{List, [], _∷_, _++_, append-assoc}
 use lib.ListN.{length, getD, take, length-append, List·getD-append}
 use lib.Seq.{getD-append-add}
 use Rattle.notation.specs.Sets.{Path, Folder, folder, FolderSet, folderNumber, folderPaths}
-use Rattle.notation.specs.Form.{nonEmpty, pathsOf, any}
+use Rattle.text.specs.Lists.{nonEmpty, any}
+use Rattle.notation.specs.Form.{pathsOf}
 use Rattle.notation.specs.Print.{printPath, printPaths, printFolder}
 use Rattle.notation.specs.declared.reads.FolderAt.{FolderAt}
 use Rattle.notation.proofs.Laws.Stored.FolderTable.{noFolder, pathsBefore, paths-between, paths-before-most}
@@ -18,7 +19,7 @@ use Rattle.stored.specs.Run.{runOf}
 use Rattle.stored.specs.HeldSet.{foldersHeld, folderHeld, pathHeld}
 use Rattle.stored.specs.Asking.{placeMatched, anyMatched}
 use Rattle.stored.specs.declared.counters.Counters.{Counters}
-use Rattle.theory.proofs.Laws.Basics.{cases}
+use Rattle.text.proofs.Laws.Tests.{cases}
 use Rattle.theory.proofs.Laws.Machine.Moves.{Few}
 use Rattle.stored.proofs.Laws.Running.Means.{Means}
 use Rattle.stored.proofs.Laws.Running.HeldSet.{folders-held, folder-held, path-held}

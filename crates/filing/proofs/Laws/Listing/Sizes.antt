@@ -7,14 +7,15 @@ use mathlib.Core.List.{List, [], _∷_, _++_}
 use lib.ListN.{length, length-append}
 use Rattle.notation.specs.Limits.{maxSetBytes}
 use Rattle.notation.specs.Sets.{Path, folder, FolderSet}
-use Rattle.notation.specs.Print.{decimal, printPath, printPaths, folderWord, header, footer, printFolder, printFolders, print}
+use Rattle.text.specs.Decimal.{decimal}
+use Rattle.notation.specs.Print.{printPath, printPaths, folderWord, header, footer, printFolder, printFolders, print}
 use Rattle.notation.proofs.Laws.Refused.Fitting.{Fitting}
 use Rattle.theory.specs.Limits.{maxDepth, maxOpens}
 use Rattle.theory.specs.Calls.{State}
-use Rattle.theory.proofs.Laws.Basics.{cases}
+use Rattle.text.proofs.Laws.Tests.{cases}
 use Rattle.filing.specs.Limits.{maxMovesLine, listingSize}
 use Rattle.filing.specs.Listing.{filedHeader, movesWord, matchedPaths, lineOf, linesFrom, movesLine, listing}
-use Rattle.filing.proofs.Laws.Listing.Numbers.{tens, decimal-few}
+use Rattle.text.proofs.Laws.Decimal.{tens, decimal-few}
 
 line-length : (n : ℕ) (ps : List Path) → length (printFolder (folder n ps)) ≡ 8 + (length (decimal n) + (length (printPaths ps) + 2))
 unfolding printFolder folderWord footer

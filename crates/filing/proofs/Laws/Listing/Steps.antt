@@ -7,7 +7,8 @@ use mathlib.Core.List.{List, [], _∷_, _++_, append-assoc, append-nil}
 use Rattle.theory.specs.Folders.{countFrom}
 use Rattle.stored.specs.HeldSet.{folderHeld}
 use Rattle.stored.specs.Asking.{placeMatched, anyMatched, pathsOfFolder}
-use Rattle.notation.specs.Print.{decimal, folderWord, footer}
+use Rattle.text.specs.Decimal.{decimal}
+use Rattle.notation.specs.Print.{folderWord, footer}
 use Rattle.filing.specs.Listing.{movesWord, movesLine}
 use Rattle.filing.specs.Listed.{pathListed, ifMatched, pathsListed, lineListed, lineAt, folderListed, foldersListed}
 

@@ -9,14 +9,15 @@ use borrow.Author.Tests.{le-ltb}
 use Rattle.notation.specs.Sets.{FolderSet}
 use Rattle.theory.specs.Calls.{State}
 use Rattle.stored.specs.Run.{runOf}
-use Rattle.theory.specs.Order.{first, given}
-use Rattle.stored.specs.declared.answers.Written.{Written}
+use Rattle.text.specs.Order.{first, given}
+use Rattle.text.specs.Written.{TextWritten}
+use Rattle.text.specs.declared.written.Written.{Written}
 use Rattle.theory.proofs.Laws.Machine.Moves.{Few}
 use Rattle.stored.proofs.Laws.Running.Means.{Means}
 use Rattle.stored.proofs.Laws.Shapes.Passing.{countersOf, all-shaped, long-enough}
 use Rattle.filing.specs.Limits.{listingSize}
 use Rattle.filing.specs.Listing.{listing}
-use Rattle.filing.specs.Listed.{listingIn, listingRoom, listingRefusal, Writes, ListingWritten}
+use Rattle.filing.specs.Listed.{listingIn, listingRoom, listingConditions, listingRefusal, ListingWritten}
 use Rattle.filing.proofs.Laws.Listing.Same.{listing-same}
 use Rattle.filing.proofs.Laws.Listing.Sizes.{listing-short}
 
@@ -37,9 +38,9 @@ module _ (s : FolderSet) (a : List ℕ) (m : Means s a) (st : State) (few : Few 
       rw (all-shaped s a m st few rest, same, e)
 
   pub not-refused : (out : List ℕ) → listingSize ≤ length out → listingRefusal a run (countersOf st) out ≡ 0
-  unfolding listingRefusal given first
+  unfolding given first
   not-refused out h = rw (long-enough s a m st few rest, room-is, le-ltb (length out) listingSize h, all-shaped s a m st few rest)
 
   pub listing-written : (out after : List ℕ) (answer : Written) → listingSize ≤ length out → ListingWritten a run (countersOf st) out answer after
-      → Writes 0 (listing s st) out answer after
-  listing-written out after answer h w = rw (not-refused out h, same) at w
+      → TextWritten (listingConditions a run (countersOf st) out) (listing s st) out answer after
+  listing-written out after answer h w = rw same at w

@@ -8,12 +8,13 @@ use lib.Dec.{eqb}
 use lib.ListN.{length, getD, drop, length-drop, drop-of-length-le}
 use lib.Seq.{getD-drop, drop-drop}
 use native.Mathlib.Nat.{add-zero}
-use Rattle.notation.proofs.Laws.Tests.{cases}
+use Rattle.text.proofs.Laws.Tests.{cases}
 use Rattle.filing.specs.declared.tags.Reach.{Reach}
 use Rattle.filing.specs.declared.tags.Reach.the-variants.{No, To}
 use Rattle.filing.specs.declared.tokens.Found.the-variants.{Nothing, Comment}
-use Rattle.documents.specs.Tokens.{listed, begins, comment}
-use Rattle.documents.specs.Reading.{Read, fail, got, thenRead, when, readWord, readContents, readComment}
+use Rattle.documents.specs.Tokens.{listed, comment}
+use Rattle.text.specs.Read.{begins, Read, fail, got, thenRead, when, readWord}
+use Rattle.documents.specs.Reading.{readContents, readComment}
 use Rattle.filing.specs.Code.Reaches.{reachOf}
 use Rattle.filing.specs.Seen.{foundOf}
 use Rattle.filing.proofs.Laws.Read.Reaches.{word-fits, never}

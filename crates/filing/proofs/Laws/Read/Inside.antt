@@ -6,16 +6,16 @@ use mathlib.Core.Bool.{true, false, false≢true, and-false}
 use mathlib.Core.List.{List, [], _∷_, _++_}
 use lib.ListN.{length, getD, drop, length-append, length-drop, drop-of-length-le}
 use lib.Seq.{drop-cons}
-use Rattle.notation.specs.Names.{beginsName}
-use Rattle.notation.specs.Form.{nonEmpty}
-use Rattle.notation.proofs.Laws.Tests.{cases}
+use Rattle.text.specs.Names.{beginsName}
+use Rattle.text.specs.Lists.{nonEmpty}
+use Rattle.text.proofs.Laws.Tests.{cases, and-left, both-true}
 use Rattle.filing.specs.declared.tags.Reach.the-variants.{No, To}
 use Rattle.documents.specs.Tokens.{blank, inValue, quoteByte, Attribute, printAttribute, formedAttribute}
-use Rattle.documents.specs.Reading.{Read, fail, got, thenRead, front, back, readWord, readName, readQuote, readParts, readAttributeFrom, readAttribute, attributeAhead, readAttributes}
+use Rattle.text.specs.Read.{Read, fail, got, thenRead, front, back, readWord, readName}
+use Rattle.documents.specs.Reading.{readQuote, readParts, readAttributeFrom, readAttribute, attributeAhead, readAttributes}
 use Rattle.filing.specs.Code.Reaches.{reachOf, insideReach}
-use Rattle.documents.proofs.Laws.Read.Bytes.{left, join}
 use Rattle.documents.proofs.Laws.Printed.AttributesBack.{attribute-length}
-use Rattle.documents.proofs.Laws.Read.Holds.{holds-map, holds-got}
+use Rattle.text.proofs.Laws.Reads.{holds-map, holds-got}
 use Rattle.documents.proofs.Laws.Read.PartsSound.{attribute-sound}
 use Rattle.filing.proofs.Laws.Read.Reaches.{reached}
 use Rattle.filing.proofs.Laws.Read.Values.{then-same, reach-no}
@@ -61,7 +61,7 @@ attributes-enough (suc n) (suc m) l h k =
     (λ t.
     let same : thenRead (readAttribute l) (λ a r. thenRead (readAttributes n r) (λ x r₂. got (a ∷ x) r₂))
     ≡ thenRead (readAttribute l) (λ a r. thenRead (readAttributes m r) (λ x r₂. got (a ∷ x) r₂)) =
-    then-same (attribute-sound l (left _ _ t)) (λ a r g.
+    then-same (attribute-sound l (and-left _ _ t)) (λ a r g.
     ap (λ (p : Read (List Attribute)). thenRead p (λ x r₂. got (a ∷ x) r₂))
     (attributes-enough n m r (less n a r h g) (less m a r k g))) in
     rw t same)
@@ -106,7 +106,7 @@ module _ (s : List ℕ) (i n : ℕ) (h : i ≤ length s) (is : n ≡ i + length 
     some = some-of (front blank (drop i s)) (λ z. more (omega arith))
 
     ahead : attributeAhead (drop i s) ≡ true
-    ahead = join some (rw (rest, drop-cons s n 0 k) t)
+    ahead = both-true some (rw (rest, drop-cons s n 0 k) t)
 
     pub one-no : reachOf (length s) (readAttributeFrom [] (drop n s)) ≡ No → No ≡ insideReach s i
     one-no e =

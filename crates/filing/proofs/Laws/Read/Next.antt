@@ -6,9 +6,10 @@ use mathlib.Core.Bool.{Bool, true, false, not, _||_}
 use mathlib.Core.List.{List, [], _∷_}
 use lib.ListN.{length, drop, length-append, length-drop, drop-of-length-le}
 use Rattle.documents.specs.Tokens.{Token, printToken, isDeclaration}
-use Rattle.documents.specs.Reading.{Read, fail, got, thenRead, when, readToken, readTokens}
+use Rattle.text.specs.Read.{Read, fail, got, thenRead, when}
+use Rattle.documents.specs.Reading.{readToken, readTokens}
 use Rattle.documents.proofs.Laws.Printed.OneRun.{token-length, read-more}
-use Rattle.documents.proofs.Laws.Read.Holds.{holds-got}
+use Rattle.text.proofs.Laws.Reads.{holds-got}
 use Rattle.documents.proofs.Laws.Read.ReadSound.{Good, token-sound}
 use Rattle.filing.proofs.Laws.Read.Reaches.{suffix-drop}
 use Rattle.filing.proofs.Laws.Read.Values.{then-same}

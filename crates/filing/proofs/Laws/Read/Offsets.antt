@@ -8,12 +8,14 @@ use mathlib.Core.List.{List, [], _∷_, _++_, append-assoc}
 use borrow.Author.Tests.{eq-eqb, ne-eqb}
 use lib.ListN.{length, getD, drop, length-append, length-drop, drop-of-length-le}
 use lib.Seq.{drop-cons, drop-append-seam, drop-drop}
-use Rattle.notation.specs.Names.{beginsName, inName}
+use Rattle.text.specs.Names.{beginsName, inName}
 use Rattle.filing.specs.declared.tags.Reach.the-variants.{No, To}
 use Rattle.documents.specs.Tokens.{Part, printParts, quoteByte, blank, inValue, attribute}
-use Rattle.documents.specs.Reading.{Read, fail, got, thenRead, front, back, readWord, readName, readQuote, readParts, readAttributeFrom}
+use Rattle.text.specs.Read.{Read, fail, got, thenRead, front, back, readWord, readName}
+use Rattle.documents.specs.Reading.{readQuote, readParts, readAttributeFrom}
 use Rattle.filing.specs.Code.Reaches.{reachOf, quotedReach, valueReach}
-use Rattle.documents.proofs.Laws.Read.Holds.{holds-map, front-back, name-sound, word-sound}
+use Rattle.text.proofs.Laws.Reads.{holds-map, name-sound, word-sound}
+use Rattle.text.proofs.Laws.Fronts.{front-back}
 use Rattle.documents.proofs.Laws.Read.PartsSound.{parts-sound}
 use Rattle.filing.proofs.Laws.Read.Reaches.{Suffix, reached}
 use Rattle.filing.proofs.Laws.Read.Values.{reach-no, reach-map}

@@ -7,14 +7,15 @@ use mathlib.Core.List.{List, [], _∷_, _++_}
 use lib.Dec.{eqb}
 use lib.ListN.{length, drop, length-append, length-drop}
 use lib.Seq.{drop-append-seam, drop-drop}
-use Rattle.notation.specs.Names.{Name}
+use Rattle.text.specs.Names.{Name}
 use Rattle.filing.specs.declared.tags.Reach.{Reach}
 use Rattle.filing.specs.declared.tags.Reach.the-variants.{No, To}
-use Rattle.documents.specs.Tokens.{amp, lt, gt, quot, apos, begins}
-use Rattle.documents.specs.Reading.{Read, fail, got, readReference}
+use Rattle.documents.specs.Tokens.{amp, lt, gt, quot, apos}
+use Rattle.text.specs.Read.{begins, Read, fail, got}
+use Rattle.documents.specs.Reading.{readReference}
 use Rattle.filing.specs.Code.Reaches.{reachOf}
-use Rattle.documents.proofs.Laws.Read.Bytes.{right}
-use Rattle.documents.proofs.Laws.Read.Holds.{Holds, holds-got}
+use Rattle.text.proofs.Laws.Tests.{and-right}
+use Rattle.text.proofs.Laws.Reads.{Holds, holds-got}
 
 -- what was read stands in front of what is left
 abbrev pub Suffix : {A : Type 0} → List ℕ → Read A → Type 0
@@ -48,7 +49,7 @@ module _ (s : List ℕ) (at : ℕ) (h : at ≤ length s) where
   unfolding begins
   word-length [] l t = omega arith
   word-length (b ∷ w) [] t = absurd (false≢true t)
-  word-length (b ∷ w) (c ∷ l) t = omega (arith, word-length w l (right (eqb b c) _ t))
+  word-length (b ∷ w) (c ∷ l) t = omega (arith, word-length w l (and-right (eqb b c) _ t))
 
   pub word-fits : (w : List ℕ) → begins w (drop at s) ≡ true → at + length w ≤ length s
   word-fits w t = omega (arith, word-length w (drop at s) t, length-drop at s)

@@ -10,7 +10,8 @@ use borrow.Author.Tests.{ne-eqb, eq-eqb}
 use lib.ListN.{length, drop}
 use Rattle.filing.specs.declared.tokens.Found.{Found}
 use Rattle.documents.specs.Tokens.{Token, declaration, comment, startTag, emptyTag, endTag, text, isDeclaration, RunOfTokens}
-use Rattle.documents.specs.Reading.{Read, fail, got, thenRead, readToken, readReport}
+use Rattle.text.specs.Read.{Read, fail, got, thenRead}
+use Rattle.documents.specs.Reading.{readToken, readReport}
 use Rattle.filing.specs.Seen.{shown, foundOf, foundEnd, declares}
 use Rattle.filing.specs.Code.Seen.{isGot}
 use Rattle.documents.proofs.Laws.Read.ReadSound.{found-run, run-found}

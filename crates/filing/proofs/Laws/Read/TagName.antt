@@ -3,12 +3,13 @@ use Prim.Native.Nat.{ℕ, _-_}
 use mathlib.Core.Path.{_≡_, refl}
 use mathlib.Core.List.{List}
 use lib.ListN.{length, drop}
-use Rattle.notation.specs.Names.{Name}
+use Rattle.text.specs.Names.{Name}
 use Rattle.filing.specs.declared.tokens.Found.{Found}
 use Rattle.documents.specs.Tokens.{Token, declaration, comment, startTag, emptyTag, endTag, text}
-use Rattle.documents.specs.Reading.{Read, fail, got, readToken}
+use Rattle.text.specs.Read.{Read, fail, got}
+use Rattle.documents.specs.Reading.{readToken}
 use Rattle.documents.specs.TagAt.{start, empty, end, WholeTag, TagAt, whole, none}
-use Rattle.documents.proofs.Laws.Read.Holds.{Holds, holds-got}
+use Rattle.text.proofs.Laws.Reads.{Holds, holds-got}
 use Rattle.documents.proofs.Laws.Read.ReadSound.{Good, token-sound}
 use Rattle.documents.proofs.Laws.Printed.TagAt.{Cut, nowhere, none-read, other-read, whole-cut, one-tag-at}
 use Rattle.filing.specs.Seen.{shown, foundOf, nameFrom, nameTo}

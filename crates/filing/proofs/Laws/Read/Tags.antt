@@ -9,16 +9,18 @@ use lib.Dec.{eqb, ltb}
 use borrow.Author.Tests.{eq-eqb, ne-eqb, eqb-true, eqb-false, ltb-true, ltb-false}
 use lib.ListN.{length, getD, drop, length-append, length-drop, drop-of-length-le}
 use lib.Seq.{drop-cons}
-use Rattle.notation.specs.Names.{Name}
-use Rattle.notation.proofs.Laws.Tests.{cases}
+use Rattle.text.specs.Names.{Name}
+use Rattle.text.proofs.Laws.Tests.{cases}
 use Rattle.filing.specs.declared.tags.Reach.the-variants.{No, To}
 use Rattle.filing.specs.declared.tokens.Found.the-variants.{Nothing, Start, Empty, End}
 use Rattle.documents.specs.Tokens.{blank, Attribute, printAttributes, emptyTag}
-use Rattle.documents.specs.Reading.{Read, fail, got, thenRead, front, back, readWord, readName, readAttributes, readTagEnd, readTag, readEndTag}
+use Rattle.text.specs.Read.{Read, fail, got, thenRead, front, back, readWord, readName}
+use Rattle.documents.specs.Reading.{readAttributes, readTagEnd, readTag, readEndTag}
 use Rattle.filing.specs.Code.Reaches.{reachOf, insideReach}
 use Rattle.filing.specs.Seen.{foundOf}
 use Rattle.filing.specs.Code.Seen.{tagEndOf}
-use Rattle.documents.proofs.Laws.Read.Holds.{holds-got, then-holds, gotten, front-back, name-sound}
+use Rattle.text.proofs.Laws.Reads.{holds-got, then-holds, gotten, name-sound}
+use Rattle.text.proofs.Laws.Fronts.{front-back}
 use Rattle.documents.proofs.Laws.Read.PartsSound.{attributes-sound}
 use Rattle.filing.proofs.Laws.Read.Reaches.{Suffix, reached}
 use Rattle.filing.proofs.Laws.Read.Values.{reach-no}

@@ -9,18 +9,19 @@ use lib.Dec.{eqb}
 use borrow.Author.Tests.{eq-eqb, ne-eqb, eqb-true, not-true}
 use lib.ListN.{length, getD, drop, length-drop, drop-of-length-le}
 use lib.Seq.{drop-cons}
-use Rattle.notation.specs.Names.{Name}
-use Rattle.notation.specs.Form.{every, nonEmpty}
-use Rattle.notation.proofs.Laws.Tests.{cases}
+use Rattle.text.specs.Names.{Name}
+use Rattle.text.specs.Lists.{every, nonEmpty}
+use Rattle.text.proofs.Laws.Tests.{cases, and-left, and-right}
 use Rattle.filing.specs.declared.tags.Reach.the-variants.{No, To}
 use Rattle.filing.specs.declared.tokens.Found.{Found}
 use Rattle.filing.specs.declared.tokens.Found.the-variants.{Nothing, Text}
-use Rattle.documents.specs.Tokens.{Part, plain, reference, printPart, printParts, text, blank, listed, inText, isEntity, begins, occurs}
-use Rattle.documents.specs.Reading.{Read, fail, got, thenRead, when, readReference, readParts, textEnds, readText}
+use Rattle.documents.specs.Tokens.{Part, plain, reference, printPart, printParts, text, blank, listed, inText, isEntity, occurs}
+use Rattle.text.specs.Read.{begins, Read, fail, got, thenRead, when}
+use Rattle.documents.specs.Reading.{readReference, readParts, textEnds, readText}
 use Rattle.filing.specs.Code.Reaches.{reachOf}
 use Rattle.filing.specs.Seen.{foundOf}
-use Rattle.documents.proofs.Laws.Read.Bytes.{left, right, entity-cases}
-use Rattle.documents.proofs.Laws.Read.Holds.{Holds, holds-map, holds-got}
+use Rattle.documents.proofs.Laws.Read.Bytes.{entity-cases}
+use Rattle.text.proofs.Laws.Reads.{Holds, holds-map, holds-got}
 use Rattle.documents.proofs.Laws.Read.PartsSound.{parts-sound, reference-sound}
 use Rattle.filing.proofs.Laws.Read.Reaches.{reached}
 use Rattle.filing.proofs.Laws.Read.Values.{reach-no, reference-suffix, parts-enough}
@@ -52,9 +53,9 @@ unfolding begins every
 word-inside [] p r h e = refl
 word-inside (x ∷ w) [] [] h e = refl
 word-inside (x ∷ w) [] (c ∷ r) h e =
-    let apart : eqb x c ≡ false = ap (eqb x) (eqb-true c 60 e) ∙ not-true (eqb x 60) (left _ _ h) in
+    let apart : eqb x c ≡ false = ap (eqb x) (eqb-true c 60 e) ∙ not-true (eqb x 60) (and-left _ _ h) in
     rw apart
-word-inside (x ∷ w) (c ∷ p) r h e = rw (word-inside w p r (right (not (eqb x 60)) _ h) e)
+word-inside (x ∷ w) (c ∷ p) r h e = rw (word-inside w p r (and-right (not (eqb x 60)) _ h) e)
 
 -- no part of a reference begins `]]>`
 over-reference : (n : Name) (ps : List Part) → isEntity n ≡ true

@@ -10,7 +10,8 @@ use lib.ListN.{length, getD, drop, length-drop, drop-of-length-le}
 use lib.Seq.{drop-cons}
 use Rattle.filing.specs.declared.tokens.Found.{Found}
 use Rattle.filing.specs.declared.tokens.Found.the-variants.{Nothing, Declaration}
-use Rattle.documents.specs.Tokens.{declarationBytes, begins}
+use Rattle.documents.specs.Tokens.{declarationBytes}
+use Rattle.text.specs.Read.{begins}
 use Rattle.documents.specs.Reading.{readTag, readEndTag, readComment, readMarkup, readText, readToken}
 use Rattle.filing.specs.Seen.{foundOf}
 use Rattle.filing.specs.Code.Seen.{declarationAt}

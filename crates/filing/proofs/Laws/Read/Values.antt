@@ -12,9 +12,10 @@ use lib.Seq.{drop-cons}
 use Rattle.filing.specs.declared.tags.Reach.{Reach}
 use Rattle.filing.specs.declared.tags.Reach.the-variants.{No, To}
 use Rattle.documents.specs.Tokens.{Part, plain, reference}
-use Rattle.documents.specs.Reading.{Read, fail, got, thenRead, readReference, readParts}
+use Rattle.text.specs.Read.{Read, fail, got, thenRead}
+use Rattle.documents.specs.Reading.{readReference, readParts}
 use Rattle.filing.specs.Code.Reaches.{reachOf}
-use Rattle.documents.proofs.Laws.Read.Holds.{Holds, failed, gotten, holds-map}
+use Rattle.text.proofs.Laws.Reads.{Holds, failed, gotten, holds-map}
 use Rattle.documents.proofs.Laws.Read.PartsSound.{reference-sound}
 use Rattle.filing.proofs.Laws.Read.Reaches.{Suffix, never, reached}
 

@@ -1,14 +1,17 @@
 -- `listing::emit_folder_line`: head, paths, and the line's end.
 use Rattle.theory.specs.Folders.{countFrom}
 use Rattle.filing.proofs.Laws.Listing.Steps.{line-joined}
-use Rattle.notation.specs.Print.{footer}
-use Rattle.filing.proofs.Laws.Listing.Pages.{and-then, told-as}
+use Rattle.notation.specs.Print.{footer, folderWord}
+use Rattle.text.proofs.Laws.Output.{and-then, told-as}
 use borrow.Author.Needs.{needs}
 use Rattle.filing.proofs.listing.emit_folder_line.Statement.{statement}
 use Rattle.filing.proofs.listing.emit_folder_line.Tie as tie
 
-emit-head-requires : tie.Need-emit-head-requires
-emit-head-requires c κs = search needs
+slice-aggregate-emit-numbered : tie.Need-slice-aggregate-emit-numbered
+slice-aggregate-emit-numbered c = search needs
+
+emit-numbered-requires : tie.Need-emit-numbered-requires
+emit-numbered-requires c κs = search needs
 
 emit-paths-requires : tie.Need-emit-paths-requires
 emit-paths-requires c κs = search needs
@@ -23,14 +26,17 @@ same-length : tie.Need-same-length
 same-length c = search needs
 
 returns : tie.Need-returns
-unfolding footer
-returns c = told-as (and-then (c .before .before .before .before .before .before .before .before .before .before .before .emit-head .ensures) (and-then (c .before .before .before .before .before .before .before .emit-paths .ensures) (c .before .before .emit .ensures))) (line-joined (c .before .before .before .before .before .before .before .before .before .before .before .before .before .before .before .before .args .a .now) (c .before .before .before .before .before .before .before .before .before .before .before .before .before .before .before .before .args .run .now) (c .before .before .before .before .before .before .before .before .before .before .before .before .before .before .before .before .args .number) (countFrom (c .before .before .before .before .before .before .before .before .before .before .before .before .before .before .before .before .args .first) (c .before .before .before .before .before .before .before .before .before .before .before .before .before .before .before .before .args .count)))
+unfolding footer folderWord
+returns c =
+    let a = c .before .before .before .before .before .before .before .before .before .before .before .before .before .before .before .before .before .args in
+    told-as (and-then (c .before .before .before .before .before .before .before .before .before .before .before .emit-numbered .ensures) (and-then (c .before .before .before .before .before .before .before .emit-paths .ensures) (c .before .before .emit .ensures))) (line-joined (a .a .now) (a .run .now) (a .number) (countFrom (a .first) (a .count)))
 
 pub emit-folder-line-spec : {M : Type 1} → statement M
 emit-folder-line-spec =
     tie.close
     (tie.spec
-    emit-head-requires
+    slice-aggregate-emit-numbered
+    emit-numbered-requires
     emit-paths-requires
     slice-aggregate-emit
     emit-requires

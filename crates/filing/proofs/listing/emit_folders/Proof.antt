@@ -6,18 +6,18 @@ use mathlib.Core.Path.{_≡_, sym, _∙_, ap}
 use borrow.Author.Needs.{needs}
 use Rattle.theory.specs.Folders.{countFrom}
 use Rattle.stored.specs.HeldSet.{foldersHeld}
-use Rattle.filing.specs.Code.Page.{Adds}
+use Rattle.text.specs.Code.Output.{Adds}
 use Rattle.filing.specs.Listed.{foldersListed}
-use Rattle.filing.proofs.Laws.Listing.Pages.{nothing, and-then, told-as}
+use Rattle.text.proofs.Laws.Output.{nothing, and-then, told-as}
 use Rattle.filing.proofs.Laws.Listing.Steps.{folders-more}
 use Rattle.filing.proofs.listing.emit_folders.Statement.{statement}
 use Rattle.filing.proofs.listing.emit_folders.Tie as tie
 
 abbrev Inv-loop : tie.InvT-loop
-Inv-loop a run page₀ top to₀ i₀ page to i = (i ≤ top) × Adds page₀ to₀ (foldersListed a run (countFrom 0 i)) page to
+Inv-loop a run out₀ top to₀ i₀ out to i = (i ≤ top) × Adds out₀ to₀ (foldersListed a run (countFrom 0 i)) out to
 
 abbrev μ-loop : tie.MeasureT-loop
-μ-loop a run page₀ top to₀ i₀ page to i = top - i
+μ-loop a run out₀ top to₀ i₀ out to i = top - i
 
 folders-requires : tie.Need-folders-requires Inv-loop μ-loop
 folders-requires c κs = search needs

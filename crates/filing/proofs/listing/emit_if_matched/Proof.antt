@@ -1,6 +1,6 @@
 -- `listing::emit_if_matched`: the path, or nothing.
 use mathlib.Core.Path.{sym, _∙_}
-use Rattle.filing.proofs.Laws.Listing.Pages.{nothing, told-as}
+use Rattle.text.proofs.Laws.Output.{nothing, told-as}
 use Rattle.filing.proofs.Laws.Listing.Steps.{path-yes, path-no}
 use borrow.Author.Needs.{needs}
 use Rattle.filing.proofs.listing.emit_if_matched.Statement.{statement}

@@ -3,7 +3,7 @@ use native.Mathlib.Omega.{arith}
 use mathlib.Core.Path.{sym, _∙_, ap}
 use Rattle.stored.specs.HeldSet.{topHeld}
 use Rattle.filing.specs.Listed.{lineAt}
-use Rattle.filing.proofs.Laws.Listing.Pages.{nothing, told-as}
+use Rattle.text.proofs.Laws.Output.{nothing, told-as}
 use borrow.Author.Needs.{needs}
 use Rattle.filing.proofs.listing.emit_line.Statement.{statement}
 use Rattle.filing.proofs.listing.emit_line.Tie as tie

@@ -1,13 +1,17 @@
 -- `listing::emit_moves`: the two numbers, a space between them, and the line's end.
 use Rattle.filing.proofs.Laws.Listing.Steps.{moves-joined}
 use Rattle.notation.specs.Print.{footer}
-use Rattle.filing.proofs.Laws.Listing.Pages.{and-then, told-as}
+use Rattle.filing.specs.Listing.{movesWord}
+use Rattle.text.proofs.Laws.Output.{and-then, told-as}
 use borrow.Author.Needs.{needs}
 use Rattle.filing.proofs.listing.emit_moves.Statement.{statement}
 use Rattle.filing.proofs.listing.emit_moves.Tie as tie
 
-emit-opens-requires : tie.Need-emit-opens-requires
-emit-opens-requires c κs = search needs
+slice-aggregate-emit-numbered : tie.Need-slice-aggregate-emit-numbered
+slice-aggregate-emit-numbered c = search needs
+
+emit-numbered-requires : tie.Need-emit-numbered-requires
+emit-numbered-requires c κs = search needs
 
 slice-aggregate-emit : tie.Need-slice-aggregate-emit
 slice-aggregate-emit c = search needs
@@ -28,14 +32,17 @@ same-length : tie.Need-same-length
 same-length c = search needs
 
 returns : tie.Need-returns
-unfolding footer
-returns c = told-as (and-then (c .before .before .before .before .before .before .before .before .before .before .before .before .before .before .before .before .emit-opens .ensures) (and-then (c .before .before .before .before .before .before .before .before .before .before .before .emit .ensures) (and-then (c .before .before .before .before .before .before .before .emit-number .ensures) (c .before .before .emit2 .ensures)))) (moves-joined (c .before .before .before .before .before .before .before .before .before .before .before .before .before .before .before .before .before .before .before .args .opens) (c .before .before .before .before .before .before .before .before .before .before .before .before .before .before .before .before .before .before .before .args .moves))
+unfolding footer movesWord
+returns c =
+    let a = c .before .before .before .before .before .before .before .before .before .before .before .before .before .before .before .before .before .before .before .before .args in
+    told-as (and-then (c .before .before .before .before .before .before .before .before .before .before .before .before .before .before .before .before .emit-numbered .ensures) (and-then (c .before .before .before .before .before .before .before .before .before .before .before .emit .ensures) (and-then (c .before .before .before .before .before .before .before .emit-number .ensures) (c .before .before .emit2 .ensures)))) (moves-joined (a .opens) (a .moves))
 
 pub emit-moves-spec : {M : Type 1} → statement M
 emit-moves-spec =
     tie.close
     (tie.spec
-    emit-opens-requires
+    slice-aggregate-emit-numbered
+    emit-numbered-requires
     slice-aggregate-emit
     emit-requires
     emit-number-requires

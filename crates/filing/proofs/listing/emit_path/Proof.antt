@@ -2,7 +2,7 @@
 use mathlib.Core.List.{List, [], _∷_, _++_}
 use Prim.Native.Nat.{ℕ}
 use mathlib.Core.Path.{ap}
-use Rattle.filing.proofs.Laws.Listing.Pages.{and-then, told-as}
+use Rattle.text.proofs.Laws.Output.{and-then, told-as}
 use Rattle.filing.specs.Listed.{pathListed}
 use borrow.Author.Needs.{needs}
 use Rattle.filing.proofs.listing.emit_path.Statement.{statement}

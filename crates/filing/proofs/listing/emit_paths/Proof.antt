@@ -4,18 +4,18 @@ use Prim.Native.Nat.{ℕ, _≤_, _-_}
 use native.Mathlib.Numerals.{add-one}
 use mathlib.Core.Path.{_≡_, sym, _∙_, ap}
 use Rattle.theory.specs.Folders.{countFrom}
-use Rattle.filing.specs.Code.Page.{Adds}
+use Rattle.text.specs.Code.Output.{Adds}
 use Rattle.filing.specs.Listed.{pathsListed}
-use Rattle.filing.proofs.Laws.Listing.Pages.{nothing, and-then, told-as}
+use Rattle.text.proofs.Laws.Output.{nothing, and-then, told-as}
 use Rattle.filing.proofs.Laws.Listing.Steps.{paths-more}
 use Rattle.filing.proofs.listing.emit_paths.Statement.{statement}
 use Rattle.filing.proofs.listing.emit_paths.Tie as tie
 
 abbrev Inv-loop : tie.InvT-loop
-Inv-loop a run first count page₀ to₀ i₀ page to i = (i ≤ count) × Adds page₀ to₀ (pathsListed a run (countFrom first i)) page to
+Inv-loop a run first count out₀ to₀ i₀ out to i = (i ≤ count) × Adds out₀ to₀ (pathsListed a run (countFrom first i)) out to
 
 abbrev μ-loop : tie.MeasureT-loop
-μ-loop a run first count page₀ to₀ i₀ page to i = count - i
+μ-loop a run first count out₀ to₀ i₀ out to i = count - i
 
 loop-holds : tie.Need-loop-holds Inv-loop μ-loop
 unfolding pathsListed countFrom

@@ -13,13 +13,13 @@ unfolding listingSize maxSetBytes maxMovesLine
 returns c = let a = c .before .before .before .before .args in
     (sym (out-short (a .a .now) (a .run .now) (a .c) (a .out .now) (omega arith)), refl)
 
-lent-refusal-requires : tie.Need-lent-refusal-requires
-lent-refusal-requires c κs = search needs
+refusal-requires : tie.Need-refusal-requires
+refusal-requires c κs = search needs
 
 returns-2 : tie.Need-returns-2
 unfolding listingSize maxSetBytes maxMovesLine
 returns-2 c = let a = c .before .before .before .before .before .before .args in
-    let e = c .before .lent-refusal .ensures in
+    let e = c .before .refusal .ensures in
     (e ∙ sym (lent-refused (a .a .now) (a .run .now) (a .c) (a .out .now) (omega (arith, c .before .before .if1 .left)) (λ z. c .if2 .taken (e ∙ z))), refl)
 
 compose-requires : tie.Need-compose-requires
@@ -32,7 +32,7 @@ returns-3 : tie.Need-returns-3
 unfolding listingSize maxSetBytes maxMovesLine
 returns-3 c = let a = c .before .before .before .before .before .before .before .before .before .before .before .args in
     let x = c .before .before .before .compose .ensures in
-    let z = sym (c .before .before .before .before .before .before .lent-refusal .ensures) ∙ c .before .before .before .before .before .if2 .left in
+    let z = sym (c .before .before .before .before .before .before .refusal .ensures) ∙ c .before .before .before .before .before .if2 .left in
     (sym (dry-says (a .a .now) (a .run .now) (a .c) (a .out .now) (omega (arith, c .before .before .before .before .before .before .before .if1 .left)) z x ∙ rw (c .if3 .taken)), x .kept refl)
 
 same-length-2 : tie.Need-same-length-2
@@ -42,7 +42,7 @@ returns-4 : tie.Need-returns-4
 unfolding listingSize maxSetBytes maxMovesLine
 returns-4 c = let a = c .before .before .before .before .before .before .before .before .before .before .before .args in
     let x = c .before .before .before .compose .ensures in
-    let z = sym (c .before .before .before .before .before .before .lent-refusal .ensures) ∙ c .before .before .before .before .before .if2 .left in
+    let z = sym (c .before .before .before .before .before .before .refusal .ensures) ∙ c .before .before .before .before .before .if2 .left in
     (sym (dry-says (a .a .now) (a .run .now) (a .c) (a .out .now) (omega (arith, c .before .before .before .before .before .before .before .if1 .left)) z x ∙ rw (c .if3 .left)), x .kept refl)
 
 pub refusal-spec : {M : Type 1} → statement M
@@ -50,7 +50,7 @@ refusal-spec =
     tie.close
     (tie.spec
     returns
-    lent-refusal-requires
+    refusal-requires
     returns-2
     compose-requires
     same-length

@@ -1,7 +1,8 @@
 -- `listing::write_listing`: the refusal, or the listing, which has room.
 use mathlib.Core.Path.{sym, _∙_}
-use Rattle.filing.specs.Listed.{listingIn, listingRefusal}
-use Rattle.filing.proofs.Laws.Listing.Written.{listing-room, refused-with, written-as}
+use Rattle.text.proofs.Laws.Output.{refused-with, written-as}
+use Rattle.filing.specs.Listed.{listingIn, listingConditions}
+use Rattle.filing.proofs.Laws.Listing.Written.{listing-room}
 use borrow.Author.Needs.{needs}
 use Rattle.filing.proofs.listing.write_listing.Statement.{statement}
 use Rattle.filing.proofs.listing.write_listing.Tie as tie
@@ -15,7 +16,7 @@ same-length c = search needs
 returns : tie.Need-returns
 returns c = let a = c .before .before .before .before .before .before .before .before .args in
     let r = c .before .before .before .refusal in
-    rw (r .ensures .1) (refused-with (listingIn (a .a .now) (a .run .now) (a .c)) (a .out .now) (r .result) (listingRefusal (a .a .now) (a .run .now) (a .c) (a .out .now)) (r .ensures .0) (c .if1 .taken))
+    rw (r .ensures .1) (refused-with (listingConditions (a .a .now) (a .run .now) (a .c) (a .out .now)) (listingIn (a .a .now) (a .run .now) (a .c)) (a .out .now) (r .result) (r .ensures .0) (c .if1 .taken))
 
 compose-requires : tie.Need-compose-requires
 compose-requires c κs = search needs
@@ -27,7 +28,7 @@ returns-2 : tie.Need-returns-2
 returns-2 c = let a = c .before .before .before .before .before .before .before .before .before .before .before .before .args in
     let r = c .before .before .before .before .before .before .before .refusal in
     let z = sym (r .ensures .0) ∙ c .before .before .before .before .if1 .left in
-    written-as (listingIn (a .a .now) (a .run .now) (a .c)) (a .out .now) (listingRefusal (a .a .now) (a .run .now) (a .c) (a .out .now)) z
+    written-as (listingConditions (a .a .now) (a .run .now) (a .c) (a .out .now)) (listingIn (a .a .now) (a .run .now) (a .c)) (a .out .now) z
     (listing-room (a .a .now) (a .run .now) (a .c) (a .out .now) z) (rw (r .ensures .1) at (c .before .before .compose .ensures))
 
 pub write-listing-spec : {M : Type 1} → statement M

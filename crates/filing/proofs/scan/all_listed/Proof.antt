@@ -6,9 +6,9 @@ use native.Mathlib.Numerals.{add-one}
 use borrow.Author.Needs.{needs}
 use borrow.Author.Tests.{not-true, not-false}
 use lib.ListN.{length, drop}
-use Rattle.notation.specs.Form.{every}
+use Rattle.text.specs.Lists.{every}
 use Rattle.documents.specs.Tokens.{listed}
-use Rattle.documents.proofs.Laws.Trees.Steps.{every-no, every-yes, every-end}
+use Rattle.text.proofs.Laws.Scans.{every-no, every-yes, every-end}
 use Rattle.filing.proofs.scan.all_listed.Statement.{statement}
 use Rattle.filing.proofs.scan.all_listed.Tie as tie
 

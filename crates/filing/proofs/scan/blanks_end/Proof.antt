@@ -6,8 +6,8 @@ use borrow.Author.Needs.{needs}
 use borrow.Author.Tests.{not-true, not-false}
 use lib.ListN.{length, drop}
 use Rattle.documents.specs.Tokens.{blank}
-use Rattle.documents.specs.Reading.{front}
-use Rattle.documents.proofs.Laws.Trees.Steps.{span-no, span-yes, span-end}
+use Rattle.text.specs.Read.{front}
+use Rattle.text.proofs.Laws.Scans.{span-no, span-yes, span-end}
 use Rattle.filing.proofs.scan.blanks_end.Statement.{statement}
 use Rattle.filing.proofs.scan.blanks_end.Tie as tie
 

@@ -1,7 +1,7 @@
 -- `filing::tokens::section_close` meets its contract: where its first byte is another, it does not begin there.
 use mathlib.Core.Path.{sym}
 use native.Mathlib.Omega.{arith}
-use Rattle.documents.proofs.Laws.Trees.Steps.{begins-other, begins-past}
+use Rattle.text.proofs.Laws.Scans.{begins-other, begins-past}
 use borrow.Author.Needs.{needs}
 use Rattle.filing.proofs.tokens.section_close.Statement.{statement}
 use Rattle.filing.proofs.tokens.section_close.Tie as tie

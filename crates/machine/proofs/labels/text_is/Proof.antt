@@ -10,7 +10,7 @@ use borrow.Author.Needs.{needs}
 use Rattle.notation.specs.Limits.{maxSetBytes}
 use Rattle.notation.specs.Layout.{setSize, textAt}
 use Rattle.notation.specs.Reads.{textSlice}
-use Rattle.notation.proofs.Laws.Bytes.SameName.{unequal-length}
+use Rattle.text.proofs.Laws.Bytes.SameName.{unequal-length}
 use Rattle.machine.proofs.labels.text_is.Statement.{statement}
 use Rattle.machine.proofs.labels.text_is.Tie as tie
 

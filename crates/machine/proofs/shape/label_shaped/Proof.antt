@@ -1,6 +1,6 @@
 -- `shape::label_shaped`: the numbers of a label.
 use mathlib.Core.Path.{refl}
-use Rattle.notation.specs.Limits.{maxName}
+use Rattle.text.specs.Names.{maxName}
 use Rattle.notation.specs.Layout.{labelSize, labelsAt}
 use borrow.Author.Needs.{needs}
 use Rattle.stored.proofs.Laws.Shapes.Tested.{and-by, leb-by, ltb-by, sum-by}

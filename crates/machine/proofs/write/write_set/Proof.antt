@@ -9,27 +9,27 @@ use borrow.Author.Tests.{lt-ltb, le-ltb}
 use Rattle.notation.specs.Limits.{maxSetBytes}
 use Rattle.notation.specs.Reads.{textOf}
 use Rattle.stored.specs.Automaton.{automatonSize}
-use Rattle.theory.specs.Order.{first, given}
+use Rattle.text.specs.Order.{first, given}
 use Rattle.stored.specs.Shape.{automatonShaped}
-use Rattle.stored.specs.Build.{SetWritten, writeRefusal}
-use Rattle.stored.specs.declared.answers.Written.{Written}
+use Rattle.stored.specs.Build.{SetWritten}
+use Rattle.text.specs.declared.written.Written.{Written}
 use borrow.Author.Needs.{needs}
 use Rattle.machine.proofs.write.write_set.Statement.{statement}
 use Rattle.machine.proofs.write.write_set.Tie as tie
 
 short : (a out : List ℕ) → length a < 65536 → SetWritten a out (Written.Refused 1) out
-unfolding writeRefusal given first automatonSize
+unfolding given first automatonSize
 short a out h = let t = lt-ltb (length a) 65536 h in record { answers = rw t; leaves = rw t }
 
 short-out : (a out : List ℕ) → 65536 ≤ length a → length out < 16384 → SetWritten a out (Written.Refused 1) out
-unfolding writeRefusal given first automatonSize maxSetBytes
+unfolding given first automatonSize maxSetBytes
 short-out a out k h =
     let t = le-ltb (length a) 65536 k in
     let u = lt-ltb (length out) 16384 h in
     record { answers = rw (t, u); leaves = rw (t, u) }
 
 strange : (a out : List ℕ) → 65536 ≤ length a → 16384 ≤ length out → automatonShaped a ≡ false → SetWritten a out (Written.Refused 14) out
-unfolding writeRefusal given first automatonSize maxSetBytes
+unfolding given first automatonSize maxSetBytes
 strange a out k h s =
     let t = le-ltb (length a) 65536 k in
     let u = le-ltb (length out) 16384 h in
@@ -37,7 +37,7 @@ strange a out k h s =
 
 written : (a out text after : List ℕ) → 65536 ≤ length a → 16384 ≤ length out → automatonShaped a ≡ true → text ≡ textOf a → after ≡ sets out 0 text
     → SetWritten a out (Written.Bytes (length text)) after
-unfolding writeRefusal given first automatonSize maxSetBytes
+unfolding given first automatonSize maxSetBytes
 written a out text after k h s e f =
     let t = le-ltb (length a) 65536 k in
     let u = le-ltb (length out) 16384 h in

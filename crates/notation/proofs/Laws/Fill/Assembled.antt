@@ -6,7 +6,8 @@ use mathlib.Core.List.{List, [], _∷_, _++_, append-assoc}
 use lib.ListN.{length, replicate, length-append, length-replicate, replicate-append-replicate}
 use lib.Seq.{sets}
 use Rattle.notation.specs.Limits.{maxSetBytes, maxPaths, maxSteps, maxLabels}
-use Rattle.notation.specs.Layout.{folderSize, pathSize, labelSize, textAt, foldersAt, pathsAt, stepsAt, labelsAt, setSize, Tables, joined, padded, counts, layout}
+use Rattle.notation.specs.Layout.{folderSize, pathSize, labelSize, textAt, foldersAt, pathsAt, stepsAt, labelsAt, setSize, Tables, counts, layout}
+use Rattle.text.specs.Bytes.{joined, padded}
 use Rattle.notation.specs.Code.Emit.{noTables}
 use Rattle.notation.proofs.Laws.Fill.Padded.{sets-front, fill, length-padded, padded-none, joined-snoc, joined-none}
 

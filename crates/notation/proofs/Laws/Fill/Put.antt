@@ -9,15 +9,16 @@ use lib.Dec.{eqb}
 use lib.ListN.{length}
 use lib.Seq.{sets}
 use Rattle.notation.specs.Limits.{maxSetBytes, maxPaths, maxSteps, maxLabels}
-use Rattle.notation.specs.Names.{inName}
-use Rattle.notation.specs.Layout.{folderSize, pathSize, labelSize, foldersAt, pathsAt, stepsAt, labelsAt, folderEntry, pathEntry, labelEntry, Tables, joined}
+use Rattle.text.specs.Names.{inName}
+use Rattle.notation.specs.Layout.{folderSize, pathSize, labelSize, foldersAt, pathsAt, stepsAt, labelsAt, folderEntry, pathEntry, labelEntry, Tables}
+use Rattle.text.specs.Bytes.{joined}
 use Rattle.notation.specs.Code.Scan.{counted, folderRead, labelRead, pathRead}
 use Rattle.notation.specs.Code.Emit.{withFolder, withStep, withLabel, emitted}
 use Rattle.notation.specs.Code.Put.{putFolder, putStep, putLabel, putPath, putTest, put, Within}
 use Rattle.notation.specs.declared.scan.Mode.{Mode}
 use Rattle.notation.specs.declared.scan.Mode.the-variants.{Header, LineStart, Word, NumberStart, Number, PathOpen, PathStart, Slash, Slashes, Label, Star, PathEnd, LineEnd, LastLine, Done, Bent}
 use Rattle.notation.specs.declared.scan.Tally.{Tally}
-use Rattle.notation.proofs.Laws.Tests.{cases}
+use Rattle.text.proofs.Laws.Tests.{cases}
 use Rattle.notation.proofs.Laws.Fill.Assembled.{assembled, Room, moreSteps, add-folder, add-path, add-step, add-label}
 use Rattle.notation.proofs.Laws.Fill.Sized.{Sized, room, folder-length, path-length, label-length}
 use Rattle.notation.proofs.Laws.Scan.Counts.{within-before}

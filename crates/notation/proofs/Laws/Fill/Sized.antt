@@ -7,8 +7,9 @@ use mathlib.Core.Bool.{Bool, true, false, cond}
 use mathlib.Core.List.{List, [], _∷_, _++_, append-nil}
 use lib.Dec.{eqb}
 use lib.ListN.{length, length-append}
-use Rattle.notation.specs.Names.{inName}
-use Rattle.notation.specs.Layout.{folderSize, pathSize, labelSize, folderEntry, pathEntry, labelEntry, Tables, joined}
+use Rattle.text.specs.Names.{inName}
+use Rattle.notation.specs.Layout.{folderSize, pathSize, labelSize, folderEntry, pathEntry, labelEntry, Tables}
+use Rattle.text.specs.Bytes.{joined}
 use Rattle.notation.specs.Code.Scan.{counted, scanned, start, folderRead, pathBegun, deepened, labelBegun, labelRead, starRead, pathRead}
 use Rattle.notation.specs.Code.Emit.{withFolder, withStep, withLabel, emitted, noTables}
 use Rattle.notation.specs.Code.Put.{Within}

@@ -5,10 +5,12 @@ use mathlib.Core.Bool.{Bool, true, _&&_}
 use mathlib.Core.List.{List, _∷_, _++_}
 use lib.ListN.{take}
 use Rattle.notation.specs.Limits.{maxNumber}
-use Rattle.notation.specs.Names.{allInName}
+use Rattle.text.specs.Names.{inName}
 use Rattle.notation.specs.Sets.{Test, Path, folder, FolderSet}
-use Rattle.notation.specs.Print.{decimal, printTest, printPath, printPaths, folderWord, header, footer, printFolders}
-use Rattle.notation.specs.Form.{every, nonEmpty, formedTest, formedStep, formedPath, formedFolder, formed, OfForm}
+use Rattle.text.specs.Decimal.{decimal}
+use Rattle.notation.specs.Print.{printTest, printPath, printPaths, folderWord, header, footer, printFolders}
+use Rattle.text.specs.Lists.{every, nonEmpty}
+use Rattle.notation.specs.Form.{formedTest, formedStep, formedPath, formedFolder, formed, OfForm}
 use Rattle.notation.specs.declared.scan.Mode.{Mode}
 use Rattle.notation.specs.declared.scan.Mode.the-variants.{Header, LineStart, Word, NumberStart, Number, PathOpen, PathStart, Slash, Slashes, Label, Star, PathEnd, LineEnd, LastLine, Done, Bent}
 
@@ -66,7 +68,7 @@ pub record AtTest (l : List ℕ) : Type 0 where
 -- the rest of a label, and further steps
 pub record InLabel (l : List ℕ) : Type 0 where
   pub name : List ℕ
-  pub good : allInName name ≡ true
+  pub good : every inName name ≡ true
   pub rest : List ℕ
   pub after : AnySteps rest
   pub prints : name ++ rest ≡ l

@@ -8,13 +8,15 @@ use lib.Dec.{leb, ltb}
 use lib.Seq.{append-snoc}
 use borrow.Author.Tests.{leb-true, ltb-true, le-leb}
 use Rattle.notation.specs.Limits.{maxNumber}
-use Rattle.notation.specs.Names.{beginsName, inName, digit, within, allInName, nameForm}
+use Rattle.text.specs.Names.{beginsName, inName, digit, within, nameForm}
 use Rattle.notation.specs.Sets.{Axis, label, star, step, folder}
-use Rattle.notation.specs.Print.{decimal, printAxis, printStep, printPath, printPaths, folderWord, footer, printFolder, printFolders}
-use Rattle.notation.specs.Form.{every, nonEmpty, formedPath, formedFolder, formed}
+use Rattle.text.specs.Decimal.{decimal}
+use Rattle.notation.specs.Print.{printAxis, printStep, printPath, printPaths, folderWord, footer, printFolder, printFolders}
+use Rattle.text.specs.Lists.{every, nonEmpty}
+use Rattle.notation.specs.Form.{formedPath, formedFolder, formed}
 use Rattle.notation.specs.declared.scan.Mode.the-variants.{Number}
-use Rattle.notation.proofs.Laws.Tests.{and-left, and-right}
-use Rattle.notation.proofs.Laws.Form.Decimal.{decimal-one, decimal-more}
+use Rattle.text.proofs.Laws.Tests.{and-left, and-right}
+use Rattle.text.proofs.Laws.Decimal.{decimal-one, decimal-more}
 use Rattle.notation.proofs.Laws.Form.Accepted.{Lines, AtNumber, AnyPaths, SomePaths, AnySteps, SomeSteps, AtTest, InLabel, Rest}
 
 both : {a b : Bool} → a ≡ true → b ≡ true → (a && b) ≡ true
@@ -87,7 +89,7 @@ label-begin b e a = record {
 }
 
 pub label-more : {l : List ℕ} (b : ℕ) → inName b ≡ true → InLabel l → InLabel (b ∷ l)
-unfolding allInName
+unfolding every
 label-more b e a = record {
   name = b ∷ a .name;
   good = both e (a .good);
@@ -97,7 +99,7 @@ label-more b e a = record {
 }
 
 pub label-end : {l : List ℕ} → AnySteps l → InLabel l
-unfolding allInName
+unfolding every
 label-end {l} a = record { name = []; good = refl; rest = l; after = a; prints = refl }
 
 pub a-star : {l : List ℕ} → AnySteps l → AtTest (42 ∷ l)

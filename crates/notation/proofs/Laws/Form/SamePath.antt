@@ -4,11 +4,12 @@ use native.Mathlib.Omega.{arith}
 use mathlib.Core.Path.{_≡_, refl}
 use mathlib.Core.Bool.{true}
 use mathlib.Core.List.{List, [], _∷_, _++_, append-assoc}
-use Rattle.notation.specs.Names.{letter, digit, beginsName, inName}
+use Rattle.text.specs.Names.{letter, digit, beginsName, inName}
 use Rattle.notation.specs.Sets.{child, descendant, Step, step, Path}
 use Rattle.notation.specs.Print.{printStep, printPath, printPaths}
-use Rattle.notation.specs.Form.{every, nonEmpty, formedStep, formedPath}
-use Rattle.notation.proofs.Laws.Tests.{and-left, and-right}
+use Rattle.text.specs.Lists.{every, nonEmpty}
+use Rattle.notation.specs.Form.{formedStep, formedPath}
+use Rattle.text.proofs.Laws.Tests.{and-left, and-right}
 use Rattle.notation.proofs.Laws.Form.Span.{stops}
 use Rattle.notation.proofs.Laws.Form.SameStep.{same-step}
 

@@ -5,13 +5,15 @@ use mathlib.Core.Path.{_≡_, refl, sym, _∙_}
 use mathlib.Core.Bool.{true, _&&_}
 use mathlib.Core.List.{List, [], _∷_, _++_, append-assoc, append-cancel-left, tail-eq-of-cons-eq}
 use Rattle.notation.specs.Limits.{maxNumber}
-use Rattle.notation.specs.Names.{digit, within}
+use Rattle.text.specs.Names.{digit, within}
 use Rattle.notation.specs.Sets.{Path, folder, FolderSet}
-use Rattle.notation.specs.Print.{decimal, printPaths, folderWord, header, footer, printFolder, printFolders, print}
-use Rattle.notation.specs.Form.{every, nonEmpty, formedPath, formedFolder, formed, OfForm}
-use Rattle.notation.proofs.Laws.Tests.{and-left, and-right}
+use Rattle.text.specs.Decimal.{decimal}
+use Rattle.notation.specs.Print.{printPaths, folderWord, header, footer, printFolder, printFolders, print}
+use Rattle.text.specs.Lists.{every, nonEmpty}
+use Rattle.notation.specs.Form.{formedPath, formedFolder, formed, OfForm}
+use Rattle.text.proofs.Laws.Tests.{and-left, and-right}
 use Rattle.notation.proofs.Laws.Form.Span.{stops, span}
-use Rattle.notation.proofs.Laws.Form.Number.{decimal-digits, decimal-same}
+use Rattle.text.proofs.Laws.Decimal.{decimal-digits, decimal-same}
 use Rattle.notation.proofs.Laws.Form.SamePath.{same-paths}
 
 -- after a number comes no digit

@@ -2,25 +2,21 @@
 use Prim.Native.Nat.{ℕ}
 use native.Mathlib.Omega.{arith}
 use mathlib.Core.Path.{_≡_, refl, ap}
-use mathlib.Core.Bool.{true, _&&_, false≢true}
+use mathlib.Core.Bool.{true, false≢true}
 use mathlib.Core.List.{List, [], _∷_, _++_}
-use Rattle.notation.specs.Names.{letter, beginsName, inName, allInName, nameForm}
+use Rattle.text.specs.Names.{letter, beginsName, inName, nameForm}
 use Rattle.notation.specs.Sets.{child, descendant, Test, label, star, Step, step}
 use Rattle.notation.specs.Print.{printTest, printStep}
-use Rattle.notation.specs.Form.{every, formedTest, formedStep}
-use Rattle.notation.proofs.Laws.Tests.{and-left, and-right}
+use Rattle.text.specs.Lists.{every}
+use Rattle.notation.specs.Form.{formedTest, formedStep}
+use Rattle.text.proofs.Laws.Tests.{and-left, and-right}
 use Rattle.notation.proofs.Laws.Form.Span.{stops, span}
 
 -- the bytes of a name, by the test on every byte
-all-every : (n : List ℕ) → allInName n ≡ every inName n
-unfolding allInName every
-all-every [] = refl
-all-every (b ∷ n) = ap (λ t. inName b && t) (all-every n)
-
 name-every : (n : List ℕ) → nameForm n ≡ true → every inName n ≡ true
 unfolding nameForm every inName
 name-every [] h = absurd (false≢true h)
-name-every (b ∷ n) h = rw (and-left (beginsName b) (allInName n) h, ← all-every n, and-right (beginsName b) (allInName n) h)
+name-every (b ∷ n) h = rw (and-left (beginsName b) (every inName n) h, and-right (beginsName b) (every inName n) h)
 
 -- a label or `*` begins with neither `/` nor, if it is a label, `*`
 name-begins : (n r s : List ℕ) (b : ℕ) → nameForm n ≡ true → n ++ r ≡ b ∷ s → beginsName b ≡ true
@@ -28,7 +24,7 @@ unfolding nameForm
 name-begins [] r s b h e = absurd (false≢true h)
 name-begins (a ∷ n) r s b h e =
     let same : b ≡ a = cc in
-    rw same (and-left (beginsName a) (allInName n) h)
+    rw same (and-left (beginsName a) (every inName n) h)
 
 no-star : (n r s : List ℕ) → nameForm n ≡ true → n ++ r ≡ 42 ∷ s → ⊥
 unfolding beginsName letter

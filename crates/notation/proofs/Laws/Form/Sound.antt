@@ -9,7 +9,7 @@ use lib.Dec.{ltb, eqb}
 use lib.ListN.{length, getD, take}
 use lib.Seq.{take-all, take-suc, append-snoc}
 use borrow.Author.Tests.{eqb-true, eqb-false}
-use Rattle.notation.specs.Names.{beginsName, inName, digit, within}
+use Rattle.text.specs.Names.{beginsName, inName, digit, within}
 use Rattle.notation.specs.Sets.{child, descendant}
 use Rattle.notation.specs.Print.{folderWord, header, print}
 use Rattle.notation.specs.Form.{OfForm}

@@ -3,8 +3,8 @@ use Prim.Native.Nat.{ℕ}
 use mathlib.Core.Path.{_≡_, refl}
 use mathlib.Core.Bool.{Bool, true, false, not, false≢true}
 use mathlib.Core.List.{List, [], _∷_, _++_}
-use Rattle.notation.specs.Form.{every}
-use Rattle.notation.proofs.Laws.Tests.{and-left, and-right}
+use Rattle.text.specs.Lists.{every}
+use Rattle.text.proofs.Laws.Tests.{and-left, and-right}
 
 -- the list does not begin with a byte of the kind
 unfoldable pub stops : (ℕ → Bool) → List ℕ → Bool

@@ -1,34 +1,21 @@
 -- The computed test and the definition by positions agree, for every path, step and list of names.
 use Prim.Native.Nat.{ℕ, zero, suc, _≤_, _<_, pred}
 use native.Mathlib.Omega.{arith}
-use mathlib.Core.Path.{_≡_, refl, sym, ap₂, _∙_, subst}
+use mathlib.Core.Path.{_≡_, refl, sym, _∙_, subst}
 use mathlib.Core.Logic.{_↔_}
 use mathlib.Core.Bool.{Bool, true, _&&_, true≢false, false≢true, and-eq-true-iff}
-use mathlib.Core.List.{List, [], _∷_, nil≢cons, cons≢nil, head-eq-of-cons-eq, tail-eq-of-cons-eq}
-use lib.Dec.{leb, eqb}
-use borrow.Author.Tests.{le-leb, leb-true, eq-eqb, eqb-true}
+use mathlib.Core.List.{List, [], _∷_}
+use lib.Dec.{leb}
+use borrow.Author.Tests.{le-leb, leb-true}
 use lib.ListN.{length, take, getD}
 use lib.Seq.{length-take-le, take-take}
-use Rattle.notation.specs.Names.{Name}
+use Rattle.text.specs.Names.{Name}
 use Rattle.notation.specs.Sets.{Axis, child, descendant, Test, label, star, Path, axisOf, testOf}
 use Rattle.notation.specs.Fit.{Takes, stepAt, nameAt, Active, Fits}
-use Rattle.notation.specs.Activity.{sameName, takes, byAxis, allowed, here, isEmpty, active, seen, fits}
+use Rattle.notation.specs.Activity.{takes, byAxis, allowed, here, isEmpty, active, seen, fits}
+use Rattle.text.proofs.Laws.Bytes.SameName.{sameName-is}
 use Rattle.notation.proofs.Laws.Meaning.Innermost.{active-none, active-zero, active-last, seen-is}
 use Rattle.notation.proofs.Laws.Meaning.LastStep.{onFirst, before, onward, positive}
-
--- `sameName` decides equality
-pub sameName-is : (a b : List ℕ) → (sameName a b ≡ true) ↔ (a ≡ b)
-unfolding sameName
-sameName-is [] [] = (λ t. refl, λ e. refl)
-sameName-is [] (b ∷ bs) = (λ t. absurd (false≢true t), λ e. absurd (nil≢cons e))
-sameName-is (a ∷ l) [] = (λ t. absurd (false≢true t), λ e. absurd (cons≢nil e))
-sameName-is (a ∷ l) (b ∷ bs) = (
-  λ t.
-      let both = and-eq-true-iff (eqb a b) (sameName l bs) .0 t in
-      ap₂ (λ (x : ℕ) (xs : List ℕ). x ∷ xs) (eqb-true a b (both .0)) (sameName-is l bs .0 (both .1)),
-  λ e. and-eq-true-iff (eqb a b) (sameName l bs) .1
-      (eq-eqb a b (head-eq-of-cons-eq e), sameName-is l bs .1 (tail-eq-of-cons-eq e)),
-)
 
 -- a test takes a name exactly when it is computed so
 pub takes-is : (t : Test) (n : Name) → (takes t n ≡ true) ↔ Takes t n

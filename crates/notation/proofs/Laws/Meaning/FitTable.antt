@@ -4,7 +4,8 @@ use mathlib.Core.Logic.{_↔_, ⊎-elim}
 use mathlib.Core.Bool.{Bool, true, false, _&&_, and-eq-true-iff, Bool·beq}
 use mathlib.Core.List.{List, [], _∷_, List·Memᴰ, List·Memᴰ·not-nil, List·Memᴰ·cases-cons}
 use Rattle.notation.specs.Fit.{Fits}
-use Rattle.notation.specs.Activity.{sameName, here, activeIn, seenIn, fits}
+use Rattle.text.specs.Names.{sameName}
+use Rattle.notation.specs.Activity.{here, activeIn, seenIn, fits}
 use Rattle.notation.specs.FitTable.{Row, fitTable}
 use Rattle.notation.proofs.Laws.Meaning.Fit.{fits-is}
 

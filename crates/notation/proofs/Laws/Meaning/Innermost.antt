@@ -10,8 +10,8 @@ use lib.Dec.{leb}
 use borrow.Author.Tests.{lt-leb, leb-true, leb-false}
 use lib.ListN.{length, take, getD}
 use lib.Seq.{take-suc, take-length}
-use Rattle.notation.proofs.Laws.Tests.{cases}
-use Rattle.notation.specs.Names.{Name}
+use Rattle.text.proofs.Laws.Tests.{cases}
+use Rattle.text.specs.Names.{Name}
 use Rattle.notation.specs.Sets.{Path, testOf}
 use Rattle.notation.specs.Fit.{stepAt}
 use Rattle.notation.specs.Activity.{takes, allowed, here, isEmpty, activeIn, seenIn, active, seen}

@@ -8,10 +8,10 @@ use lib.Dec.{leb}
 use borrow.Author.Tests.{le-leb, lt-leb, leb-true, leb-false}
 use lib.ListN.{length, take}
 use lib.Seq.{length-take-le, getD-take}
-use Rattle.notation.specs.Names.{Name}
+use Rattle.text.specs.Names.{Name}
 use Rattle.notation.specs.Sets.{child, Path, axisOf, testOf}
 use Rattle.notation.specs.Fit.{Takes, stepAt, nameAt, Active}
-use Rattle.notation.proofs.Laws.Tests.{cases}
+use Rattle.text.proofs.Laws.Tests.{cases}
 
 -- what holds of 1 .. n and of the next number holds of 1 .. n + 1
 one-more : (P : ℕ → Type 0) (n : ℕ) → ((i : ℕ) → 1 ≤ i → i ≤ n → P i) → P (suc n) → (i : ℕ) → 1 ≤ i → i ≤ suc n → P i

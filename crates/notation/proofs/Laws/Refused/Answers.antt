@@ -6,12 +6,12 @@ use mathlib.Core.Logic.{_↔_}
 use mathlib.Core.List.{List}
 use lib.Dec.{ltb}
 use borrow.Author.Tests.{ltb-true, ltb-false}
-use Rattle.notation.specs.Refusals.{Refusal, shortBuffer, numberOf}
+use Rattle.text.specs.Refusals.{Refusal, shortBuffer, numberOf}
 use Rattle.notation.specs.Sets.{FolderSet}
 use Rattle.notation.specs.Accepted.{Accepted}
 use Rattle.notation.specs.Judged.{RefusedText, Verdict, refuses, accepts, Judged, verdictNumber}
-use Rattle.notation.proofs.Laws.Tests.{cases}
-use Rattle.notation.proofs.Laws.Refused.Numbers.{one-refusal, some-number}
+use Rattle.text.proofs.Laws.Tests.{cases}
+use Rattle.text.proofs.Laws.Numbers.{one-refusal, some-number}
 use Rattle.notation.proofs.Laws.Refused.Judging.{some-verdict}
 use Rattle.notation.proofs.Laws.Refused.Refusals.{refused-among}
 

@@ -4,19 +4,19 @@ use mathlib.Core.Path.{_≡_, refl, sym, ap, _∙_}
 use mathlib.Core.Bool.{true, false, cond, true≢false}
 use mathlib.Core.List.{List, [], _∷_}
 use borrow.Author.Tests.{ne-eqb}
-use Rattle.notation.specs.Refusals.{Refusal, oversize, bentForm, full, numberOf}
+use Rattle.text.specs.Refusals.{Refusal, oversize, bentForm, full, numberOf}
 use Rattle.notation.specs.Sets.{FolderSet}
 use Rattle.notation.specs.Print.{print}
 use Rattle.notation.specs.Form.{formed, OfForm, overBytes, overFull, faults}
 use Rattle.notation.specs.Accepted.{Accepted}
 use Rattle.notation.specs.Judged.{RefusedText, overLong, notOfForm, faulty, overfull, Verdict, refuses, accepts, Judged, verdictNumber}
 use Rattle.notation.specs.Code.Scan.{scan, start, isDone, ended, refusalOf, orElse}
-use Rattle.notation.proofs.Laws.Tests.{cases}
+use Rattle.text.proofs.Laws.Tests.{cases}
 use Rattle.notation.proofs.Laws.Form.Sound.{sound}
 use Rattle.notation.proofs.Laws.Scan.FirstFault.{firstOf}
 use Rattle.notation.proofs.Laws.Scan.Complete.{scan-complete, refusal-complete}
 use Rattle.notation.proofs.Laws.Scan.FaultNumbers.{no-fault}
-use Rattle.notation.proofs.Laws.Refused.Numbers.{one-refusal, some-number}
+use Rattle.text.proofs.Laws.Numbers.{one-refusal, some-number}
 use Rattle.notation.proofs.Laws.Refused.AcceptedSet.{accepted-one, accepted-faultless}
 
 module _ (text : List ℕ) where

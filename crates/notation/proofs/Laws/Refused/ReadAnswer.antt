@@ -5,7 +5,7 @@ use mathlib.Core.Path.{_≡_, refl, sym, ap, _∙_}
 use mathlib.Core.Logic.{_↔_}
 use mathlib.Core.List.{List, _++_}
 use lib.ListN.{length, drop}
-use Rattle.notation.specs.Refusals.{Refusal, shortBuffer, numberOf}
+use Rattle.text.specs.Refusals.{Refusal, shortBuffer, numberOf}
 use Rattle.notation.specs.Sets.{FolderSet}
 use Rattle.notation.specs.Accepted.{Accepted}
 use Rattle.notation.specs.Layout.{setSize}
@@ -13,7 +13,7 @@ use Rattle.notation.specs.Judged.{RefusedText, Verdict, refuses, accepts
 use Rattle.notation.specs.ReadSet.{ReadSet, readInto}
 use Rattle.notation.specs.Code.Scan.{refusalOf}
 use Rattle.notation.specs.Code.Emit.{partRead}
-use Rattle.notation.proofs.Laws.Refused.Numbers.{some-number}
+use Rattle.text.proofs.Laws.Numbers.{some-number}
 use Rattle.notation.proofs.Laws.Refused.AcceptedSet.{part-accepted}
 use Rattle.notation.proofs.Laws.Refused.Judging.{verdict-number}
 use Rattle.notation.proofs.Laws.Refused.Answers.{short-is, refused-is, accepted-is}

@@ -5,7 +5,7 @@ use mathlib.Core.Path.{_≡_, refl, ap}
 use mathlib.Core.Logic.{_↔_}
 use mathlib.Core.Bool.{true, false}
 use mathlib.Core.List.{List, [], _∷_}
-use Rattle.notation.specs.Refusals.{Refusal, oversize, bentForm, outOfTurn, longName, longPath, full, numberOf}
+use Rattle.text.specs.Refusals.{Refusal, oversize, bentForm, outOfTurn, longName, longPath, full, numberOf}
 use Rattle.notation.specs.Sets.{FolderSet}
 use Rattle.notation.specs.Form.{OfForm, overBytes, numbersFall, namesLong, pathsLong, overFull, faults}
 use Rattle.notation.specs.Accepted.{Accepted}

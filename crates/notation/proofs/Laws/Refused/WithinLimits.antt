@@ -10,10 +10,11 @@ use lib.Dec.{leb, ltb}
 use lib.ListN.{length, getD, length-append}
 use Rattle.notation.specs.Limits.{maxSetBytes, maxNumber, maxPaths, maxSteps, maxLabels}
 use Rattle.notation.specs.Sets.{Path, folder, FolderSet, testOf, folderNumber}
-use Rattle.notation.specs.Refusals.{Refusal, outOfTurn, longName, longPath}
-use Rattle.notation.specs.Form.{every, nonEmpty, formedPath, formedFolder, formed, pathsOf, stepsOf, labelsOf, overBytes, overFull, longTest, stepFaults, pathFaults, pathsFaults, faultsAfter, faults}
+use Rattle.text.specs.Refusals.{Refusal, outOfTurn, longName, longPath}
+use Rattle.text.specs.Lists.{every, nonEmpty}
+use Rattle.notation.specs.Form.{formedPath, formedFolder, formed, pathsOf, stepsOf, labelsOf, overBytes, overFull, longTest, stepFaults, pathFaults, pathsFaults, faultsAfter, faults}
 use Rattle.notation.specs.Print.{print}
-use Rattle.notation.proofs.Laws.Tests.{and-left, and-right, or-left, or-right}
+use Rattle.text.proofs.Laws.Tests.{and-left, and-right, or-left, or-right}
 use Rattle.notation.proofs.Laws.Stored.FolderTable.{noFolder}
 use Rattle.notation.proofs.Laws.Stored.LabelTable.{steps-append}
 use Rattle.notation.proofs.Laws.Refused.Fitting.{Fitting}

@@ -16,30 +16,32 @@ use Rattle.notation.specs.Judged.{accepts}
 use Rattle.notation.specs.Layout.{setSize, setPart}
 use Rattle.notation.specs.Reads.{textOf, textSlice, textLen}
 use Rattle.notation.specs.ReadSet.{ReadSet}
-use Rattle.notation.specs.Refusals.{numberOf, shortBuffer}
-use Rattle.notation.specs.Answers.{value, writtenSays}
-use Rattle.notation.specs.WriteText.{WriteText, textRefusal}
-use Rattle.notation.specs.declared.write.Written.{Written}
-use Rattle.notation.proofs.Laws.Tests.{cases, and-right}
+use Rattle.text.specs.Refusals.{numberOf, shortBuffer}
+use Rattle.text.specs.Answers.{value}
+use Rattle.text.specs.Order.{first, given}
+use Rattle.text.specs.Written.{writtenSays}
+use Rattle.notation.specs.WriteText.{WriteText, textConditions}
+use Rattle.text.specs.declared.written.Written.{Written}
+use Rattle.text.proofs.Laws.Tests.{cases, and-right}
 use Rattle.notation.proofs.Laws.Refused.AcceptedSet.{text-back}
 
 module _ (text : List ℕ) (s : FolderSet) (a : Accepted text s) (rest : List ℕ) where
-  pub written-short : (size : ℕ) → size < length text → textRefusal (setPart s ++ rest) size ≡ numberOf shortBuffer
-  unfolding textRefusal
-  written-short size h = rw (text-back text s a rest, lt-ltb size (length text) h)
+  pub written-short : (out : List ℕ) → length out < length text → given (textConditions (setPart s ++ rest) out) ≡ numberOf shortBuffer
+  unfolding given first
+  written-short out h = rw (text-back text s a rest, lt-ltb (length out) (length text) h)
 
-  pub written-fits : (size : ℕ) → length text ≤ size → textRefusal (setPart s ++ rest) size ≡ 0
-  unfolding textRefusal
-  written-fits size h = rw (text-back text s a rest, le-ltb size (length text) h)
+  pub written-fits : (out : List ℕ) → length text ≤ length out → given (textConditions (setPart s ++ rest) out) ≡ 0
+  unfolding given first
+  written-fits out h = rw (text-back text s a rest, le-ltb (length out) (length text) h)
 
   module _ (answer : Written) (out after : List ℕ) (room : length text ≤ length out) (w : WriteText (setPart s ++ rest) out answer after) where
     pub written-length : writtenSays answer ≡ value (length text)
-    written-length = w .answers ∙ rw (written-fits (length out) room, text-back text s a rest)
+    written-length = w .answers ∙ rw (written-fits out room, text-back text s a rest)
 
     pub written-buffer : after ≡ text ++ drop (length text) out
     written-buffer =
         let fits : 0 + length text ≤ length out = omega arith in
-        w .leaves ∙ rw (written-fits (length out) room, text-back text s a rest) (sets-eq text out 0 fits ∙ rw (zero-add (length text)))
+        w .leaves ∙ rw (written-fits out room, text-back text s a rest) (sets-eq text out 0 fits ∙ rw (zero-add (length text)))
 
     -- the same bytes
     pub written-same : take (length text) after ≡ text

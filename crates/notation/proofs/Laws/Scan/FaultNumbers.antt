@@ -9,9 +9,10 @@ use lib.Dec.{leb, eqb}
 use borrow.Author.Tests.{eq-eqb, eqb-true}
 use Rattle.notation.specs.Limits.{maxSteps}
 use Rattle.notation.specs.Sets.{Path, folder, FolderSet, testOf}
-use Rattle.notation.specs.Refusals.{Refusal, outOfTurn, longName, longPath, numberOf}
-use Rattle.notation.specs.Form.{every, longTest, stepFaults, pathFaults, pathsFaults, faultsAfter, faults, any, numbersFall, namesLong, pathsLong}
-use Rattle.notation.proofs.Laws.Tests.{cases, and-left, or-left}
+use Rattle.text.specs.Refusals.{Refusal, outOfTurn, longName, longPath, numberOf}
+use Rattle.text.specs.Lists.{every, any}
+use Rattle.notation.specs.Form.{longTest, stepFaults, pathFaults, pathsFaults, faultsAfter, faults, numbersFall, namesLong, pathsLong}
+use Rattle.text.proofs.Laws.Tests.{cases, and-left, or-left}
 use Rattle.notation.proofs.Laws.Scan.Faults.{has, has-4, has-5, has-6}
 
 -- the first fault is one of the list

@@ -8,11 +8,12 @@ use lib.Dec.{leb, ltb, eqb}
 use borrow.Author.Tests.{lt-ltb, le-ltb, leb-true, leb-false}
 use lib.ListN.{length}
 use Rattle.notation.specs.Limits.{maxSteps}
-use Rattle.notation.specs.Names.{tooLong}
+use Rattle.text.specs.Names.{tooLong}
 use Rattle.notation.specs.Sets.{Test, label, star, Path, folder, FolderSet, testOf}
-use Rattle.notation.specs.Refusals.{Refusal, outOfTurn, longName, longPath, numberOf}
-use Rattle.notation.specs.Form.{pathsOf, stepsOf, labelsOf, labelOf, longTest, stepFaults, pathFaults, pathsFaults, faultsAfter, any, numbersFallAfter, pathLong}
-use Rattle.notation.proofs.Laws.Tests.{cases}
+use Rattle.text.specs.Refusals.{Refusal, outOfTurn, longName, longPath, numberOf}
+use Rattle.notation.specs.Form.{pathsOf, stepsOf, labelsOf, labelOf, longTest, stepFaults, pathFaults, pathsFaults, faultsAfter, numbersFallAfter, pathLong}
+use Rattle.text.specs.Lists.{any}
+use Rattle.text.proofs.Laws.Tests.{cases}
 use Rattle.notation.proofs.Laws.Scan.TableSizes.{steps-append, labels-append}
 
 pub any-append {ℓ} : {A : Type ℓ} (f : A → Bool) (k l : List A) → any f (k ++ l) ≡ (any f k || any f l)

@@ -4,9 +4,9 @@ use mathlib.Core.Path.{_≡_, refl, sym}
 use mathlib.Core.List.{List, [], _∷_, _++_}
 use lib.Dec.{eqb}
 use borrow.Author.Tests.{eqb-true}
-use Rattle.notation.specs.Refusals.{Refusal, shortBuffer, oversize, bentForm, outOfTurn, longName, longPath, full, foreignByte, torn, looseEnd, tooDeep, crossed, noSuchPlace, strangeShape, numberOf}
+use Rattle.text.specs.Refusals.{Refusal, shortBuffer, oversize, bentForm, outOfTurn, longName, longPath, full, foreignByte, torn, looseEnd, tooDeep, crossed, noSuchPlace, strangeShape, numberOf}
 use Rattle.notation.specs.Code.Scan.{orElse}
-use Rattle.notation.proofs.Laws.Tests.{cases}
+use Rattle.text.proofs.Laws.Tests.{cases}
 
 -- the number of the first fault, 0 for none
 abbrev pub firstOf : List Refusal → ℕ

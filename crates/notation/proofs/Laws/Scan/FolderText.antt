@@ -8,18 +8,20 @@ use lib.Dec.{leb}
 use borrow.Author.Tests.{leb-true}
 use lib.ListN.{length}
 use Rattle.notation.specs.Limits.{maxNumber}
-use Rattle.notation.specs.Names.{within}
+use Rattle.text.specs.Names.{within}
 use Rattle.notation.specs.Sets.{Path, folder}
-use Rattle.notation.specs.Print.{decimal, printPath, printPaths, folderWord, footer, printFolder}
-use Rattle.notation.specs.Refusals.{Refusal, outOfTurn}
-use Rattle.notation.specs.Form.{every, formedPath, formedFolder, stepsOf, pathsFaults}
+use Rattle.text.specs.Decimal.{decimal}
+use Rattle.notation.specs.Print.{printPath, printPaths, folderWord, footer, printFolder}
+use Rattle.text.specs.Refusals.{Refusal, outOfTurn}
+use Rattle.text.specs.Lists.{every}
+use Rattle.notation.specs.Form.{formedPath, formedFolder, stepsOf, pathsFaults}
 use Rattle.notation.specs.Layout.{Tables, folderEntry, stepEntry, pathTable, labelTable, afterNumber}
 use Rattle.notation.specs.Code.Scan.{next, counted, scanned, orElse}
 use Rattle.notation.specs.Code.Emit.{emitted, noTables}
 use Rattle.notation.specs.declared.scan.Mode.the-variants.{LineStart, NumberStart, Number, PathOpen, PathEnd, LineEnd}
 use Rattle.notation.specs.declared.scan.Tally.{Tally}
 use Rattle.notation.proofs.Laws.Scan.FirstFault.{firstOf}
-use Rattle.notation.proofs.Laws.Tests.{and-left, and-right}
+use Rattle.text.proofs.Laws.Tests.{and-left, and-right}
 use Rattle.notation.proofs.Laws.Scan.Reading.{Reading, reading, readByte, readAll, all-append, all-at, byte-at, at-mode}
 use Rattle.notation.proofs.Laws.Scan.Piece.{Piece, chain, then-quiet, quiet, moved, restated, tables-same}
 use Rattle.notation.proofs.Laws.Scan.NumberText.{number-read}

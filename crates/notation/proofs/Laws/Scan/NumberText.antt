@@ -6,14 +6,14 @@ use mathlib.Core.Bool.{true, false}
 use mathlib.Core.List.{[], _∷_, _++_}
 use lib.Dec.{ltb, eqb}
 use borrow.Author.Tests.{le-leb, lt-ltb, le-ltb, ltb-true, ltb-false, ne-eqb}
-use Rattle.notation.specs.Names.{digit}
-use Rattle.notation.specs.Print.{digits, decimal}
+use Rattle.text.specs.Names.{digit}
+use Rattle.text.specs.Decimal.{digits, decimal}
 use Rattle.notation.specs.Code.Scan.{next, counted}
 use Rattle.notation.specs.Code.Emit.{emitted, noTables}
 use Rattle.notation.specs.Layout.{Tables}
 use Rattle.notation.specs.declared.scan.Mode.the-variants.{NumberStart, Number}
 use Rattle.notation.specs.declared.scan.Tally.{Tally}
-use Rattle.notation.proofs.Laws.Tests.{cases}
+use Rattle.text.proofs.Laws.Tests.{cases}
 use Rattle.notation.proofs.Laws.Scan.Reading.{Reading, readAll, all-append}
 use Rattle.notation.proofs.Laws.Scan.Piece.{Piece, chain, quiet, restated}
 

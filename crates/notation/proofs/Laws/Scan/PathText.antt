@@ -5,16 +5,17 @@ use mathlib.Core.Path.{_≡_, refl, sym, ap, _∙_}
 use mathlib.Core.Bool.{true, false, true≢false}
 use mathlib.Core.List.{List, [], _∷_, _++_, map, append-nil, append-assoc}
 use lib.ListN.{length, length-append}
-use Rattle.notation.specs.Names.{letter, digit, beginsName, inName}
+use Rattle.text.specs.Names.{letter, digit, beginsName, inName}
 use Rattle.notation.specs.Sets.{Step, Path}
 use Rattle.notation.specs.Print.{printStep, printPath}
-use Rattle.notation.specs.Form.{every, formedStep, formedPath, pathFaults, stepFaults}
+use Rattle.text.specs.Lists.{every}
+use Rattle.notation.specs.Form.{formedStep, formedPath, pathFaults, stepFaults}
 use Rattle.notation.specs.Layout.{Tables, stepEntry, stepLabel, pathLabels, pathEntry}
 use Rattle.notation.specs.Code.Scan.{next, counted, scanned}
 use Rattle.notation.specs.Code.Emit.{emitted}
 use Rattle.notation.specs.declared.scan.Mode.the-variants.{PathOpen, Slash, PathEnd}
 use Rattle.notation.specs.declared.scan.Tally.{Tally}
-use Rattle.notation.proofs.Laws.Tests.{and-left, and-right}
+use Rattle.text.proofs.Laws.Tests.{and-left, and-right}
 use Rattle.notation.proofs.Laws.Scan.Reading.{Reading, reading, readByte, readAll, all-append, all-at, byte-at, at-mode}
 use Rattle.notation.proofs.Laws.Scan.Piece.{Piece, chain, restated, tables-same}
 use Rattle.notation.proofs.Laws.Scan.StepText.{afterSlash, step-slash}

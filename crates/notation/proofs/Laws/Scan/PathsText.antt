@@ -7,12 +7,13 @@ use mathlib.Core.List.{List, [], _∷_, _++_, map, map-append, append-nil, appen
 use lib.ListN.{length, length-append, length-map}
 use Rattle.notation.specs.Sets.{Path}
 use Rattle.notation.specs.Print.{printPath, printPaths}
-use Rattle.notation.specs.Form.{every, formedPath, stepsOf, pathFaults, pathsFaults}
+use Rattle.text.specs.Lists.{every}
+use Rattle.notation.specs.Form.{formedPath, stepsOf, pathFaults, pathsFaults}
 use Rattle.notation.specs.Layout.{Tables, stepEntry, pathTable, labelTable, pathLabels}
 use Rattle.notation.specs.Code.Scan.{next, counted}
 use Rattle.notation.specs.Code.Emit.{emitted, noTables}
 use Rattle.notation.specs.declared.scan.Mode.the-variants.{PathOpen, PathEnd}
-use Rattle.notation.proofs.Laws.Tests.{and-left, and-right}
+use Rattle.text.proofs.Laws.Tests.{and-left, and-right}
 use Rattle.notation.proofs.Laws.Scan.Reading.{Reading, readByte, readAll, all-append, all-at, byte-at}
 use Rattle.notation.proofs.Laws.Scan.Piece.{Piece, chain, then-quiet, quiet, restated, tables-same}
 use Rattle.notation.proofs.Laws.Scan.PathText.{Opens, path-read}

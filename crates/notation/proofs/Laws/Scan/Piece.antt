@@ -4,7 +4,7 @@ use native.Mathlib.Omega.{arith}
 use mathlib.Core.Path.{_≡_, refl, sym, transport}
 use mathlib.Core.List.{List, [], _++_, append-nil, append-assoc}
 use lib.ListN.{length, length-append}
-use Rattle.notation.specs.Refusals.{Refusal}
+use Rattle.text.specs.Refusals.{Refusal}
 use Rattle.notation.specs.Layout.{Tables}
 use Rattle.notation.specs.Code.Scan.{next, counted, scanned, orElse}
 use Rattle.notation.specs.Code.Emit.{emitted, noTables}

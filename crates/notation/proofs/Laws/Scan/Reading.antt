@@ -5,7 +5,7 @@ use mathlib.Core.Path.{_≡_, refl, sym, subst}
 use mathlib.Core.List.{List, [], _∷_, _++_}
 use lib.Dec.{eqb}
 use lib.ListN.{length}
-use Rattle.notation.specs.Names.{inName}
+use Rattle.text.specs.Names.{inName}
 use Rattle.notation.specs.Layout.{Tables}
 use Rattle.notation.specs.Code.Scan.{counted, scanned, scan}
 use Rattle.notation.specs.Code.Emit.{emitted, emit}
@@ -13,7 +13,7 @@ use Rattle.notation.specs.declared.scan.Mode.{Mode}
 use Rattle.notation.specs.declared.scan.Mode.the-variants.{Header, LineStart, Word, NumberStart, Number, PathOpen, PathStart, Slash, Slashes, Label, Star, PathEnd, LineEnd, LastLine, Done, Bent}
 use Rattle.notation.specs.declared.scan.Tally.{Tally}
 use Rattle.notation.specs.declared.scan.Scan.{Scan}
-use Rattle.notation.proofs.Laws.Tests.{cases}
+use Rattle.text.proofs.Laws.Tests.{cases}
 
 pub record Reading : Type 0 where
   pub state : Scan

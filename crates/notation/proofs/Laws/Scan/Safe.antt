@@ -5,8 +5,8 @@ use mathlib.Core.Bool.{Bool, true, false, _&&_, cond}
 use lib.Dec.{eqb, ltb}
 use native.Mathlib.Omega.{arith}
 use borrow.Author.Tests.{eqb-false}
-use Rattle.notation.proofs.Laws.Tests.{cases}
-use Rattle.notation.specs.Names.{beginsName, inName, digit, within}
+use Rattle.text.proofs.Laws.Tests.{cases}
+use Rattle.text.specs.Names.{beginsName, inName, digit, within}
 use lib.ListN.{getD}
 use Rattle.notation.specs.Print.{header, folderWord}
 use Rattle.notation.specs.Code.Scan.{next, testStart, testEnd, counted, scanned, start, labelRead, starRead, pathRead}

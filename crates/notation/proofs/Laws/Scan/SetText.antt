@@ -8,13 +8,14 @@ use lib.Dec.{leb}
 use lib.ListN.{length, length-map}
 use Rattle.notation.specs.Sets.{folder, FolderSet}
 use Rattle.notation.specs.Print.{printFolder, printFolders, print, header, footer}
-use Rattle.notation.specs.Refusals.{outOfTurn}
-use Rattle.notation.specs.Form.{every, formedFolder, formed, pathsOf, stepsOf, pathsFaults, faultsAfter, faults}
+use Rattle.text.specs.Refusals.{outOfTurn}
+use Rattle.text.specs.Lists.{every}
+use Rattle.notation.specs.Form.{formedFolder, formed, pathsOf, stepsOf, pathsFaults, faultsAfter, faults}
 use Rattle.notation.specs.Layout.{Tables, stepEntry, folderTable, setPaths, setLabels, afterNumber, tablesOf}
 use Rattle.notation.specs.Code.Scan.{next, counted, scanned, start}
 use Rattle.notation.specs.Code.Emit.{emitted, noTables}
 use Rattle.notation.specs.declared.scan.Mode.the-variants.{LineStart, LastLine, Done}
-use Rattle.notation.proofs.Laws.Tests.{and-left, and-right}
+use Rattle.text.proofs.Laws.Tests.{and-left, and-right}
 use Rattle.notation.proofs.Laws.Scan.Reading.{Reading, readByte, readAll, all-append, all-at}
 use Rattle.notation.proofs.Laws.Scan.Piece.{Piece, chain, then-quiet, quiet, restated, tables-same}
 use Rattle.notation.proofs.Laws.Scan.TableSizes.{steps-append, path-table-size}

@@ -6,11 +6,11 @@ use mathlib.Core.Bool.{Bool, true, false, cond}
 use mathlib.Core.List.{List, [], _∷_, _++_, append-nil}
 use lib.Dec.{leb, eqb}
 use lib.ListN.{length, length-append}
-use Rattle.notation.specs.Limits.{maxName, maxSteps}
-use Rattle.notation.specs.Names.{inName}
+use Rattle.text.specs.Names.{maxName, inName}
+use Rattle.notation.specs.Limits.{maxSteps}
 use Rattle.notation.specs.Sets.{Axis, label, star, Step, step, axisOf, testOf}
 use Rattle.notation.specs.Print.{printAxis, printStep}
-use Rattle.notation.specs.Refusals.{longName, longPath}
+use Rattle.text.specs.Refusals.{longName, longPath}
 use Rattle.notation.specs.Form.{formedStep, stepFaults}
 use Rattle.notation.specs.Layout.{Tables, axisBit, stepEntry, stepLabel, pathEntry}
 use Rattle.notation.specs.Code.Scan.{next, counted, scanned, testEnd, ticked, pathRead, labelRead, orElse}

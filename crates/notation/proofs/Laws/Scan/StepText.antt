@@ -7,7 +7,8 @@ use mathlib.Core.List.{List, [], _∷_, _++_}
 use lib.Dec.{eqb}
 use borrow.Author.Tests.{ne-eqb}
 use lib.ListN.{length}
-use Rattle.notation.specs.Names.{letter, beginsName, inName, allInName, nameForm}
+use Rattle.text.specs.Names.{letter, beginsName, inName, nameForm}
+use Rattle.text.specs.Lists.{every}
 use Rattle.notation.specs.Sets.{Axis, child, descendant, Test, label, star, Step, step, testOf, axisOf}
 use Rattle.notation.specs.Print.{printAxis, printTest, printStep}
 use Rattle.notation.specs.Form.{formedTest, formedStep}
@@ -17,7 +18,7 @@ use Rattle.notation.specs.Code.Emit.{emitted}
 use Rattle.notation.specs.declared.scan.Mode.{Mode}
 use Rattle.notation.specs.declared.scan.Mode.the-variants.{Slash, Slashes, Label, Star}
 use Rattle.notation.specs.declared.scan.Tally.{Tally}
-use Rattle.notation.proofs.Laws.Tests.{and-left, and-right}
+use Rattle.text.proofs.Laws.Tests.{and-left, and-right}
 use Rattle.notation.proofs.Laws.Scan.Reading.{reading, placed, readByte, readAll}
 
 not-slash : (c : ℕ) → beginsName c ≡ true → eqb c 47 ≡ false
@@ -57,16 +58,16 @@ unfolding readByte scanned next counted emitted
 name-byte t x c h = rw h
 
 name-bytes : (cs : List ℕ) (t : Tally) (x : Tables)
-    → allInName cs ≡ true
+    → every inName cs ≡ true
     → readAll (reading Label t x) cs ≡ reading Label (placed (t .at + length cs) (t .from) (t .deep) t) x
-unfolding readAll allInName
+unfolding readAll every
 name-bytes [] t x h =
     let e : t .at ≡ t .at + 0 = omega arith in
     λ i. reading Label (placed (e i) (t .from) (t .deep) t) x
 name-bytes (c ∷ cs) t x h =
     let e : t .at + 1 + length cs ≡ t .at + suc (length cs) = omega arith in
-    rw (name-byte t x c (and-left (inName c) (allInName cs) h))
-    (name-bytes cs (placed (t .at + 1) (t .from) (t .deep) t) x (and-right (inName c) (allInName cs) h) ∙
+    rw (name-byte t x c (and-left (inName c) (every inName cs) h))
+    (name-bytes cs (placed (t .at + 1) (t .from) (t .deep) t) x (and-right (inName c) (every inName cs) h) ∙
     (λ i. reading Label (placed (e i) (t .from) (t .deep) t) x))
 
 abbrev pub testMode : Test → Mode
@@ -83,12 +84,12 @@ module _ (m : Mode) (t : Tally) (x : Tables)
     test-read star h = begun 42 refl
     test-read (label []) h = absurd (true≢false (sym h))
     test-read (label (c ∷ cs)) h =
-        let b : beginsName c ≡ true = and-left (beginsName c) (allInName cs) h in
+        let b : beginsName c ≡ true = and-left (beginsName c) (every inName cs) h in
         let e : t .at + 1 + length cs ≡ t .at + suc (length cs) = omega arith in
         let begin : readByte (reading m t x) c ≡ reading Label (placed (t .at + 1) (t .at) (t .deep) t) x =
         begun c (not-slash c b) ∙ rw b in
         ap (λ r. readAll r cs) begin ∙
-        (name-bytes cs (placed (t .at + 1) (t .at) (t .deep) t) x (and-right (beginsName c) (allInName cs) h) ∙
+        (name-bytes cs (placed (t .at + 1) (t .at) (t .deep) t) x (and-right (beginsName c) (every inName cs) h) ∙
         (λ i. reading Label (placed (e i) (t .at) (t .deep) t) x))
 
 second-slash : (t : Tally) (x : Tables) → readByte (reading Slash t x) 47 ≡ reading Slashes (placed (t .at + 1) (t .from) 1 t) x

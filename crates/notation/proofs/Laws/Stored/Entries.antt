@@ -5,7 +5,7 @@ use mathlib.Core.List.{List, [], _∷_, _++_, map}
 use native.Mathlib.Nat.{add-zero, mul-zero, mul-suc, not-suc-le-zero, le-of-suc-le-suc}
 use native.Mathlib.Omega.{arith}
 use lib.ListN.{length, getD, length-append}
-use Rattle.notation.specs.Layout.{joined}
+use Rattle.text.specs.Bytes.{joined}
 use Rattle.notation.proofs.Laws.Stored.Stands.{Stands, left, right}
 
 pub data OfWidth (w : ℕ) : List (List ℕ) → Type 0 where

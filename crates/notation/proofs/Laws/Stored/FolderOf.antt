@@ -12,7 +12,7 @@ use Rattle.notation.specs.Layout.{setSize}
 use Rattle.notation.specs.Reads.{folderCount, present, hasFolder, storedNumber, searchFolder, folderOf}
 use Rattle.notation.specs.declared.FolderNumber.{FolderNumber}
 use Rattle.notation.specs.declared.reads.FolderIndex.{FolderIndex}
-use Rattle.notation.proofs.Laws.Tests.{cases}
+use Rattle.text.proofs.Laws.Tests.{cases}
 
 pub record Found (part : List ℕ) (number k left i : ℕ) : Type 0 where
   pub from : k ≤ i

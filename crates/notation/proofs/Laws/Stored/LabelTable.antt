@@ -4,7 +4,7 @@ use mathlib.Core.Path.{_≡_, refl, sym, ap, _∙_}
 use mathlib.Core.List.{List, [], _∷_, _++_, append-assoc}
 use native.Mathlib.Nat.{suc-add, add-suc, add-zero, not-suc-le-zero, le-of-suc-le-suc}
 use lib.ListN.{length, getD, take}
-use Rattle.notation.specs.Names.{Name}
+use Rattle.text.specs.Names.{Name}
 use Rattle.notation.specs.Sets.{Axis, child, label, star, Step, step, Path, folder, FolderSet, testOf}
 use Rattle.notation.specs.Form.{pathsOf, stepsOf, labelsOf}
 use Rattle.notation.specs.Print.{printAxis, printStep, printPath, printPaths, printFolder, printFolders, print}

@@ -5,7 +5,8 @@ use mathlib.Core.List.{List, [], _∷_, _++_, append-nil}
 use native.Mathlib.Omega.{arith}
 use lib.ListN.{length}
 use Rattle.notation.specs.Sets.{Step, Path, Folder, folder, FolderSet}
-use Rattle.notation.specs.Print.{decimal, folderWord, header, footer, printStep, printPath, printPaths, printFolder, printFolders, print}
+use Rattle.text.specs.Decimal.{decimal}
+use Rattle.notation.specs.Print.{folderWord, header, footer, printStep, printPath, printPaths, printFolder, printFolders, print}
 use Rattle.notation.specs.Layout.{afterNumber}
 use Rattle.notation.proofs.Laws.Stored.Stands.{Stands, left, right}
 

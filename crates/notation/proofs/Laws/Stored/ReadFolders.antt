@@ -11,7 +11,8 @@ use lib.ListN.{length, getD}
 use Rattle.notation.specs.Limits.{maxNumber, maxPaths}
 use Rattle.notation.specs.Sets.{folder, FolderSet, folderNumber, folderPaths}
 use Rattle.notation.specs.Print.{print}
-use Rattle.notation.specs.Layout.{setSize, joined, folderEntry, folderTable, tablesOf, setPart}
+use Rattle.notation.specs.Layout.{setSize, folderEntry, folderTable, tablesOf, setPart}
+use Rattle.text.specs.Bytes.{joined}
 use Rattle.notation.specs.Reads.{folderEntryAt, storedNumber, storedFirst, pathsEnd, folderAt, searchFolder, folderIndex, folderOf}
 use Rattle.notation.specs.declared.reads.FolderAt.{FolderAt}
 use Rattle.notation.specs.declared.FolderNumber.{FolderNumber}
@@ -19,7 +20,7 @@ use Rattle.notation.proofs.Laws.Stored.Stands.{Stands}
 use Rattle.notation.proofs.Laws.Stored.Entries.{entry}
 use Rattle.notation.proofs.Laws.Stored.Sections.{folders-stand}
 use Rattle.notation.proofs.Laws.Stored.FolderTable.{noFolder, pathsBefore, folder-count, folder-row, paths-between, paths-before-all, paths-before-most}
-use Rattle.notation.proofs.Laws.Tests.{cases}
+use Rattle.text.proofs.Laws.Tests.{cases}
 use Rattle.notation.proofs.Laws.Refused.Fitting.{Fitting, roomy}
 use Rattle.notation.proofs.Laws.Stored.Words.{words-read, words-head}
 use Rattle.notation.proofs.Laws.Stored.Reads.{folders-read, paths-read, whole, there, gone}

@@ -9,7 +9,8 @@ use Rattle.notation.specs.Limits.{maxSetBytes, maxPaths, maxSteps, maxLa
 use Rattle.notation.specs.Sets.{label, Step, Path, FolderSet, testOf}
 use Rattle.notation.specs.Form.{pathsOf, labelsOf}
 use Rattle.notation.specs.Print.{print, printPath}
-use Rattle.notation.specs.Layout.{joined, pathEntry, labelEntry, setPaths, setLabels, tablesOf, setPart}
+use Rattle.text.specs.Bytes.{joined}
+use Rattle.notation.specs.Layout.{pathEntry, labelEntry, setPaths, setLabels, tablesOf, setPart}
 use Rattle.notation.specs.Reads.{pathEntryAt, labelEntryAt, pathAt, labelAt, pathText, labelName}
 use Rattle.notation.specs.declared.reads.PathAt.{PathAt}
 use Rattle.notation.specs.declared.reads.LabelAt.{LabelAt}

@@ -10,7 +10,8 @@ use Rattle.notation.specs.Limits.{maxSetBytes, maxPaths, maxSteps, maxLa
 use Rattle.notation.specs.Sets.{Step, FolderSet}
 use Rattle.notation.specs.Form.{pathsOf, stepsOf, labelsOf}
 use Rattle.notation.specs.Print.{print}
-use Rattle.notation.specs.Layout.{setSize, joined, stepEntry, tablesOf, setPart}
+use Rattle.notation.specs.Layout.{setSize, stepEntry, tablesOf, setPart}
+use Rattle.text.specs.Bytes.{joined}
 use Rattle.notation.specs.Reads.{textLen, folderCount, pathCount, stepCount, labelCount, present, textSlice, textOf}
 use Rattle.notation.proofs.Laws.Stored.Stands.{Stands, inner, slice, fits}
 use Rattle.notation.proofs.Laws.Stored.Sections.{layout-length, counts-stand, text-stands}

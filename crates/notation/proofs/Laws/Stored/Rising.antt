@@ -9,7 +9,7 @@ use borrow.Author.Tests.{leb-false, eq-eqb, ne-eqb}
 use lib.Dec.{leb}
 use lib.ListN.{length, getD}
 use Rattle.notation.specs.Sets.{Path, folder, FolderSet, folderNumber}
-use Rattle.notation.specs.Refusals.{outOfTurn}
+use Rattle.text.specs.Refusals.{outOfTurn}
 use Rattle.notation.specs.Form.{pathsFaults, faultsAfter}
 use Rattle.notation.specs.Reads.{folderIndex}
 use Rattle.notation.specs.declared.reads.FolderIndex.{FolderIndex}

@@ -6,7 +6,8 @@ use native.Mathlib.Nat.{mul-le-mul-left}
 use native.Mathlib.Omega.{arith}
 use lib.ListN.{length, replicate, length-append, length-replicate}
 use Rattle.notation.specs.Limits.{maxSetBytes, maxPaths, maxSteps, maxLabels}
-use Rattle.notation.specs.Layout.{Tables, folderSize, pathSize, labelSize, textAt, foldersAt, pathsAt, stepsAt, labelsAt, setSize, joined, padded, counts, layout}
+use Rattle.notation.specs.Layout.{Tables, folderSize, pathSize, labelSize, textAt, foldersAt, pathsAt, stepsAt, labelsAt, setSize, counts, layout}
+use Rattle.text.specs.Bytes.{joined, padded}
 use Rattle.notation.proofs.Laws.Stored.Stands.{Stands, itself, left, right}
 use Rattle.notation.proofs.Laws.Stored.Entries.{OfWidth, joined-length}
 

@@ -8,7 +8,8 @@ use lib.ListN.{length, getD, take, drop, length-map}
 use Rattle.notation.specs.Limits.{maxSetBytes}
 use Rattle.notation.specs.Sets.{FolderSet}
 use Rattle.notation.specs.Print.{print}
-use Rattle.notation.specs.Layout.{Tables, textAt, le16, joined, layout, tablesOf, setPart}
+use Rattle.notation.specs.Layout.{Tables, textAt, layout, tablesOf, setPart}
+use Rattle.text.specs.Bytes.{le16, joined}
 use Rattle.notation.specs.Reads.{word16}
 use Rattle.notation.proofs.Laws.Stored.Stands.{Stands, read, slice}
 use Rattle.notation.proofs.Laws.Stored.Entries.{entry, map-width, map-at}

@@ -6,14 +6,15 @@ use lib.ListN.{length}
 use lib.Seq.{sets}
 use borrow.Author.Tests.{lt-ltb, le-ltb}
 use Rattle.notation.specs.Reads.{textOf}
-use Rattle.notation.specs.WriteText.{WriteText, textRefusal}
-use Rattle.notation.specs.declared.write.Written.{Written}
+use Rattle.text.specs.Order.{first, given}
+use Rattle.notation.specs.WriteText.{WriteText}
+use Rattle.text.specs.declared.written.Written.{Written}
 use borrow.Author.Needs.{needs}
 use Rattle.notation.proofs.write.write_text.Statement.{statement}
 use Rattle.notation.proofs.write.write_text.Tie as tie
 
-short : (part before text : List ℕ) → text ≡ textOf part → length before < length text → WriteText part before Written.Short before
-unfolding textRefusal
+short : (part before text : List ℕ) → text ≡ textOf part → length before < length text → WriteText part before (Written.Refused 1) before
+unfolding given first
 short part before text e h =
     let h' : length before < length (textOf part) = rw e at h in
     let t = lt-ltb (length before) (length (textOf part)) h' in
@@ -21,7 +22,7 @@ short part before text e h =
 
 fits : (part before after text : List ℕ) → text ≡ textOf part → length text ≤ length before → after ≡ sets before 0 text
     → WriteText part before (Written.Bytes (length text)) after
-unfolding textRefusal
+unfolding given first
 fits part before after text e h f =
     let h' : length (textOf part) ≤ length before = rw e at h in
     let t = le-ltb (length before) (length (textOf part)) h' in

@@ -3,13 +3,13 @@ use Prim.Native.Nat.{ℕ}
 use mathlib.Core.Path.{_≡_, refl}
 use mathlib.Core.Bool.{Bool, true, _&&_}
 use mathlib.Core.List.{List, [], _∷_, _++_}
-use Rattle.notation.specs.Names.{within}
+use Rattle.text.specs.Names.{within}
 use Rattle.notation.specs.Limits.{maxNumber}
 use Rattle.notation.specs.Sets.{Path, folder, FolderSet}
-use Rattle.notation.specs.Form.{every, nonEmpty, formedStep, formedPath, formedFolder, formed, pathsOf}
+use Rattle.text.specs.Lists.{every, nonEmpty}
+use Rattle.notation.specs.Form.{formedStep, formedPath, formedFolder, formed, pathsOf}
 use Rattle.notation.specs.Accepted.{Accepted}
-use Rattle.notation.proofs.Laws.Tests.{and-left, and-right}
-use Rattle.theory.proofs.Laws.Basics.{both-true}
+use Rattle.text.proofs.Laws.Tests.{and-left, and-right, both-true}
 
 every-append : {A : Type 0} (f : A → Bool) (l k : List A) → every f l ≡ true → every f k ≡ true → every f (l ++ k) ≡ true
 unfolding every

@@ -5,13 +5,13 @@ use mathlib.Core.Path.{_≡_, refl, sym, ap, _∙_}
 use mathlib.Core.Logic.{_↔_}
 use mathlib.Core.List.{List, _++_}
 use lib.ListN.{length, drop}
-use Rattle.notation.specs.Refusals.{Refusal, shortBuffer, numberOf}
+use Rattle.text.specs.Refusals.{Refusal, shortBuffer, numberOf}
 use Rattle.notation.specs.Sets.{FolderSet}
 use Rattle.notation.specs.Accepted.{Accepted}
 use Rattle.notation.specs.Judged.{RefusedText, Verdict, refuses, accepts, Judged, verdictNumber}
 use Rattle.notation.specs.Layout.{setSize}
 use Rattle.notation.specs.ReadSet.{ReadSet, readInto}
-use Rattle.notation.proofs.Laws.Refused.Numbers.{some-number}
+use Rattle.text.proofs.Laws.Numbers.{some-number}
 use Rattle.notation.proofs.Laws.Refused.Judging.{some-verdict}
 use Rattle.notation.proofs.Laws.Refused.Answers.{short-is, refused-is, accepted-is}
 use Rattle.stored.specs.Automaton.{automatonSize, automatonOf}

@@ -8,10 +8,10 @@ use mathlib.Core.List.{List, [], _∷_, _++_, append-assoc, append-nil}
 use borrow.Author.Tests.{eq-eqb, ne-eqb}
 use lib.ListN.{length, getD, set, take, drop, replicate, length-append, take-append-drop, length-drop, length-set}
 use lib.Seq.{sets, take-suc, drop-cons, drop-length, take-length, getD-at, set-at, length-take-le}
-use Rattle.notation.specs.Names.{Name}
+use Rattle.text.specs.Names.{Name}
 use Rattle.notation.specs.Limits.{maxLabels}
 use Rattle.notation.specs.Sets.{FolderSet}
-use Rattle.notation.specs.Layout.{le16}
+use Rattle.text.specs.Bytes.{le16}
 use Rattle.notation.proofs.Laws.Refused.Fitting.{Fitting}
 use Rattle.stored.specs.Automaton.{hashes, maskSize, headsAt, linksAt, linkSize, hash, find, allLabels, hasHash, tabulate, heads, nexts, Link, assembled}
 use Rattle.stored.specs.Code.Chains.{linkedBy, linked, chained}

@@ -8,13 +8,13 @@ use lib.Dec.{ltb}
 use borrow.Author.Tests.{ltb-true, ltb-false}
 use lib.ListN.{getD, set}
 use lib.Seq.{sets, getD-set-other}
-use Rattle.notation.specs.Layout.{le16}
+use Rattle.text.specs.Bytes.{le16}
 use Rattle.notation.specs.Reads.{word16, labelCount}
 use Rattle.stored.specs.Automaton.{hashes, headsAt, linksAt, linkSize}
 use Rattle.stored.specs.Tables.{headAt, nextAt, sizeOf}
 use Rattle.stored.specs.Walkable.{Searchable}
 use Rattle.stored.specs.Code.Parents.{wordStored}
-use Rattle.theory.proofs.Laws.Basics.{cases}
+use Rattle.text.proofs.Laws.Tests.{cases}
 
 byte-other : (a : List ℕ) (i v j : ℕ) → (j < i) ⊎ (i + 1 < j) → getD (sets a i (le16 v)) j 0 ≡ getD a j 0
 byte-other a i v j (inl h) =

@@ -9,10 +9,10 @@ use lib.Dec.{eqb}
 use lib.ListN.{length, getD, set, length-set}
 use lib.Seq.{sets, ext-getD, getD-set-same, getD-set-other}
 use borrow.Author.Tests.{eqb-true, eqb-false, ne-eqb}
-use Rattle.notation.specs.Names.{Name}
+use Rattle.text.specs.Names.{Name}
 use Rattle.notation.specs.Limits.{maxSteps}
 use Rattle.notation.specs.Sets.{FolderSet}
-use Rattle.notation.specs.Layout.{le16}
+use Rattle.text.specs.Bytes.{le16}
 use Rattle.notation.specs.Reads.{labelCount, labelName}
 use Rattle.notation.proofs.Laws.Refused.Fitting.{Fitting}
 use Rattle.theory.specs.Words.{Symbol, name, Word}
@@ -21,7 +21,7 @@ use Rattle.theory.specs.Walk.{followedBy}
 use Rattle.stored.specs.Automaton.{maskSize, linksAt, linkSize, allLabels, allWords, stateOf, shortened, heads, nexts, Link, link, linksOf, links, assembled}
 use Rattle.stored.specs.Tables.{parentAt, sizeAt, sizeOf}
 use Rattle.stored.specs.Code.Fails.{failTo, failed, failedIf, failedBelow, failedTo}
-use Rattle.theory.proofs.Laws.Basics.{cases}
+use Rattle.text.proofs.Laws.Tests.{cases}
 use Rattle.theory.proofs.Laws.Keywords.Prefix.{failure-is}
 use Rattle.theory.proofs.Laws.Keywords.Walk.{failure-extends, failure-single}
 use Rattle.stored.proofs.Laws.Tables.Assembled.{nextOf, parentOf, failureOf, lengthOf, withFailure, noLink, fail-put}

@@ -8,15 +8,14 @@ use lib.Dec.{eqb}
 use lib.ListN.{length, set, length-set}
 use lib.Seq.{sets, length-sets, getD-set-same, getD-set-other}
 use borrow.Author.Tests.{eqb-true, eqb-false}
-use Rattle.notation.specs.Names.{Name}
+use Rattle.text.specs.Names.{Name, sameName}
 use Rattle.notation.specs.Limits.{maxLabels}
-use Rattle.notation.specs.Layout.{le16}
-use Rattle.notation.specs.Activity.{sameName}
+use Rattle.text.specs.Bytes.{le16}
 use Rattle.notation.specs.Reads.{word16, labelCount, labelName}
 use Rattle.stored.specs.Automaton.{hashes, hash, automatonSize, headsAt, linksAt, linkSize}
 use Rattle.stored.specs.Tables.{headAt, nextAt, parentAt, failAt, sizeAt, sizeOf, failOf, follows, gotoFrom, goto, walkFrom, walkOver}
 use Rattle.stored.specs.Code.Fails.{failTo, failed, failedIf, failedBelow, failedTo, Growing}
-use Rattle.theory.proofs.Laws.Basics.{cases, both}
+use Rattle.text.proofs.Laws.Tests.{cases, both}
 use Rattle.stored.proofs.Laws.Tables.Goto.{hash-small}
 use Rattle.stored.proofs.Laws.Tables.Fuel.{fail-state, fail-shorter, over-state}
 

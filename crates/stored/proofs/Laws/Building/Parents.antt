@@ -9,11 +9,12 @@ use lib.Dec.{ltb}
 use borrow.Author.Tests.{lt-ltb, eq-eqb, ne-eqb, ltb-true, ltb-false}
 use lib.ListN.{length, getD, set, length-append, length-set}
 use lib.Seq.{sets, getD-at, take-at, set-set, getD-set-same}
-use Rattle.notation.specs.Names.{Name}
+use Rattle.text.specs.Names.{Name}
 use Rattle.notation.specs.Limits.{maxLabels}
 use Rattle.notation.specs.Sets.{Axis, child, descendant, Test, label, star, Step, step, Path, FolderSet, axisOf, testOf}
-use Rattle.notation.specs.Form.{pathsOf, stepsOf, nonEmpty, every}
-use Rattle.notation.specs.Layout.{le16}
+use Rattle.notation.specs.Form.{pathsOf, stepsOf}
+use Rattle.text.specs.Lists.{nonEmpty, every}
+use Rattle.text.specs.Bytes.{le16}
 use Rattle.notation.specs.Reads.{labelName, pathAt, stepAt, stepCount, isDescendant, isStar}
 use Rattle.notation.specs.declared.reads.StepAt.{StepAt}
 use Rattle.notation.proofs.Laws.Stored.LabelTable.{noStep}
@@ -27,7 +28,7 @@ use Rattle.stored.specs.Automaton.{maskSize, linksAt, linkSize, Link, fi
 use Rattle.stored.specs.Tables.{sizeAt, sizeOf, goto}
 use Rattle.stored.specs.Code.Parents.{startsAt, wordStored, labelled, tested, passedBy, passed, parented, outset}
 use Rattle.stored.specs.declared.place.Place.{Place}
-use Rattle.theory.proofs.Laws.Basics.{cases, clash}
+use Rattle.text.proofs.Laws.Tests.{cases, clash}
 use Rattle.stored.proofs.Laws.Bytes.Tabulate.{tabulate-length}
 use Rattle.stored.proofs.Laws.Tables.Assembled.{nextOf, parentOf, lengthOf, withParent, withLength, noLink, Sized, parent-put, size-put, size-read}
 use Rattle.stored.proofs.Laws.Tables.SetReads.{of-set, label-bytes, step-entry, step-count}

@@ -15,7 +15,7 @@ use Rattle.notation.specs.Form.{pathsOf}
 use Rattle.theory.specs.Words.{name, Word, before, labelWords}
 use Rattle.theory.specs.Walk.{followedBy}
 use Rattle.stored.specs.Automaton.{Link, link, find, wordsIn, allWords, stateOf, shortened}
-use Rattle.theory.proofs.Laws.Basics.{cases}
+use Rattle.text.proofs.Laws.Tests.{cases}
 use Rattle.stored.proofs.Laws.Bytes.Finding.{find-here, find-later}
 use Rattle.stored.proofs.Laws.Tables.Assembled.{nextOf, parentOf, lengthOf, withParent, withLength, noLink}
 

@@ -7,10 +7,11 @@ use mathlib.Core.List.{List, [], _∷_, _++_, append-assoc, cons≢nil, List·Me
 use native.Mathlib.Omega.{arith}
 use lib.ListN.{length, getD, length-append}
 use lib.Seq.{getD-append-seam}
-use Rattle.notation.specs.Names.{within}
+use Rattle.text.specs.Names.{within}
 use Rattle.notation.specs.Limits.{maxNumber}
 use Rattle.notation.specs.Sets.{child, descendant, Step, step, Path, folder, FolderSet, axisOf, testOf}
-use Rattle.notation.specs.Form.{every, nonEmpty, formedStep, formedPath, formedFolder, formed, pathsOf, stepsOf, any}
+use Rattle.text.specs.Lists.{every, nonEmpty, any}
+use Rattle.notation.specs.Form.{formedStep, formedPath, formedFolder, formed, pathsOf, stepsOf}
 use Rattle.notation.specs.Layout.{setPart}
 use Rattle.notation.specs.Reads.{isDescendant, isStar, stepAt, pathCount}
 use Rattle.notation.specs.declared.reads.StepAt.{StepAt}
@@ -21,7 +22,8 @@ use Rattle.notation.proofs.Laws.Stored.ReadSteps.{step-read}
 use Rattle.theory.specs.Words.{document, before, begins}
 use Rattle.stored.specs.Automaton.{allSteps, Link, startState, assembled}
 use Rattle.stored.specs.Code.Masks.{rooted, anyRooted, withStart}
-use Rattle.theory.proofs.Laws.Basics.{both, any-is, is-any, clash}
+use Rattle.text.proofs.Laws.Tests.{both, clash}
+use Rattle.text.proofs.Laws.Lists.{any-is, is-any}
 use Rattle.theory.proofs.Laws.Keywords.Words.{begins-is, is-begins}
 use Rattle.theory.proofs.Laws.Keywords.Labels.{begins-document}
 use Rattle.stored.proofs.Laws.Tables.Goto.{same-test}

@@ -9,7 +9,7 @@ use lib.Seq.{sets-eq, take-at, drop-at}
 use borrow.Author.Tests.{le-ltb}
 use Rattle.notation.specs.Limits.{maxSetBytes}
 use Rattle.notation.specs.Sets.{FolderSet}
-use Rattle.notation.specs.Answers.{value, said}
+use Rattle.text.specs.Answers.{value, said}
 use Rattle.notation.specs.Accepted.{Accepted}
 use Rattle.notation.specs.Judged.{accepts}
 use Rattle.notation.specs.Reads.{textOf}
@@ -17,10 +17,10 @@ use Rattle.notation.proofs.Laws.Refused.Fitting.{Fitting}
 use Rattle.notation.proofs.Laws.Refused.AcceptedSet.{accepted-fits}
 use Rattle.notation.proofs.Laws.Stored.Reads.{text-read}
 use Rattle.stored.specs.Automaton.{automatonSize, allLabels, heads, links, masks, startState, automatonOf}
-use Rattle.theory.specs.Order.{first, given}
-use Rattle.stored.specs.Answers.{writtenSays}
-use Rattle.stored.specs.Build.{Built, SetWritten, writeRefusal}
-use Rattle.stored.specs.declared.answers.Written.{Written}
+use Rattle.text.specs.Order.{first, given}
+use Rattle.text.specs.Written.{writtenSays}
+use Rattle.stored.specs.Build.{Built, SetWritten, writeConditions}
+use Rattle.text.specs.declared.written.Written.{Written}
 use Rattle.stored.proofs.Laws.Tables.SetReads.{of-set}
 use Rattle.stored.proofs.Laws.Shapes.BuiltShape.{built-shaped, built-grows}
 
@@ -36,8 +36,8 @@ module _ (text : List ℕ) (s : FolderSet) (acc : Accepted text s) (rest : List 
   text-short = rw (← acc .prints) (fit .bytes)
 
   module _ (out : List ℕ) (room : maxSetBytes ≤ length out) where
-    none-refused : writeRefusal (automatonOf s ++ rest) out ≡ 0
-    unfolding writeRefusal given first
+    none-refused : given (writeConditions (automatonOf s ++ rest) out) ≡ 0
+    unfolding given first
     none-refused =
         rw (
           le-ltb (length (automatonOf s ++ rest)) automatonSize (built-grows s fit (acc .paths) rest .room),

@@ -7,7 +7,7 @@ use native.Mathlib.Omega.{arith}
 use lib.Dec.{eqb}
 use borrow.Author.Tests.{eqb-true, eqb-false}
 use Rattle.stored.specs.Shape.{allBelow}
-use Rattle.theory.proofs.Laws.Basics.{cases, both, both-true}
+use Rattle.text.proofs.Laws.Tests.{cases, both, both-true}
 
 pub all-none : (f : ℕ → Bool) → allBelow 0 f ≡ true
 unfolding allBelow

@@ -5,7 +5,7 @@ use mathlib.Core.List.{List, [], _∷_, _++_, append-assoc}
 use native.Mathlib.Omega.{arith}
 use lib.ListN.{length, getD, take, drop, set, length-append, length-drop, List·getD-append}
 use lib.Seq.{sets, sets-eq, length-take-le, getD-set-other, getD-take, getD-append-add, drop-set-lt, drop-append-add, drop-drop}
-use Rattle.notation.specs.Layout.{le16}
+use Rattle.text.specs.Bytes.{le16}
 use Rattle.notation.specs.Reads.{word16}
 use Rattle.notation.proofs.Laws.Stored.Stands.{Stands}
 use Rattle.notation.proofs.Laws.Stored.Words.{word-read}

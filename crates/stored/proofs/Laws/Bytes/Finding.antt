@@ -7,7 +7,7 @@ use mathlib.Core.List.{List, [], _∷_, List·Memᴰ, List·Memᴰ·head, List·
 use native.Mathlib.Omega.{arith}
 use lib.ListN.{length, getD}
 use Rattle.stored.specs.Automaton.{find}
-use Rattle.theory.proofs.Laws.Basics.{cases, clash}
+use Rattle.text.proofs.Laws.Tests.{cases, clash}
 
 module _ {A : Type 0} (test : A → Bool) where
   pub find-here : (k : ℕ) (a : A) (l : List A) → test a ≡ true → find test k (a ∷ l) ≡ k

@@ -12,7 +12,7 @@ use Rattle.notation.specs.Sets.{child, descendant, Test, step, FolderSet, axisO
 use Rattle.notation.specs.Reads.{isDescendant, isStar}
 use Rattle.stored.specs.Automaton.{maskSize, tabulate, packed, byteOf, bitBytes, Role, role, roles, roleAt, mask, masks, isLastRole, maskTest}
 use Rattle.stored.specs.Code.Masks.{axisMask}
-use Rattle.theory.proofs.Laws.Basics.{cases, both, both-true}
+use Rattle.text.proofs.Laws.Tests.{cases, both, both-true}
 use Rattle.stored.proofs.Laws.Bytes.Tabulate.{tabulate-same, tabulate-constant}
 use Rattle.stored.proofs.Laws.Bytes.WithBit.{packed-same}
 use Rattle.stored.proofs.Laws.Tables.Goto.{same-test}

@@ -6,7 +6,7 @@ use mathlib.Core.Path.{_≡_, refl, sym, ap, _∙_}
 use mathlib.Core.List.{List, [], _∷_, _++_, map, append-assoc}
 use lib.ListN.{length, getD, set, replicate, length-set, length-replicate, replicate-append-replicate}
 use lib.Seq.{sets, length-sets, set-append-left}
-use Rattle.notation.specs.Layout.{joined, padded}
+use Rattle.text.specs.Bytes.{joined, padded}
 use Rattle.notation.proofs.Laws.Fill.Padded.{sets-past, sets-front}
 use Rattle.notation.proofs.Laws.Stored.Entries.{OfWidth, none, more, joined-length}
 

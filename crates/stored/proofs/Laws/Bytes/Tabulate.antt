@@ -11,7 +11,7 @@ use borrow.Author.Tests.{eq-eqb, eqb-true}
 use lib.ListN.{length, getD, set, replicate, length-append, length-set, length-replicate, getD-replicate, List·getD-append}
 use lib.Seq.{getD-at, ext-getD, getD-set-same, getD-set-other}
 use Rattle.stored.specs.Automaton.{find, tabulate}
-use Rattle.theory.proofs.Laws.Basics.{cases, clash}
+use Rattle.text.proofs.Laws.Tests.{cases, clash}
 
 pub find-below : {A : Type 0} (test : A → Bool) (k : ℕ) (l : List A) → find test k l ≤ k + length l
 unfolding find

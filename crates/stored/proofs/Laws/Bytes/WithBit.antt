@@ -10,7 +10,7 @@ use lib.ListN.{length, getD, set, length-set}
 use lib.Seq.{ext-getD, getD-set-same, getD-set-other}
 use Rattle.stored.specs.Bits.{bitOf, withBit}
 use Rattle.stored.specs.Automaton.{packed, byteOf, bitBytes}
-use Rattle.theory.proofs.Laws.Basics.{cases}
+use Rattle.text.proofs.Laws.Tests.{cases}
 use Rattle.stored.proofs.Laws.Bytes.Tabulate.{tabulate-length, tabulate-at}
 use Rattle.stored.proofs.Laws.Bytes.Bits.{packed-bit, packed-small}
 use Rattle.stored.proofs.Laws.Bytes.ByteBits.{or-bit, power-bit, power-small, packed-from}

@@ -5,10 +5,10 @@ use mathlib.Core.Bool.{Bool, true, false}
 use native.Mathlib.Omega.{arith}
 use lib.Dec.{leb}
 use borrow.Author.Tests.{leb-true}
-use Rattle.notation.specs.Names.{within}
-use Rattle.notation.specs.Form.{any}
+use Rattle.text.specs.Names.{within}
+use Rattle.text.specs.Lists.{any}
 use Rattle.theory.specs.Folders.{countFrom}
-use Rattle.theory.proofs.Laws.Basics.{both}
+use Rattle.text.proofs.Laws.Tests.{both}
 
 -- of the numbers from `first + i` on, `left` of them
 pub any-none : (f : ℕ → Bool) (first i left : ℕ) → left ≡ 0 → any f (countFrom (first + i) left) ≡ false

@@ -10,12 +10,13 @@ use lib.Dec.{leb, ltb}
 use lib.ListN.{length, getD}
 use lib.Seq.{take-length}
 use Rattle.notation.specs.Limits.{maxPaths, maxSteps}
-use Rattle.notation.specs.Names.{Name, within}
+use Rattle.text.specs.Names.{Name, within}
 use Rattle.notation.specs.Sets.{Path, FolderSet, folderPaths}
-use Rattle.notation.specs.Form.{pathsOf, any}
+use Rattle.notation.specs.Form.{pathsOf}
+use Rattle.text.specs.Lists.{any}
 use Rattle.notation.specs.Print.{print}
-use Rattle.notation.specs.Refusals.{numberOf, noSuchPlace}
-use Rattle.notation.specs.Answers.{Answer, refused, value, said}
+use Rattle.text.specs.Refusals.{numberOf, noSuchPlace}
+use Rattle.text.specs.Answers.{Answer, refused, value, said}
 use Rattle.notation.specs.Activity.{active}
 use Rattle.notation.specs.Reads.{pathAt, folderOf, folderIndex}
 use Rattle.notation.specs.declared.PathPlace.{PathPlace}
@@ -27,14 +28,14 @@ use Rattle.notation.proofs.Laws.Stored.ReadPaths.{PathRead, path-read, path-mis
 use Rattle.notation.proofs.Laws.Stored.ReadFolders.{folder-of-read}
 use Rattle.theory.specs.Prefix.{prefixOf}
 use Rattle.theory.specs.Folders.{countFrom, placesFrom, folderMatched}
-use Rattle.theory.specs.Order.{first, given}
+use Rattle.text.specs.Order.{first, given}
 use Rattle.theory.specs.Calls.{State, openNames, activeStep}
 use Rattle.stored.specs.Automaton.{maskSize}
 use Rattle.stored.specs.Run.{runOf}
 use Rattle.stored.specs.Tables.{sizeOf}
 use Rattle.stored.specs.RunCalls.{depthOf, storedName, activeAt, matchedAt, stateAt}
 use Rattle.stored.specs.Asking.{askRefusal, hasPath, placeMatched, anyMatched, askPath, hasFolder, indexPaths, askFolder, askStep, askPrefix, nameRefusal, askName}
-use Rattle.theory.proofs.Laws.Basics.{cases}
+use Rattle.text.proofs.Laws.Tests.{cases}
 use Rattle.theory.proofs.Laws.Keywords.Prefix.{current-prefix}
 use Rattle.theory.proofs.Laws.Machine.Sound.{Sound}
 use Rattle.theory.proofs.Laws.Machine.Moves.{Few}

@@ -9,19 +9,19 @@ use native.Mathlib.Omega.{arith}
 use borrow.Author.Tests.{ltb-true, ltb-false, lt-ltb, le-ltb, le-leb, eqb-true, eq-eqb}
 use lib.Dec.{ltb, eqb}
 use lib.ListN.{length, getD, drop, List·getD-eq-default}
-use Rattle.notation.specs.Names.{Name, within}
+use Rattle.text.specs.Names.{Name, within}
 use Rattle.notation.specs.Sets.{FolderSet, folderNumber}
 use Rattle.notation.specs.Form.{pathsOf}
-use Rattle.notation.specs.Answers.{Answer, value, said}
-use Rattle.notation.proofs.Laws.Said.{said-refused}
-use Rattle.notation.proofs.Laws.Refused.Numbers.{some-number}
+use Rattle.text.specs.Answers.{Answer, value, said}
+use Rattle.text.proofs.Laws.Said.{said-refused}
+use Rattle.text.proofs.Laws.Numbers.{some-number}
 use Rattle.notation.specs.Fit.{nameAt, Active}
-use Rattle.notation.specs.Refusals.{Refusal, numberOf}
+use Rattle.text.specs.Refusals.{Refusal, numberOf}
 use Rattle.notation.specs.declared.PathPlace.{PathPlace}
 use Rattle.notation.specs.declared.FolderNumber.{FolderNumber}
 use Rattle.theory.specs.Prefix.{prefixOf}
 use Rattle.theory.specs.Walk.{movesOf, walk}
-use Rattle.theory.specs.Order.{first, numberIn, given}
+use Rattle.text.specs.Order.{first, numberIn, given}
 use Rattle.theory.specs.Calls.{asLeft, Call, openCall, closeCall, State, openNames, pathAt, activeStep, refusal, run}
 use Rattle.theory.specs.History.{stillOpen, FittedAfterOpen, opensOf, SameAnswers}
 use Rattle.theory.specs.Moves.{OpenMoves}
@@ -35,7 +35,8 @@ use Rattle.stored.specs.Asking.{askPath, askFolder, askStep, askPrefix, 
 use Rattle.stored.specs.Demand3.{Made, madeOpen, madeClose, callsOf, Left, started, Calls, OpenAnswered, isRefused, isAccepted, Answers, HasFolder, HasMatchedPath, StepThere, PrefixAnswered, SameAsked, Holds, Demand3, Demand3Whole}
 use Rattle.stored.specs.declared.counters.Counters.{Counters}
 use Rattle.stored.specs.declared.answers.Opened.{Opened}
-use Rattle.theory.proofs.Laws.Basics.{cases, clash, both-true, any-is, is-any}
+use Rattle.text.proofs.Laws.Tests.{cases, clash, both-true}
+use Rattle.text.proofs.Laws.Lists.{any-is, is-any}
 use Rattle.theory.proofs.Laws.Machine.Matches.{run-matched, run-matched-there}
 use Rattle.theory.proofs.Laws.Machine.Moves.{Few}
 use Rattle.theory.proofs.Laws.Machine.History.{run-names-told}

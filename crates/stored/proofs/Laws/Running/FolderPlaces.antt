@@ -9,12 +9,13 @@ use borrow.Author.Tests.{leb-false, eqb-true, ne-eqb}
 use lib.Dec.{leb, eqb}
 use lib.ListN.{length, getD, take, length-append}
 use Rattle.notation.specs.Sets.{folder, FolderSet, folderNumber, folderPaths}
-use Rattle.notation.specs.Form.{pathsOf, numbersFallAfter, any}
+use Rattle.notation.specs.Form.{pathsOf, numbersFallAfter}
+use Rattle.text.specs.Lists.{any}
 use Rattle.notation.specs.Reads.{folderIndex}
 use Rattle.notation.specs.declared.reads.FolderIndex.{FolderIndex}
 use Rattle.notation.proofs.Laws.Stored.FolderTable.{noFolder, pathsBefore}
 use Rattle.theory.specs.Folders.{countFrom, placesFrom}
-use Rattle.theory.proofs.Laws.Basics.{cases}
+use Rattle.text.proofs.Laws.Tests.{cases}
 
 -- some folder of the set has this number
 abbrev pub hasNumber : FolderSet → ℕ → Bool

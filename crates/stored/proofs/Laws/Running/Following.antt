@@ -7,15 +7,14 @@ use native.Mathlib.Omega.{arith}
 use native.Mathlib.Numerals.{add-one}
 use borrow.Author.Tests.{leb-false}
 use lib.ListN.{length, getD, drop, length-append}
-use Rattle.notation.specs.Limits.{maxName}
-use Rattle.notation.specs.Names.{Name}
+use Rattle.text.specs.Names.{maxName, Name}
 use Rattle.notation.specs.Sets.{FolderSet}
 use Rattle.notation.specs.Form.{pathsOf}
 use Rattle.notation.specs.Activity.{fits}
 use Rattle.theory.specs.Limits.{maxDepth}
 use Rattle.theory.specs.Words.{Word}
 use Rattle.theory.specs.Walk.{movesOf, walk}
-use Rattle.theory.specs.Order.{isNone}
+use Rattle.text.specs.Order.{isNone}
 use Rattle.theory.specs.Calls.{asLeft, otherwise, Call, openCall, closeCall, Level, nameOf, State, namesOf, openNames, fresh, opened, closedFrom, closed, refusal, accepted, step, after}
 use Rattle.theory.specs.Calls as machine
 use Rattle.stored.specs.Run.{runSize, runWith, runOf}
@@ -23,8 +22,8 @@ use Rattle.stored.specs.RunCalls.{openWalk, openRun, openCounters, close
 use Rattle.stored.specs.Demand3.{Made, callsOf, Left, started, Calls}
 use Rattle.stored.specs.declared.counters.Counters.{Counters}
 use Rattle.stored.specs.declared.walk.Walk.{Walk}
-use Rattle.theory.proofs.Laws.Basics.{cases}
-use Rattle.theory.proofs.Laws.Machine.Order.{number-none}
+use Rattle.text.proofs.Laws.Tests.{cases}
+use Rattle.text.proofs.Laws.Order.{number-none}
 use Rattle.theory.proofs.Laws.Machine.Calls.{Openable, open-accepted, Closable, close-accepted, lent-otherwise-open, lent-otherwise-close, always}
 use Rattle.theory.proofs.Laws.Machine.Steps.{step-refused}
 use Rattle.theory.proofs.Laws.Machine.Sound.{Sound}

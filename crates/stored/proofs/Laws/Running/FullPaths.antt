@@ -7,10 +7,11 @@ use mathlib.Core.Logic.{_⊎_, inl, inr}
 use native.Mathlib.Omega.{arith}
 use lib.ListN.{length, getD}
 use Rattle.notation.specs.Limits.{maxNumber}
-use Rattle.notation.specs.Names.{within}
+use Rattle.text.specs.Names.{within}
 use Rattle.notation.specs.Sets.{Path, Folder, folder, FolderSet, folderPaths}
-use Rattle.notation.specs.Form.{every, nonEmpty, formedStep, formedPath, formedFolder, formed, pathsOf}
-use Rattle.theory.proofs.Laws.Basics.{both, clash}
+use Rattle.text.specs.Lists.{every, nonEmpty}
+use Rattle.notation.specs.Form.{formedStep, formedPath, formedFolder, formed, pathsOf}
+use Rattle.text.proofs.Laws.Tests.{both, clash}
 use Rattle.stored.proofs.Laws.Tables.States.{at-among}
 
 every-at : {A : Type 0} (f : A → Bool) (l : List A) (a : A) → every f l ≡ true → List·Memᴰ a l → f a ≡ true

@@ -10,17 +10,18 @@ use borrow.Author.Tests.{ltb-true, ltb-false, eqb-true, eq-eqb}
 use lib.Dec.{ltb, eqb}
 use lib.ListN.{length, getD, take, length-append, List·getD-append}
 use lib.Seq.{getD-append-add}
-use Rattle.notation.specs.Names.{Name}
+use Rattle.text.specs.Names.{Name, sameName}
 use Rattle.notation.specs.Sets.{Test, label, star, Step, Path, FolderSet, testOf}
-use Rattle.notation.specs.Form.{pathsOf, stepsOf, labelOf, labelsOf, any}
-use Rattle.notation.specs.Activity.{sameName}
+use Rattle.notation.specs.Form.{pathsOf, stepsOf, labelOf, labelsOf}
+use Rattle.text.specs.Lists.{any}
 use Rattle.notation.specs.Reads.{word16, labelEntryAt}
 use Rattle.notation.proofs.Laws.Stored.PathTable.{stepsBefore}
 use Rattle.notation.proofs.Laws.Stored.LabelTable.{noStep}
 use Rattle.stored.specs.Automaton.{allSteps, allLabels, Role, role, roles, rolesIn, roleAt}
 use Rattle.stored.specs.Chain.{chainLabels}
 use Rattle.stored.specs.Compiled.{placesOf, Compiled}
-use Rattle.theory.proofs.Laws.Basics.{cases, clash, any-is, is-any}
+use Rattle.text.proofs.Laws.Tests.{cases, clash}
+use Rattle.text.proofs.Laws.Lists.{any-is, is-any}
 use Rattle.theory.proofs.Laws.Keywords.Words.{same-name, name-same}
 use Rattle.stored.proofs.Laws.Tables.Goto.{same-test}
 use Rattle.stored.proofs.Laws.Running.PathSteps.{anyStep, locate, role-at, role-past}

@@ -5,10 +5,10 @@ use mathlib.Core.Bool.{Bool, true, false, cond}
 use mathlib.Core.List.{List, [], _∷_, _++_}
 use native.Mathlib.Omega.{arith}
 use lib.Dec.{eqb}
-use Rattle.notation.specs.Names.{Name}
-use Rattle.notation.specs.Answers.{said, numberSaid}
-use Rattle.notation.proofs.Laws.Said.{said-number}
-use Rattle.theory.specs.Order.{first, given}
+use Rattle.text.specs.Names.{Name}
+use Rattle.text.specs.Answers.{said, numberSaid}
+use Rattle.text.proofs.Laws.Said.{said-number}
+use Rattle.text.specs.Order.{first, given}
 use Rattle.theory.specs.Calls.{asLeft, otherwise, Call, openCall, closeCall}
 use Rattle.stored.specs.Automaton.{automatonSize}
 use Rattle.stored.specs.Answers.{openedSays}

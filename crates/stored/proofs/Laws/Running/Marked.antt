@@ -8,10 +8,10 @@ use native.Mathlib.Numerals.{add-one}
 use lib.Dec.{eqb}
 use lib.ListN.{length, set, take, replicate}
 use lib.Seq.{sets, take-at}
-use Rattle.notation.specs.Limits.{maxName}
-use Rattle.notation.specs.Layout.{le16, padded}
+use Rattle.text.specs.Names.{maxName}
+use Rattle.text.specs.Bytes.{le16, padded}
 use Rattle.notation.specs.Reads.{word16, labelEntryAt}
-use Rattle.notation.specs.Form.{any}
+use Rattle.text.specs.Lists.{any}
 use Rattle.notation.proofs.Laws.Fill.Padded.{padded-none, sets-padded}
 use Rattle.stored.specs.Chain.{chainLabels}
 use Rattle.stored.specs.Automaton.{maskSize, byteOf, bitBytes, tabulate}

@@ -9,7 +9,7 @@ use borrow.Author.Tests.{ltb-true, ltb-false, le-leb, ne-eqb, eqb-true}
 use lib.Dec.{ltb, eqb}
 use lib.ListN.{length, getD}
 use lib.Seq.{take-length}
-use Rattle.notation.specs.Names.{Name}
+use Rattle.text.specs.Names.{Name}
 use Rattle.notation.specs.Sets.{Axis, child, descendant, Test, label, star, Path, FolderSet, axisOf, testOf}
 use Rattle.notation.specs.Form.{pathsOf, stepsOf}
 use Rattle.notation.specs.Reads.{isDescendant, isStar}
@@ -21,7 +21,7 @@ use Rattle.theory.specs.Limits.{maxDepth}
 use Rattle.stored.specs.Automaton.{maskSize, Role, roles, roleAt, isStarRole, isChildRole, isDescendantRole, isAnywhereRole, isRootRole, isLastRole}
 use Rattle.stored.specs.Run.{stepBit, matchBit, activeBits, seenBits, runWith}
 use Rattle.stored.specs.RunCalls.{depthOf, activeAt, seenAt, maskBit, candidate, shifted, permitted, nowActive, nowSeen, nowMatched}
-use Rattle.theory.proofs.Laws.Basics.{cases}
+use Rattle.text.proofs.Laws.Tests.{cases}
 use Rattle.stored.proofs.Laws.Running.PathSteps.{anyStep, Located, locate, bit-at, bit-past, match-at, match-past, roleOf, role-at, role-past}
 use Rattle.stored.proofs.Laws.Running.RunBytes.{Short, depth-read, active-at, seen-at, matched-read}
 use Rattle.stored.proofs.Laws.Running.Means.{Means}

@@ -7,8 +7,8 @@ use borrow.Author.Tests.{eqb-true, eqb-false}
 use lib.Dec.{eqb}
 use lib.ListN.{take, drop}
 use denote.Ref.{RefT, now}
-use Rattle.notation.specs.Part.{PartOf}
-use Rattle.theory.proofs.Laws.Basics.{cases}
+use Rattle.text.specs.Part.{PartOf}
+use Rattle.text.proofs.Laws.Tests.{cases}
 use Rattle.stored.specs.Run.{rowAt, nameIn}
 use Rattle.stored.specs.RunCalls.{nameLength, storedName}
 use Rattle.stored.specs.Asking.{nameRefusal, askName, RowName, OpenName}

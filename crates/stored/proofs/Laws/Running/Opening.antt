@@ -8,11 +8,10 @@ use mathlib.Core.List.{List, [], _∷_, _++_, append-assoc, List·Memᴰ, List·
 use native.Mathlib.Omega.{arith}
 use lib.ListN.{length, getD, replicate, length-append, length-replicate}
 use lib.Seq.{sets, take-length}
-use Rattle.notation.specs.Limits.{maxName}
-use Rattle.notation.specs.Names.{Name}
+use Rattle.text.specs.Names.{maxName, Name}
 use Rattle.notation.specs.Sets.{FolderSet}
 use Rattle.notation.specs.Form.{pathsOf, stepsOf}
-use Rattle.notation.specs.Layout.{le16, joined, padded}
+use Rattle.text.specs.Bytes.{le16, joined, padded}
 use Rattle.notation.specs.Reads.{stepCount}
 use Rattle.notation.specs.Activity.{active, seen, fits}
 use Rattle.notation.proofs.Laws.Fill.Padded.{sets-front, joined-snoc}

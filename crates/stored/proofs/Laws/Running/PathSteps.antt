@@ -13,7 +13,7 @@ use Rattle.notation.specs.Form.{stepsOf}
 use Rattle.notation.proofs.Laws.Stored.PathTable.{stepsBefore}
 use Rattle.stored.specs.Automaton.{Role, role, rolesFrom, rolesIn, roleAt}
 use Rattle.stored.specs.Run.{stepBit, matchBit}
-use Rattle.theory.proofs.Laws.Basics.{cases}
+use Rattle.text.proofs.Laws.Tests.{cases}
 use Rattle.stored.proofs.Laws.Building.Masked.{all-roles-length}
 
 abbrev pub anyStep : Step

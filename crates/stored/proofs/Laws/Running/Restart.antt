@@ -4,8 +4,8 @@ use mathlib.Core.Path.{_≡_, _∙_, ap}
 use mathlib.Core.List.{List, _++_}
 use lib.ListN.{drop, replicate, length-replicate}
 use lib.Seq.{sets, length-sets, drop-at}
-use Rattle.notation.specs.Names.{Name}
-use Rattle.notation.specs.Layout.{le16}
+use Rattle.text.specs.Names.{Name}
+use Rattle.text.specs.Bytes.{le16}
 use Rattle.stored.specs.Tables.{startOf}
 use Rattle.stored.specs.Run.{stateIn, rowAt, runSize}
 use Rattle.stored.specs.RunCalls.{openRefusal, closeRefusal, startRun, openRun, closeRun}

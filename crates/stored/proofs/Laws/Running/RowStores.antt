@@ -6,7 +6,7 @@ use mathlib.Core.List.{List, _++_}
 use native.Mathlib.Omega.{arith}
 use lib.ListN.{length, take, drop, replicate}
 use lib.Seq.{sets, take-at, drop-at, drop-drop}
-use Rattle.notation.specs.Layout.{padded}
+use Rattle.text.specs.Bytes.{padded}
 use Rattle.notation.proofs.Laws.Fill.Padded.{sets-front}
 use Rattle.stored.specs.Automaton.{byteOf, bitBytes}
 use Rattle.stored.specs.Run.{rowSize, runSize}

@@ -6,7 +6,7 @@ use native.Mathlib.Omega.{arith}
 use lib.ListN.{length, take, drop, replicate}
 use lib.Seq.{sets, drop-length}
 use borrow.Rule.Slice.PartMut.{midOf, putMid, post-is, mid-len}
-use Rattle.notation.specs.Layout.{le16}
+use Rattle.text.specs.Bytes.{le16}
 use Rattle.stored.specs.Run.{rowAt, rowSize}
 use Rattle.stored.specs.RunCalls.{depthOf, withRow, closeRun}
 

@@ -6,11 +6,11 @@ use mathlib.Core.List.{List, [], _∷_, _++_, append-assoc, append-nil, List·Me
 use native.Mathlib.Omega.{arith}
 use native.Mathlib.Nat.{le-of-suc-le-suc, add-zero}
 use lib.ListN.{length, getD, take, drop, replicate, length-append}
-use Rattle.notation.specs.Limits.{maxName, maxPaths, maxSteps, maxLabels}
-use Rattle.notation.specs.Names.{Name}
+use Rattle.text.specs.Names.{maxName, Name}
+use Rattle.notation.specs.Limits.{maxPaths, maxSteps, maxLabels}
 use Rattle.notation.specs.Sets.{FolderSet}
 use Rattle.notation.specs.Form.{pathsOf}
-use Rattle.notation.specs.Layout.{le16, joined, padded}
+use Rattle.text.specs.Bytes.{le16, joined, padded}
 use Rattle.notation.specs.Reads.{word16, stepCount}
 use Rattle.notation.proofs.Laws.Stored.Stands.{Stands, left, right, read, slice}
 use Rattle.notation.proofs.Laws.Fill.Padded.{length-padded}

@@ -8,10 +8,10 @@ use native.Mathlib.Nat.{add-zero}
 use lib.Dec.{ltb, eqb}
 use lib.ListN.{length, drop, replicate, length-replicate, replicate-append-replicate}
 use lib.Seq.{sets}
-use Rattle.notation.specs.Limits.{maxName}
+use Rattle.text.specs.Names.{maxName}
 use Rattle.notation.specs.Sets.{Path, FolderSet}
 use Rattle.notation.specs.Form.{pathsOf}
-use Rattle.notation.specs.Layout.{le16, joined, padded}
+use Rattle.text.specs.Bytes.{le16, joined, padded}
 use Rattle.notation.specs.Activity.{active, seen}
 use Rattle.notation.proofs.Laws.Fill.Padded.{sets-front, padded-none}
 use Rattle.notation.proofs.Laws.Meaning.Innermost.{active-none, seen-none}
@@ -23,7 +23,7 @@ use Rattle.stored.specs.Tables.{startOf}
 use Rattle.stored.specs.Run.{matchesAt, rowsAt, nameIn, activeIn, seenIn, rowSize, rowAt, runSize, stepBit, matchBit, activeBits, seenBits, rowOf, rowsFrom, runWith, runOf}
 use Rattle.stored.specs.Run as layout
 use Rattle.stored.specs.RunCalls.{startRun}
-use Rattle.theory.proofs.Laws.Basics.{cases}
+use Rattle.text.proofs.Laws.Tests.{cases}
 use Rattle.stored.proofs.Laws.Bytes.Stores.{past, zeros}
 use Rattle.stored.proofs.Laws.Running.RunBytes.{Short, rowBytes, zerosFrom, run-parts}
 use Rattle.stored.proofs.Laws.Bytes.MaskRows.{bits-same, bits-none}

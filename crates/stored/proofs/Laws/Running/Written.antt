@@ -5,8 +5,8 @@ use mathlib.Core.List.{List, [], _∷_, _++_, append-nil}
 use native.Mathlib.Omega.{arith}
 use lib.ListN.{length, set, replicate, length-append}
 use lib.Seq.{sets}
-use Rattle.notation.specs.Limits.{maxName}
-use Rattle.notation.specs.Layout.{le16, padded}
+use Rattle.text.specs.Names.{maxName}
+use Rattle.text.specs.Bytes.{le16, padded}
 use Rattle.notation.proofs.Laws.Fill.Padded.{sets-front, length-padded}
 use Rattle.stored.specs.Automaton.{maskSize}
 use Rattle.stored.specs.Run.{rowSize, nameIn, stateIn, activeIn, seenIn}

@@ -9,7 +9,8 @@ use lib.ListN.{length, getD, length-append}
 use borrow.Author.Tests.{ltb-false}
 use Rattle.notation.specs.Limits.{maxSetBytes, maxPaths, maxSteps}
 use Rattle.notation.specs.Sets.{child, descendant, label, star, step, Path, FolderSet}
-use Rattle.notation.specs.Form.{any, formed, pathsOf, pathLong, pathsLong, namesLong}
+use Rattle.text.specs.Lists.{any}
+use Rattle.notation.specs.Form.{formed, pathsOf, pathLong, pathsLong, namesLong}
 use Rattle.notation.specs.Accepted.{Accepted}
 use Rattle.notation.specs.Layout.{stepsAt}
 use Rattle.notation.specs.Reads.{textLen, folderCount, pathCount, stepCount, labelCount}
@@ -30,7 +31,8 @@ use Rattle.stored.proofs.Laws.Tables.States.{word-ends, label-begins}
 use Rattle.stored.proofs.Laws.Building.Staged.{Links, Short, sized, stage-grows}
 use Rattle.stored.proofs.Laws.Building.Fails.{links-length, links-at}
 use Rattle.stored.proofs.Laws.Shapes.Shaped.{FolderFacts, PathFacts, LabelFacts, Shaped, is-shaped}
-use Rattle.stored.proofs.Laws.Shapes.SetShape.{neither, folder-facts, path-facts, step-fact, label-facts}
+use Rattle.text.proofs.Laws.Tests.{neither}
+use Rattle.stored.proofs.Laws.Shapes.SetShape.{folder-facts, path-facts, step-fact, label-facts}
 use Rattle.stored.proofs.Laws.Tables.SetReads.{of-set}
 
 -- a run that ends at a label has at most the run before and the steps of its path

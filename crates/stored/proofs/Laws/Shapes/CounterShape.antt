@@ -9,7 +9,7 @@ use borrow.Author.Tests.{leb-true, eqb-true}
 use Rattle.theory.specs.Limits.{maxDepth, maxOpens}
 use Rattle.stored.specs.RunCalls.{depthOf, countersShaped}
 use Rattle.stored.specs.declared.counters.Counters.{Counters}
-use Rattle.theory.proofs.Laws.Basics.{both}
+use Rattle.text.proofs.Laws.Tests.{both}
 
 module _ (run : List ℕ) (c : Counters) (h : countersShaped run c ≡ true) where
   pub closes-fit : c .closes ≤ 65535

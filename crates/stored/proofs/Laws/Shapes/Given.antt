@@ -1,20 +1,18 @@
 -- The refusals of the calls on a run, condition by condition, and what an accepted call may rely on.
 use Prim.Native.Nat.{ℕ, suc, _+_, _≤_, _<_}
 use mathlib.Core.Path.{_≡_, refl, sym, _∙_, ap}
-use mathlib.Core.Bool.{Bool, true, false, not, _&&_, _||_}
+use mathlib.Core.Bool.{Bool, true, false, not, _&&_}
 use mathlib.Core.List.{List, [], _∷_, _++_}
 use native.Mathlib.Omega.{arith}
 use lib.Dec.{leb, ltb, eqb}
 use lib.ListN.{length, drop, set, replicate, length-set, length-replicate}
 use lib.Seq.{sets, set-append-left}
 use borrow.Author.Tests.{le-ltb, ltb-false, not-false, leb-false}
-use Rattle.notation.specs.Names.{Name, nameForm, tooLong}
-use Rattle.notation.specs.Limits.{maxName}
-use Rattle.notation.specs.Layout.{le16}
-use Rattle.notation.specs.Activity.{sameName}
-use Rattle.notation.specs.Refusals.{shortBuffer, longName, full, torn, looseEnd, tooDeep, crossed, noSuchPlace, strangeShape}
+use Rattle.text.specs.Names.{Name, nameForm, tooLong, maxName, sameName}
+use Rattle.text.specs.Bytes.{le16}
+use Rattle.text.specs.Refusals.{shortBuffer, longName, full, torn, looseEnd, tooDeep, crossed, noSuchPlace, strangeShape}
 use Rattle.theory.specs.Limits.{maxDepth, maxOpens}
-use Rattle.theory.specs.Order.{gives, given, first}
+use Rattle.text.specs.Order.{gives, given, first}
 use Rattle.stored.specs.Automaton.{automatonSize}
 use Rattle.stored.specs.Tables.{startOf}
 use Rattle.stored.specs.Shape.{automatonShaped}
@@ -23,12 +21,8 @@ use Rattle.stored.specs.RunCalls.{depthOf, storedName, runShaped, counte
 use Rattle.stored.specs.Asking.{askRefusal}
 use Rattle.stored.specs.Openable.{Ready, Usable}
 use Rattle.stored.specs.declared.counters.Counters.{Counters}
-use Rattle.theory.proofs.Laws.Basics.{both}
-use Rattle.theory.proofs.Laws.Machine.Order.{not-given, given-first, given-then}
-
-neither : (a b : Bool) → (a || b) ≡ false → (a ≡ false) × (b ≡ false)
-neither true b h = absurd (let z : _≡_ {A = Bool} true false = h in let o : _≡_ {A = ℕ} 0 1 = cc in omega arith)
-neither false b h = (refl, h)
+use Rattle.text.proofs.Laws.Tests.{both, neither}
+use Rattle.text.proofs.Laws.Order.{not-given, given-first, given-then}
 
 pub long-enough : (a run : List ℕ) → tooShort a run ≡ false → (automatonSize ≤ length a) × (runSize ≤ length run)
 long-enough a run h = let n = neither (ltb (length a) automatonSize) (ltb (length run) runSize) h in (ltb-false _ _ (n .0), ltb-false _ _ (n .1))

@@ -9,9 +9,9 @@ use lib.Dec.{leb, eqb}
 use lib.ListN.{length, getD, drop, replicate, length-append, length-drop, length-replicate, getD-replicate, List·getD-append}
 use lib.Seq.{sets, length-sets}
 use borrow.Author.Tests.{leb-true, leb-false, le-leb, eqb-true, eq-eqb, eqb-false}
-use Rattle.notation.specs.Names.{Name}
-use Rattle.notation.specs.Limits.{maxName, maxSteps, maxLabels}
-use Rattle.notation.specs.Layout.{le16, padded}
+use Rattle.text.specs.Names.{Name, maxName}
+use Rattle.notation.specs.Limits.{maxSteps, maxLabels}
+use Rattle.text.specs.Bytes.{le16, padded}
 use Rattle.notation.specs.Reads.{word16, labelCount}
 use Rattle.notation.proofs.Laws.Stored.Stands.{Stands}
 use Rattle.notation.proofs.Laws.Stored.Words.{word-read}
@@ -24,7 +24,7 @@ use Rattle.stored.specs.Run.{matchesAt, rowsAt, nameIn, stateIn, activeI
 use Rattle.stored.specs.RunCalls.{depthOf, nameLength, stateAt, rowShaped, runShaped, countersShaped, startRefusal, openRefusal, closeRefusal, startRun, noCounters, usedBytes, usedBits, nowActive, nowSeen, nowMatched, openWalk, stepBits, rowOpened, withRow, openRun, openCounters, closeRun, closeCounters}
 use Rattle.stored.specs.Openable.{Ready, Usable}
 use Rattle.stored.specs.declared.counters.Counters.{Counters}
-use Rattle.theory.proofs.Laws.Basics.{cases, both, both-true}
+use Rattle.text.proofs.Laws.Tests.{cases, both, both-true}
 use Rattle.stored.proofs.Laws.Bytes.AllBelow.{is-all}
 use Rattle.stored.proofs.Laws.Bytes.Tabulate.{tabulate-length}
 use Rattle.stored.proofs.Laws.Bytes.Beside.{byte-before, byte-behind, rest-behind, word-stored, word-same, put-length, put-before, put-within, put-behind}

@@ -8,22 +8,20 @@ use borrow.Author.Tests.{le-leb, le-ltb, lt-ltb, eq-eqb, ne-eqb, leb-false}
 use lib.Dec.{ltb, eqb}
 use lib.ListN.{length, getD, take, length-append, length-map, length-reverse}
 use lib.Seq.{getD-at}
-use Rattle.notation.specs.Limits.{maxName}
-use Rattle.notation.specs.Names.{Name, nameForm, tooLong}
+use Rattle.text.specs.Names.{maxName, Name, nameForm, tooLong, sameName}
 use Rattle.notation.specs.Sets.{FolderSet}
-use Rattle.notation.specs.Form.{nonEmpty}
-use Rattle.notation.specs.Refusals.{torn, longName, looseEnd, crossed}
-use Rattle.notation.specs.Activity.{sameName}
+use Rattle.text.specs.Lists.{nonEmpty}
+use Rattle.text.specs.Refusals.{torn, longName, looseEnd, crossed}
 use Rattle.notation.specs.Reads.{labelCount}
 use Rattle.theory.specs.Limits.{maxDepth, maxOpens}
 use Rattle.theory.specs.Prefix.{prefixOf}
-use Rattle.theory.specs.Order.{Condition, gives, first, numberIn, given}
+use Rattle.text.specs.Order.{Condition, gives, first, numberIn, given}
 use Rattle.theory.specs.Calls.{Lent, openCall, closeCall, Level, level, nameOf, State, namesOf, openNames, depth, isInnermost, refusal}
 use Rattle.stored.specs.Automaton.{automatonSize, stateOf, allLabels}
 use Rattle.stored.specs.Run.{runSize, runOf}
 use Rattle.stored.specs.RunCalls.{depthOf, storedName, rowShaped, runShaped, countersShaped, shaped, tooShort, rootShut, openRefusal, closeRefusal}
 use Rattle.stored.specs.declared.counters.Counters.{Counters}
-use Rattle.theory.proofs.Laws.Basics.{both-true}
+use Rattle.text.proofs.Laws.Tests.{both-true}
 use Rattle.theory.proofs.Laws.Keywords.Prefix.{current-prefix}
 use Rattle.stored.proofs.Laws.Bytes.AllBelow.{is-all}
 use Rattle.stored.proofs.Laws.Tables.States.{state-within}

@@ -7,12 +7,12 @@ use native.Mathlib.Numerals.{add-one}
 use native.Mathlib.Omega.{arith}
 use borrow.Author.Tests.{lt-leb, le-leb, leb-true}
 use lib.Dec.{leb}
-use Rattle.notation.specs.Limits.{maxName}
+use Rattle.text.specs.Names.{maxName}
 use Rattle.notation.specs.Reads.{labelCount}
 use Rattle.theory.specs.Limits.{maxDepth}
 use Rattle.stored.specs.Shape.{allBelow}
 use Rattle.stored.specs.RunCalls.{depthOf, nameLength, stateAt, rowShaped, runShaped}
-use Rattle.theory.proofs.Laws.Basics.{both}
+use Rattle.text.proofs.Laws.Tests.{both}
 use Rattle.stored.proofs.Laws.Bytes.AllBelow.{all-fails, all-at}
 
 pub too-deep : (a run : List ℕ) → maxDepth < depthOf run → runShaped a run ≡ false

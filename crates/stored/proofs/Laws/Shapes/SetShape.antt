@@ -1,18 +1,19 @@
 -- The stored numbers of an accepted set are in their ranges: its bytes pass the part of the shape test that is about them.
 use Prim.Native.Nat.{ℕ, zero, suc, _+_, _*_, _≤_, _<_}
 use mathlib.Core.Path.{_≡_, refl, ap}
-use mathlib.Core.Bool.{Bool, true, false, _||_}
+use mathlib.Core.Bool.{Bool, true, false}
 use mathlib.Core.List.{List, [], _∷_, _++_, map}
 use native.Mathlib.Nat.{add-zero}
 use native.Mathlib.Omega.{arith}
 use lib.Dec.{leb}
 use lib.ListN.{length, getD, length-map}
 use borrow.Author.Tests.{leb-true, ltb-false}
-use Rattle.notation.specs.Names.{within, tooLong}
-use Rattle.notation.specs.Limits.{maxName, maxNumber, maxPaths, maxSteps, maxLabels}
+use Rattle.text.specs.Names.{within, tooLong, maxName}
+use Rattle.notation.specs.Limits.{maxNumber, maxPaths, maxSteps, maxLabels}
 use Rattle.notation.specs.Sets.{child, descendant, label, star, Step, step, Path, Folder, folder, FolderSet, folderNumber, folderPaths}
 use Rattle.notation.specs.Print.{print}
-use Rattle.notation.specs.Form.{any, every, nonEmpty, formedPath, formedFolder, formed, pathsOf, pathLong, pathsLong, namesLong}
+use Rattle.text.specs.Lists.{any, every, nonEmpty}
+use Rattle.notation.specs.Form.{formedPath, formedFolder, formed, pathsOf, pathLong, pathsLong, namesLong}
 use Rattle.notation.specs.Layout.{stepsAt, stepEntry, tablesOf, setPart}
 use Rattle.notation.specs.Reads.{folderCount, pathCount, stepCount, labelCount, storedNumber, storedFirst, folderAt, pathAt, labelAt}
 use Rattle.notation.specs.declared.reads.FolderAt.{FolderAt}
@@ -29,7 +30,7 @@ use Rattle.notation.proofs.Laws.Stored.Reads.{text-len, folders-read, paths-rea
 use Rattle.notation.proofs.Laws.Stored.ReadFolders.{folder-read}
 use Rattle.notation.proofs.Laws.Stored.ReadPaths.{path-read, label-read}
 use Rattle.stored.specs.Automaton.{allSteps, allLabels}
-use Rattle.theory.proofs.Laws.Basics.{both, both-true}
+use Rattle.text.proofs.Laws.Tests.{both, both-true, neither}
 use Rattle.stored.proofs.Laws.Shapes.Shaped.{FolderFacts, PathFacts, LabelFacts}
 
 -- a test of all elements, or of some, at each
@@ -38,10 +39,6 @@ unfolding every
 every-at f d [] h i b = absurd (omega arith)
 every-at f d (a ∷ l) h zero b = both (f a) (every f l) h .0
 every-at f d (a ∷ l) h (suc i) b = every-at f d l (both (f a) (every f l) h .1) i (omega arith)
-
-pub neither : (a b : Bool) → (a || b) ≡ false → (a ≡ false) × (b ≡ false)
-neither true b h = (h, cc)
-neither false b h = (refl, h)
 
 pub any-at : {A : Type 0} (f : A → Bool) (d : A) (l : List A) → any f l ≡ false → (i : ℕ) → i < length l → f (getD l i d) ≡ false
 unfolding any

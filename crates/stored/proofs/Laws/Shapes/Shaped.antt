@@ -8,15 +8,15 @@ use native.Mathlib.Omega.{arith}
 use lib.Dec.{leb, ltb, eqb}
 use lib.ListN.{getD}
 use borrow.Author.Tests.{leb-true, le-leb, ltb-true, lt-ltb, eqb-true}
-use Rattle.notation.specs.Names.{within}
-use Rattle.notation.specs.Limits.{maxName, maxSetBytes, maxNumber, maxPaths, maxSteps, maxLabels}
+use Rattle.text.specs.Names.{within, maxName}
+use Rattle.notation.specs.Limits.{maxSetBytes, maxNumber, maxPaths, maxSteps, maxLabels}
 use Rattle.notation.specs.Layout.{stepsAt}
 use Rattle.notation.specs.Reads.{word16, textLen, folderCount, pathCount, stepCount, labelCount, pathEntryAt, labelEntryAt, storedNumber, storedFirst}
 use Rattle.stored.specs.Automaton.{hashes}
 use Rattle.stored.specs.Tables.{headAt, nextAt, parentAt, failAt, sizeAt, startOf, sizeOf}
 use Rattle.stored.specs.Shape.{allBelow, countsShaped, folderShaped, pathShaped, stepShaped, labelShaped, headShaped, linkShaped, automatonShaped}
 use Rattle.stored.specs.Walkable.{Walkable}
-use Rattle.theory.proofs.Laws.Basics.{both, both-true, either, or-right}
+use Rattle.text.proofs.Laws.Tests.{both, both-true, either, either-right}
 use Rattle.stored.proofs.Laws.Bytes.AllBelow.{all-at, is-all}
 
 pub record Counts (a : List ℕ) : Type 0 where
@@ -87,7 +87,7 @@ is-onward : (n l next : ℕ) → next ≤ n → ((m : ℕ) → next ≡ suc m �
 is-onward n l zero h f = refl
 is-onward n l (suc m) h f =
     let b : l < m = f m refl in
-    or-right (eqb (suc m) 0) (both-true (lt-ltb (suc l) (suc m) (omega arith)) (le-leb (suc m) n h))
+    either-right (eqb (suc m) 0) (both-true (lt-ltb (suc l) (suc m) (omega arith)) (le-leb (suc m) n h))
 
 module _ (a : List ℕ) where
   counts-is : countsShaped a ≡ true → Counts a

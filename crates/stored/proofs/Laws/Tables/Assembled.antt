@@ -10,7 +10,8 @@ use lib.Seq.{sets, set-append-left}
 use Rattle.notation.specs.Limits.{maxLabels}
 use Rattle.notation.specs.Sets.{FolderSet}
 use Rattle.notation.specs.Print.{print}
-use Rattle.notation.specs.Layout.{setSize, setPart, tablesOf, le16, joined, padded}
+use Rattle.notation.specs.Layout.{setSize, setPart, tablesOf}
+use Rattle.text.specs.Bytes.{le16, joined, padded}
 use Rattle.notation.specs.Reads.{word16}
 use Rattle.notation.proofs.Laws.Stored.Stands.{Stands, left, right, read}
 use Rattle.notation.proofs.Laws.Stored.Sections.{layout-length}

@@ -7,16 +7,15 @@ use native.Mathlib.Omega.{arith}
 use borrow.Author.Tests.{eq-eqb, eqb-true}
 use lib.ListN.{length, getD, drop}
 use lib.Seq.{drop-cons}
-use Rattle.notation.specs.Names.{Name}
+use Rattle.text.specs.Names.{Name, sameName}
 use Rattle.notation.specs.Limits.{maxLabels}
 use Rattle.notation.specs.Sets.{FolderSet}
-use Rattle.notation.specs.Activity.{sameName}
 use Rattle.notation.specs.Reads.{labelName}
 use Rattle.stored.specs.Automaton.{hash, find, allLabels, hasHash}
 use Rattle.stored.specs.Tables.{nextAt}
 use Rattle.stored.specs.Chain.{chainFrom, chainLabels}
 use Rattle.stored.specs.Compiled.{placesOf}
-use Rattle.theory.proofs.Laws.Basics.{cases, clash}
+use Rattle.text.proofs.Laws.Tests.{cases, clash}
 use Rattle.theory.proofs.Laws.Keywords.Words.{same-name}
 use Rattle.stored.proofs.Laws.Bytes.Finding.{find-here, find-later, find-empty}
 use Rattle.stored.proofs.Laws.Tables.Goto.{Chained, hash-small, next-at, past-end}

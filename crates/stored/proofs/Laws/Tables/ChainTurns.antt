@@ -5,10 +5,10 @@ use mathlib.Core.Bool.{Bool, true, false, _||_}
 use mathlib.Core.List.{List, [], _∷_, _++_}
 use native.Mathlib.Omega.{arith}
 use lib.ListN.{length}
-use Rattle.notation.specs.Names.{Name}
+use Rattle.text.specs.Names.{Name}
 use Rattle.notation.specs.Limits.{maxLabels}
 use Rattle.notation.specs.Reads.{labelCount}
-use Rattle.notation.specs.Form.{any}
+use Rattle.text.specs.Lists.{any}
 use Rattle.stored.specs.Automaton.{automatonSize}
 use Rattle.stored.specs.Tables.{nextAt}
 use Rattle.stored.specs.Chain.{ownLabel, chainFrom}

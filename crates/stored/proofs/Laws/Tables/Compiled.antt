@@ -25,7 +25,7 @@ use Rattle.stored.specs.Automaton.{hashes, maskSize, masksAt, allLabels,
 use Rattle.stored.specs.Tables.{startOf, sizeAt, sizeOf}
 use Rattle.stored.specs.Bits.{bitOf, bitIn}
 use Rattle.stored.specs.Compiled.{LabelStep, Compiled}
-use Rattle.theory.proofs.Laws.Basics.{cases}
+use Rattle.text.proofs.Laws.Tests.{cases}
 use Rattle.theory.proofs.Laws.Keywords.Prefix.{longest-end}
 use Rattle.theory.proofs.Laws.Keywords.Labels.{LabelWord}
 use Rattle.stored.proofs.Laws.Bytes.Tabulate.{tabulate-length}

@@ -7,14 +7,14 @@ use mathlib.Core.List.{List}
 use native.Mathlib.Omega.{arith}
 use lib.Dec.{eqb}
 use borrow.Author.Tests.{eqb-true, eqb-false, eq-eqb, ne-eqb}
-use Rattle.notation.specs.Names.{Name}
+use Rattle.text.specs.Names.{Name}
 use Rattle.notation.specs.Limits.{maxSteps, maxLabels}
 use Rattle.notation.specs.Reads.{labelCount}
 use Rattle.stored.specs.Automaton.{hash}
 use Rattle.stored.specs.Tables.{headAt, nextAt, sizeOf, failOf, follows, gotoFrom, goto, oneMore, walkFrom, walkOver}
 use Rattle.stored.specs.Walkable.{Searchable, Falling, Walkable}
 use Rattle.stored.specs.declared.walk.Walk.{Walk}
-use Rattle.theory.proofs.Laws.Basics.{cases}
+use Rattle.text.proofs.Laws.Tests.{cases}
 use Rattle.stored.proofs.Laws.Tables.Goto.{hash-small, goto-end}
 
 module _ (a : List ℕ) (c : Searchable a) (q : ℕ) (e : Name) where

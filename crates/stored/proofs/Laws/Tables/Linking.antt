@@ -8,10 +8,11 @@ use mathlib.Core.Logic.{inl}
 use mathlib.Core.Bool.{true}
 use mathlib.Core.List.{List, [], _∷_, _++_}
 use lib.ListN.{length, getD, replicate, length-replicate, getD-replicate}
-use Rattle.notation.specs.Names.{Name}
+use Rattle.text.specs.Names.{Name}
 use Rattle.notation.specs.Limits.{maxLabels}
 use Rattle.notation.specs.Sets.{FolderSet}
-use Rattle.notation.specs.Form.{pathsOf, nonEmpty, every}
+use Rattle.notation.specs.Form.{pathsOf}
+use Rattle.text.specs.Lists.{nonEmpty, every}
 use Rattle.notation.specs.Reads.{stepCount, labelCount}
 use Rattle.notation.proofs.Laws.Refused.Fitting.{Fitting}
 use Rattle.theory.specs.Words.{Word}

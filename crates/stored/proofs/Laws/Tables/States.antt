@@ -6,7 +6,7 @@ use mathlib.Core.Logic.{_⊎_, inl, inr}
 use mathlib.Core.List.{List, [], _∷_, _++_, tail-eq-of-cons-eq, head-eq-of-cons-eq, List·Memᴰ, List·Memᴰ·head, List·Memᴰ·tail, List·Memᴰ·not-nil, List·Memᴰ·cases-cons, List·Memᴰ·append-cases, Memᴰ·append-left, Memᴰ·append-right, Memᴰ·cast}
 use native.Mathlib.Omega.{arith}
 use lib.ListN.{length, getD, length-append}
-use Rattle.notation.specs.Names.{Name}
+use Rattle.text.specs.Names.{Name}
 use Rattle.notation.specs.Sets.{child, descendant, label, star, step, Path, FolderSet}
 use Rattle.notation.specs.Form.{pathsOf, stepsOf, labelsOf}
 use Rattle.notation.proofs.Laws.Scan.TableSizes.{labels-append}
@@ -14,7 +14,7 @@ use Rattle.theory.specs.Words.{document, name, Word, sameSymbol, before, labelW
 use Rattle.theory.specs.Prefix.{IsPrefix}
 use Rattle.theory.specs.Walk.{followedBy}
 use Rattle.stored.specs.Automaton.{find, allLabels, wordsIn, allWords, sameWord, stateIn, stateOf, shortened}
-use Rattle.theory.proofs.Laws.Basics.{both, both-true, cases, clash}
+use Rattle.text.proofs.Laws.Tests.{both, both-true, cases, clash}
 use Rattle.theory.proofs.Laws.Keywords.Words.{same-symbol, symbol-same, begins-is, is-begins, begins-shorter}
 use Rattle.theory.proofs.Laws.Keywords.Labels.{LabelWord, begins-label, Kind, empty, root, labelled, begins-kind}
 use Rattle.stored.proofs.Laws.Bytes.Finding.{find-none, find-some}

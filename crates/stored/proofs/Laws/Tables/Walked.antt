@@ -8,7 +8,7 @@ use native.Mathlib.Omega.{arith}
 use borrow.Author.Tests.{ne-eqb}
 use lib.Dec.{eqb}
 use lib.ListN.{length, getD}
-use Rattle.notation.specs.Names.{Name}
+use Rattle.text.specs.Names.{Name}
 use Rattle.notation.specs.Sets.{FolderSet}
 use Rattle.theory.specs.Words.{Word, begins}
 use Rattle.theory.specs.Prefix.{IsPrefix, longestEnd, failure}
@@ -17,7 +17,7 @@ use Rattle.stored.specs.Automaton.{allLabels, allWords, stateIn, stateOf
 use Rattle.stored.specs.Tables.{failAt, sizeOf, failOf, goto, oneMore, walkFrom, walkOver}
 use Rattle.stored.specs.Compiled.{storedWalk}
 use Rattle.stored.specs.declared.walk.Walk.{Walk}
-use Rattle.theory.proofs.Laws.Basics.{cases}
+use Rattle.text.proofs.Laws.Tests.{cases}
 use Rattle.theory.proofs.Laws.Keywords.Words.{begins-is}
 use Rattle.theory.proofs.Laws.Keywords.Prefix.{failure-is, failure-shorter}
 use Rattle.theory.proofs.Laws.Keywords.Labels.{begins-label}

@@ -6,11 +6,12 @@ use mathlib.Core.Logic.{_⊎_, inl, inr}
 use mathlib.Core.List.{List, [], _∷_, _++_, tail-eq-of-cons-eq}
 use native.Mathlib.Omega.{arith}
 use lib.ListN.{length, length-append, length-map}
-use Rattle.notation.specs.Names.{Name}
+use Rattle.text.specs.Names.{Name}
 use Rattle.notation.specs.Sets.{FolderSet}
 use Rattle.theory.specs.Words.{Symbol, name, Word, Begins, begins}
 use Rattle.theory.specs.Prefix.{wordOf, EndOf, LongestEnd, LongestProperEnd, CurrentPrefix, longestEnd, prefixOf, failure}
-use Rattle.theory.proofs.Laws.Basics.{cases, clash, length-end}
+use Rattle.text.proofs.Laws.Tests.{cases, clash}
+use Rattle.text.proofs.Laws.Lists.{length-end}
 use Rattle.theory.proofs.Laws.Keywords.Words.{begins-is, is-begins, begins-shorter}
 
 pub longest-yes : (set : FolderSet) (s : Symbol) (w : Word) → begins set (s ∷ w) ≡ true → longestEnd set (s ∷ w) ≡ s ∷ w

@@ -5,12 +5,12 @@ use mathlib.Core.Bool.{true, false}
 use mathlib.Core.List.{List, [], _∷_, _++_, map}
 use native.Mathlib.Omega.{arith}
 use lib.ListN.{length, length-append}
-use Rattle.notation.specs.Names.{Name}
+use Rattle.text.specs.Names.{Name}
 use Rattle.notation.specs.Sets.{FolderSet}
 use Rattle.theory.specs.Words.{Symbol, document, name, Word, Begins, begins}
 use Rattle.theory.specs.Prefix.{wordOf, LongestProperEnd, longestEnd, prefixOf, failure}
 use Rattle.theory.specs.Walk.{followedBy, Walk, follows, stops, falls, Walked, walked, movesOf, arrivedAt, counted, arrive, walkIn, walk}
-use Rattle.theory.proofs.Laws.Basics.{cases, clash}
+use Rattle.text.proofs.Laws.Tests.{cases, clash}
 use Rattle.theory.proofs.Laws.Keywords.Words.{begins-is, is-begins}
 use Rattle.theory.proofs.Laws.Keywords.Prefix.{longest-yes, longest-no, longest-append, failure-is, failure-only, failure-shorter}
 

@@ -2,13 +2,14 @@
 use mathlib.Core.Path.{_≡_, refl, sym, _∙_, ap, ap₂}
 use mathlib.Core.Bool.{true}
 use mathlib.Core.List.{[], _∷_, _++_, append-assoc}
-use Rattle.notation.specs.Names.{Name}
+use Rattle.text.specs.Names.{Name, sameName}
 use Rattle.notation.specs.Sets.{FolderSet}
-use Rattle.notation.specs.Form.{pathsOf, any}
-use Rattle.notation.specs.Activity.{sameName}
-use Rattle.notation.proofs.Laws.Meaning.Fit.{sameName-is}
+use Rattle.notation.specs.Form.{pathsOf}
+use Rattle.text.specs.Lists.{any}
+use Rattle.text.proofs.Laws.Bytes.SameName.{sameName-is}
 use Rattle.theory.specs.Words.{Symbol, document, name, Word, keywords, Begins, sameSymbol, startsWith, begins}
-use Rattle.theory.proofs.Laws.Basics.{both, both-true, any-is, is-any, clash}
+use Rattle.text.proofs.Laws.Tests.{both, both-true, clash}
+use Rattle.text.proofs.Laws.Lists.{any-is, is-any}
 
 pub same-name : (a b : Name) → sameName a b ≡ true → a ≡ b
 same-name a b = sameName-is a b .0

@@ -9,7 +9,7 @@ use lib.Dec.{leb}
 use borrow.Author.Tests.{leb-false}
 use Rattle.notation.specs.Sets.{Path, Folder, folder, FolderSet, folderNumber, folderPaths}
 use Rattle.notation.specs.Form.{pathsFaults, faultsAfter, faults}
-use Rattle.notation.specs.Refusals.{Refusal, outOfTurn}
+use Rattle.text.specs.Refusals.{Refusal, outOfTurn}
 use Rattle.notation.specs.Fit.{Fits}
 use Rattle.theory.specs.Calls.{asLeft, Call, openCall, openNames, pathAt, run}
 use Rattle.theory.specs.Folders.{placesOf, folderMatched, HasFolders}

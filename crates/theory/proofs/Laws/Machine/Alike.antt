@@ -4,13 +4,12 @@ use mathlib.Core.Path.{_≡_, refl, sym, _∙_, ap}
 use mathlib.Core.Bool.{not}
 use mathlib.Core.List.{List, [], _∷_, map, reverse, nil≢cons, cons≢nil, head-eq-of-cons-eq, tail-eq-of-cons-eq}
 use lib.ListN.{length}
-use Rattle.notation.specs.Names.{Name}
+use Rattle.text.specs.Names.{Name, sameName}
 use Rattle.notation.specs.Sets.{FolderSet}
-use Rattle.notation.specs.Form.{nonEmpty}
-use Rattle.notation.specs.Activity.{sameName}
-use Rattle.theory.specs.Order.{first}
+use Rattle.text.specs.Lists.{nonEmpty}
+use Rattle.text.specs.Order.{first}
 use Rattle.theory.specs.Calls.{Call, openCall, closeCall, Level, level, nameOf, State, openNames, fresh, opened, closedFrom, isInnermost, refusal, accepted, done, step, after, run}
-use Rattle.theory.proofs.Laws.Basics.{cases}
+use Rattle.text.proofs.Laws.Tests.{cases}
 use Rattle.theory.proofs.Laws.Machine.Steps.{step-accepted, step-refused}
 
 -- all but prefixes, matches and failure moves

@@ -7,7 +7,7 @@ use mathlib.Core.Logic.{_↔_}
 use mathlib.Core.List.{List, [], _∷_, _++_, append-assoc, append-nil, List·Memᴰ, List·Memᴰ·head, List·Memᴰ·tail}
 use native.Mathlib.Omega.{arith}
 use lib.ListN.{length}
-use Rattle.notation.specs.Names.{Name, nameForm, tooLong}
+use Rattle.text.specs.Names.{Name, nameForm, tooLong}
 use Rattle.notation.specs.Sets.{FolderSet}
 use Rattle.notation.specs.Fit.{Active}
 use Rattle.notation.specs.Activity.{active}

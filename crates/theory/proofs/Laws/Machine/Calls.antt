@@ -4,16 +4,16 @@ use mathlib.Core.Path.{_≡_, refl, sym, ap, subst}
 use mathlib.Core.Bool.{true, false, cond}
 use mathlib.Core.List.{List, [], _∷_, List·Memᴰ, List·Memᴰ·head, List·Memᴰ·tail}
 use borrow.Author.Tests.{leb-false, lt-leb, not-false}
-use Rattle.notation.specs.Names.{Name, nameForm, tooLong}
+use Rattle.text.specs.Names.{Name, nameForm, tooLong}
 use Rattle.notation.specs.Sets.{FolderSet}
-use Rattle.notation.proofs.Laws.Meaning.Fit.{sameName-is}
+use Rattle.text.proofs.Laws.Bytes.SameName.{sameName-is}
 use Rattle.theory.specs.Limits.{maxDepth, maxOpens}
 use Rattle.theory.specs.Words.{Word}
-use Rattle.theory.specs.Order.{Condition, holds, first}
+use Rattle.text.specs.Order.{Condition, holds, first}
 use Rattle.theory.specs.Calls.{asLeft, otherwise, Call, openCall, closeCall, Level, level, State, depth, opened, closedFrom, isInnermost, openOrder, closeOrder, refusal, accepted, done, step, after}
 use Rattle.theory.specs.History.{acceptedAfter}
-use Rattle.theory.proofs.Laws.Basics.{cases, clash}
-use Rattle.theory.proofs.Laws.Machine.Order.{first-none, is-none}
+use Rattle.text.proofs.Laws.Tests.{cases, clash}
+use Rattle.text.proofs.Laws.Order.{first-none, is-none}
 
 -- what an accepted open tells
 pub record Openable (s : State) (e : Name) : Type 0 where

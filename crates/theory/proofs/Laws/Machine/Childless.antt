@@ -6,7 +6,7 @@ use mathlib.Core.Bool.{true, false}
 use mathlib.Core.List.{List, [], _∷_, map}
 use native.Mathlib.Omega.{arith}
 use lib.ListN.{length, length-map, length-reverse}
-use Rattle.notation.specs.Names.{Name}
+use Rattle.text.specs.Names.{Name}
 use Rattle.notation.specs.Sets.{FolderSet}
 use Rattle.theory.specs.Walk.{walk, movesOf, arrivedAt}
 use Rattle.theory.specs.Calls.{asLeft, Call, openCall, closeCall, level, nameOf, State, openNames, depth, fresh, opened, closedFrom, run}

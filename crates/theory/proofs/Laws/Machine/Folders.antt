@@ -13,7 +13,8 @@ use Rattle.notation.specs.Sets.{Path, Folder, folder, FolderSet, folderNumber, 
 use Rattle.notation.specs.Form.{pathsOf}
 use Rattle.theory.specs.Calls.{State, pathAt}
 use Rattle.theory.specs.Folders.{countFrom, placesFrom, placesOf, FolderMatched, folderMatched}
-use Rattle.theory.proofs.Laws.Basics.{cases, any-is, is-any}
+use Rattle.text.proofs.Laws.Tests.{cases}
+use Rattle.text.proofs.Laws.Lists.{any-is, is-any}
 
 -- a folder is matched exactly when one of its paths is
 pub folder-matched : (set : FolderSet) (s : State) (number : ℕ) → (folderMatched set s number ≡ true) ↔ FolderMatched set s number

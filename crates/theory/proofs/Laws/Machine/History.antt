@@ -3,7 +3,7 @@ use Prim.Native.Nat.{ℕ, zero, suc}
 use mathlib.Core.Path.{_≡_, refl, sym, _∙_, ap}
 use mathlib.Core.List.{List, [], _∷_, map, reverse}
 use lib.ListN.{drop}
-use Rattle.notation.specs.Names.{Name}
+use Rattle.text.specs.Names.{Name}
 use Rattle.notation.specs.Sets.{FolderSet}
 use Rattle.theory.specs.Calls.{asLeft, Call, openCall, closeCall, Level, level, nameOf, State, openNames, fresh, opened, closedFrom, run}
 use Rattle.theory.specs.History.{acceptedCalls, opensIn, closesIn, unclosed, stillOpen}

@@ -8,14 +8,14 @@ use native.Mathlib.Omega.{arith}
 use lib.Dec.{ltb}
 use lib.ListN.{length, List·getD-eq-default}
 use borrow.Author.Tests.{ltb-true, ltb-false}
-use Rattle.notation.specs.Names.{Name}
+use Rattle.text.specs.Names.{Name}
 use Rattle.notation.specs.Sets.{Path, FolderSet}
 use Rattle.notation.specs.Form.{pathsOf}
 use Rattle.notation.specs.Activity.{fits}
 use Rattle.notation.proofs.Laws.Meaning.Fit.{fits-is}
 use Rattle.theory.specs.Calls.{asLeft, otherwise, Call, openCall, closeCall, Level, level, State, openNames, pathAt, fresh, opened, closedFrom, accepted, done, step, after, run}
 use Rattle.theory.specs.History.{FittedAfterOpen}
-use Rattle.theory.proofs.Laws.Basics.{cases, clash, either, or-left, or-right}
+use Rattle.text.proofs.Laws.Tests.{cases, clash, either, either-left, either-right}
 use Rattle.theory.proofs.Laws.Machine.Calls.{lent-otherwise-open, lent-otherwise-close}
 use Rattle.theory.proofs.Laws.Machine.Steps.{step-accepted, step-refused, after-append, one-more}
 
@@ -62,7 +62,7 @@ step-stays : (set : FolderSet) (s : State) (call : Call) (place : ℕ) → s .ma
 step-stays set s call place m = cases (accepted s call) (λ a. ap (λ (t : State). t .matched place) (step-accepted set s call a) ∙ go call) (λ a. ap (λ (t : State). t .matched place) (step-refused set s call a) ∙ m)
   where
     go : (call : Call) → done set s call .matched place ≡ true
-    go (openCall l e) = opened-matched set s e place ∙ or-left (fits (pathAt set place) (openNames (opened set s e))) m
+    go (openCall l e) = opened-matched set s e place ∙ either-left (fits (pathAt set place) (openNames (opened set s e))) m
     go (closeCall l e) = closed-matched (s .levels) s place ∙ m
 
 fits-matched : (set : FolderSet) (s : State) (call : Call) (place : ℕ) → OpenFits set s call place → step set s call .matched place ≡ true
@@ -73,7 +73,7 @@ fits-matched set s call place o =
     ap (λ (c : Call). step set s c .matched place) (o .isOpen)
     ∙ (ap (λ (t : State). t .matched place) e₁
     ∙ (opened-matched set s (o .name) place
-    ∙ or-right (s .matched place) (ap (λ (t : State). fits (pathAt set place) (openNames t)) (sym e₁) ∙ q)))
+    ∙ either-right (s .matched place) (ap (λ (t : State). fits (pathAt set place) (openNames t)) (sym e₁) ∙ q)))
 
 pub stays : (set : FolderSet) (calls : List Call) (s : State) (place : ℕ) → s .matched place ≡ true → after set s calls .matched place ≡ true
 unfolding after

@@ -2,7 +2,7 @@
 use Prim.Native.Nat.{_*_, _≤_}
 use mathlib.Core.List.{List, [], _∷_}
 use native.Mathlib.Omega.{arith}
-use Rattle.notation.specs.Names.{Name}
+use Rattle.text.specs.Names.{Name}
 use Rattle.notation.specs.Sets.{FolderSet}
 use Rattle.theory.specs.Limits.{maxDepth}
 use Rattle.theory.specs.Calls.{asLeft, Call, openCall, level, State, fresh, opened, closedFrom, run}

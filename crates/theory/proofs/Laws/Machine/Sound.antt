@@ -9,10 +9,9 @@ use native.Mathlib.Omega.{arith}
 use lib.Dec.{ltb}
 use lib.ListN.{length, length-map, length-reverse}
 use borrow.Author.Tests.{leb-false, lt-ltb}
-use Rattle.notation.specs.Limits.{maxName}
-use Rattle.notation.specs.Names.{Name, nameForm, tooLong}
+use Rattle.text.specs.Names.{maxName, Name, nameForm, tooLong}
 use Rattle.notation.specs.Sets.{FolderSet}
-use Rattle.notation.specs.Form.{nonEmpty}
+use Rattle.text.specs.Lists.{nonEmpty}
 use Rattle.theory.specs.Limits.{maxDepth, maxOpens}
 use Rattle.theory.specs.Words.{Word}
 use Rattle.theory.specs.Prefix.{longestEnd, prefixOf}

@@ -6,12 +6,12 @@ use mathlib.Core.Bool.{true, false}
 use mathlib.Core.Logic.{_↔_}
 use mathlib.Core.Option.{none, some}
 use mathlib.Core.List.{List, [], _∷_, _++_, map, reverse-cons}
-use Rattle.notation.specs.Names.{Name}
+use Rattle.text.specs.Names.{Name}
 use Rattle.notation.specs.Sets.{FolderSet}
-use Rattle.notation.specs.Refusals.{Refusal, numberOf}
-use Rattle.theory.specs.Order.{refusalOf, FirstOf}
+use Rattle.text.specs.Refusals.{Refusal, numberOf}
+use Rattle.text.specs.Order.{refusalOf, FirstOf}
 use Rattle.theory.specs.Calls.{asLeft, Call, openCall, closeCall, Level, nameOf, State, namesOf, openNames, fresh, opened, closedFrom, closed, openOrder, closeOrder, orderOf, refusal, accepted, done, step, after, run}
-use Rattle.theory.proofs.Laws.Machine.Order.{first-is, is-none, none-is}
+use Rattle.text.proofs.Laws.Order.{first-is, is-none, none-is}
 use Rattle.theory.proofs.Laws.Machine.Calls.{Closable, close-accepted}
 
 -- the orders, by number

@@ -1,7 +1,7 @@
 -- All that demand 3 says of the machine holds after every list of calls from a fresh one.
 use mathlib.Core.Path.{subst}
 use mathlib.Core.List.{List}
-use Rattle.notation.specs.Names.{Name}
+use Rattle.text.specs.Names.{Name}
 use Rattle.notation.specs.Sets.{FolderSet}
 use Rattle.theory.specs.Calls.{Call, run}
 use Rattle.theory.specs.History.{opensOf, SameAnswers}

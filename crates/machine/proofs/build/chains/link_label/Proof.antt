@@ -3,7 +3,7 @@ use Prim.Native.Nat.{ℕ, _+_, _*_}
 use mathlib.Core.Path.{_≡_, _∙_, ap}
 use mathlib.Core.List.{List}
 use native.Mathlib.Omega.{arith}
-use Rattle.notation.specs.Layout.{le16}
+use Rattle.text.specs.Bytes.{le16}
 use Rattle.notation.specs.Reads.{labelName}
 use Rattle.stored.specs.Tables.{headAt}
 use Rattle.stored.specs.Code.Chains.{linked}

@@ -1,5 +1,5 @@
 -- `build::fails::fail_label`: the link is stored where the length is the one that is asked for.
-use Rattle.notation.specs.Layout.{le16}
+use Rattle.text.specs.Bytes.{le16}
 use lib.Seq.{sets}
 use borrow.Author.Tests.{eq-eqb, ne-eqb}
 use Rattle.stored.specs.Code.Fails.{failTo, failedIf}

@@ -5,7 +5,7 @@ use mathlib.Core.List.{List}
 use native.Mathlib.Omega.{arith}
 use lib.Seq.{sets}
 use Rattle.notation.specs.Limits.{maxLabels}
-use Rattle.notation.specs.Layout.{le16}
+use Rattle.text.specs.Bytes.{le16}
 use Rattle.stored.specs.Automaton.{linksAt, linkSize}
 use Rattle.stored.specs.Tables.{sizeOf}
 use Rattle.stored.specs.Code.Parents.{wordStored}

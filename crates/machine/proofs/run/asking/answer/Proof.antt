@@ -1,5 +1,5 @@
 use mathlib.Core.Path.{sym}
-use Rattle.notation.proofs.Laws.Said.{said-refused}
+use Rattle.text.proofs.Laws.Said.{said-refused}
 use Rattle.machine.proofs.run.asking.answer.Statement.{statement}
 use Rattle.machine.proofs.run.asking.answer.Tie as tie
 

@@ -1,9 +1,9 @@
 use native.Mathlib.Omega.{arith}
 use mathlib.Core.Path.{_≡_, sym, _∙_, ap}
 use Prim.Native.Nat.{ℕ, _+_, _-_}
-use Rattle.notation.specs.Names.{within}
-use Rattle.notation.specs.Answers.{said}
-use Rattle.notation.proofs.Laws.Said.{said-refused}
+use Rattle.text.specs.Names.{within}
+use Rattle.text.specs.Answers.{said}
+use Rattle.text.proofs.Laws.Said.{said-refused}
 use Rattle.stored.specs.Asking.{askRefusal}
 use Rattle.stored.specs.RunCalls.{depthOf, activeAt}
 use Rattle.stored.proofs.Laws.Running.Answered.{step-low}

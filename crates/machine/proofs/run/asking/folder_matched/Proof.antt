@@ -1,5 +1,5 @@
 use mathlib.Core.Path.{sym, _∙_}
-use Rattle.notation.specs.Form.{any}
+use Rattle.text.specs.Lists.{any}
 use Rattle.stored.specs.Asking.{askFolder}
 use borrow.Author.Needs.{needs}
 use Rattle.machine.proofs.run.asking.folder_matched.Statement.{statement}

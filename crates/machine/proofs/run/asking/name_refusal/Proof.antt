@@ -1,6 +1,6 @@
 use mathlib.Core.Path.{_∙_, ap}
 use Prim.Native.Nat.{ℕ}
-use Rattle.notation.specs.Names.{within}
+use Rattle.text.specs.Names.{within}
 use Rattle.stored.specs.Asking.{askRefusal, nameRefusal}
 use borrow.Author.Needs.{needs}
 use Rattle.machine.proofs.run.asking.name_refusal.Statement.{statement}

@@ -1,5 +1,5 @@
 use mathlib.Core.Path.{_∙_, ap, ap₂}
-use Rattle.notation.specs.Answers.{said}
+use Rattle.text.specs.Answers.{said}
 use Rattle.stored.specs.Asking.{askRefusal, askPath}
 use borrow.Author.Needs.{needs}
 use Rattle.machine.proofs.run.asking.path_matched.Statement.{statement}

@@ -4,8 +4,8 @@ use mathlib.Core.Bool.{true}
 use Prim.Native.Nat.{ℕ}
 use Rattle.stored.specs.Tables.{sizeOf}
 use Rattle.stored.specs.RunCalls.{depthOf, stateAt}
-use Rattle.notation.specs.Answers.{value, said}
-use Rattle.notation.proofs.Laws.Said.{said-refused}
+use Rattle.text.specs.Answers.{value, said}
+use Rattle.text.proofs.Laws.Said.{said-refused}
 use Rattle.stored.specs.Asking.{askRefusal, askPrefix}
 use Rattle.stored.proofs.Laws.Shapes.Given.{may-ask}
 use Rattle.stored.proofs.Laws.Shapes.RunShape.{run-shape}

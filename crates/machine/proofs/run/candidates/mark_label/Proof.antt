@@ -3,7 +3,7 @@ use mathlib.Core.Path.{_≡_, sym, _∙_, ap}
 use mathlib.Core.Bool.{true, false, _||_}
 use Prim.Native.Nat.{ℕ}
 use lib.Dec.{eqb}
-use Rattle.notation.specs.Activity.{sameName}
+use Rattle.text.specs.Names.{sameName}
 use Rattle.notation.specs.Layout.{labelsAt, labelSize}
 use Rattle.notation.specs.Limits.{maxLabels, maxPaths, maxSteps}
 use Rattle.notation.specs.Reads.{labelName}

@@ -7,7 +7,7 @@ use lib.Dec.{eqb}
 use lib.ListN.{length}
 use Rattle.notation.specs.Limits.{maxLabels}
 use Rattle.notation.specs.Reads.{word16, labelCount, labelEntryAt}
-use Rattle.notation.specs.Form.{any}
+use Rattle.text.specs.Lists.{any}
 use Rattle.stored.specs.Automaton.{hashes, hash, headsAt, linksAt, linkSize, automatonSize}
 use Rattle.stored.specs.Tables.{headAt, nextAt}
 use Rattle.stored.specs.Bits.{bitAt}

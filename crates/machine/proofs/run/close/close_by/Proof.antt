@@ -8,22 +8,22 @@ use borrow.Author.Needs.{needs}
 use Rattle.machine.proofs.run.close.close_by.Statement.{statement}
 use Rattle.machine.proofs.run.close.close_by.Tie as tie
 
-lent-refusal-requires : tie.Need-lent-refusal-requires
-lent-refusal-requires c κs = search needs
+refusal-requires : tie.Need-refusal-requires
+refusal-requires c κs = search needs
 
 same-length : tie.Need-same-length
 same-length c = search needs
 
 returns : tie.Need-returns
 returns c = let b = c .before .before .before .before .before .before .args in
-    let s = c .before .lent-refusal .ensures in
-    let f : closeRefusal (b .a .now) (b .run .now) (b .counters) (b .e .now) ≡ c .before .lent-refusal .result = close-lent (b .a .now) (b .run .now) (b .counters) (b .e .now) (λ z. c .if1 .taken (s ∙ z)) ∙ sym s in
+    let s = c .before .refusal .ensures in
+    let f : closeRefusal (b .a .now) (b .run .now) (b .counters) (b .e .now) ≡ c .before .refusal .result = close-lent (b .a .now) (b .run .now) (b .counters) (b .e .now) (λ z. c .if1 .taken (s ∙ z)) ∙ sym s in
     let n : eqb (closeRefusal (b .a .now) (b .run .now) (b .counters) (b .e .now)) 0 ≡ false = ne-eqb _ _ (λ z. c .if1 .taken (sym f ∙ z)) in
     record { answers = sym f; runAfter = rw n; countersAfter = rw n }
 
 close-usable-requires : tie.Need-close-usable-requires
 close-usable-requires c κs = let b = c .before .before .before .before .before .before .before .args in
-    lent-usable (b .a .now) (b .run .now) (b .counters) (sym (c .before .before .lent-refusal .ensures) ∙ c .before .if1 .left)
+    lent-usable (b .a .now) (b .run .now) (b .counters) (sym (c .before .before .refusal .ensures) ∙ c .before .if1 .left)
 
 same-length-2 : tie.Need-same-length-2
 same-length-2 c = search needs
@@ -35,7 +35,7 @@ pub close-by-spec : {M : Type 1} → statement M
 close-by-spec =
     tie.close
     (tie.spec
-    lent-refusal-requires
+    refusal-requires
     same-length
     returns
     close-usable-requires

@@ -1,7 +1,7 @@
 use native.Mathlib.Omega.{arith}
 use mathlib.Core.Path.{sym, _∙_, ap}
 use Rattle.stored.specs.HeldSet.{topHeld}
-use Rattle.notation.specs.Form.{any}
+use Rattle.text.specs.Lists.{any}
 use borrow.Author.Needs.{needs}
 use Rattle.machine.proofs.run.matches.folder_paths_matched.Statement.{statement}
 use Rattle.machine.proofs.run.matches.folder_paths_matched.Tie as tie

@@ -3,31 +3,31 @@ use mathlib.Core.Bool.{false}
 use Prim.Native.Nat.{ℕ}
 use lib.Dec.{eqb}
 use borrow.Author.Tests.{ne-eqb}
-use Rattle.notation.specs.Answers.{refused}
-use Rattle.notation.proofs.Laws.Said.{said-refused}
+use Rattle.text.specs.Answers.{refused}
+use Rattle.text.proofs.Laws.Said.{said-refused}
 use Rattle.stored.specs.RunCalls.{openRefusal}
 use Rattle.stored.proofs.Laws.Shapes.Given.{lent-usable, open-lent}
 use borrow.Author.Needs.{needs}
 use Rattle.machine.proofs.run.open.open_by.Statement.{statement}
 use Rattle.machine.proofs.run.open.open_by.Tie as tie
 
-lent-refusal-requires : tie.Need-lent-refusal-requires
-lent-refusal-requires c κs = search needs
+refusal-requires : tie.Need-refusal-requires
+refusal-requires c κs = search needs
 
 same-length : tie.Need-same-length
 same-length c = search needs
 
 returns : tie.Need-returns
 returns c = let b = c .before .before .before .before .before .before .args in
-    let s = c .before .lent-refusal .ensures in
-    let f : openRefusal (b .a .now) (b .run .now) (b .counters) (b .e .now) ≡ c .before .lent-refusal .result = open-lent (b .a .now) (b .run .now) (b .counters) (b .e .now) (λ z. c .if1 .taken (s ∙ z)) ∙ sym s in
+    let s = c .before .refusal .ensures in
+    let f : openRefusal (b .a .now) (b .run .now) (b .counters) (b .e .now) ≡ c .before .refusal .result = open-lent (b .a .now) (b .run .now) (b .counters) (b .e .now) (λ z. c .if1 .taken (s ∙ z)) ∙ sym s in
     let y : openRefusal (b .a .now) (b .run .now) (b .counters) (b .e .now) ≡ 0 → ⊥ = λ z. c .if1 .taken (sym f ∙ z) in
     let n : eqb (openRefusal (b .a .now) (b .run .now) (b .counters) (b .e .now)) 0 ≡ false = ne-eqb _ _ y in
     record { answers = ap (λ (r : ℕ). refused r) (sym f) ∙ sym (said-refused (openRefusal (b .a .now) (b .run .now) (b .counters) (b .e .now)) _ y); runAfter = rw n; countersAfter = rw n }
 
 open-usable-requires : tie.Need-open-usable-requires
 open-usable-requires c κs = let b = c .before .before .before .before .before .before .before .args in
-    lent-usable (b .a .now) (b .run .now) (b .counters) (sym (c .before .before .lent-refusal .ensures) ∙ c .before .if1 .left)
+    lent-usable (b .a .now) (b .run .now) (b .counters) (sym (c .before .before .refusal .ensures) ∙ c .before .if1 .left)
 
 same-length-2 : tie.Need-same-length-2
 same-length-2 c = search needs
@@ -39,7 +39,7 @@ pub open-by-spec : {M : Type 1} → statement M
 open-by-spec =
     tie.close
     (tie.spec
-    lent-refusal-requires
+    refusal-requires
     same-length
     returns
     open-usable-requires

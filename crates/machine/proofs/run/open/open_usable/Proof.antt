@@ -5,8 +5,8 @@ use Prim.Native.Nat.{ℕ, _+_}
 use lib.Dec.{eqb}
 use borrow.Author.Tests.{eq-eqb, ne-eqb}
 use Rattle.notation.specs.Limits.{maxSteps}
-use Rattle.notation.specs.Answers.{refused, value}
-use Rattle.notation.proofs.Laws.Said.{said-value, said-refused}
+use Rattle.text.specs.Answers.{refused, value}
+use Rattle.text.proofs.Laws.Said.{said-value, said-refused}
 use Rattle.theory.specs.Limits.{maxOpens}
 use Rattle.stored.specs.RunCalls.{openRefusal, openCounters}
 use Rattle.stored.specs.declared.walk.Walk.{Walk}

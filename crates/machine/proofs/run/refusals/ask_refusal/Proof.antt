@@ -2,7 +2,7 @@ use mathlib.Core.Path.{sym, _∙_}
 use borrow.Author.Tests.{lt-ltb, le-ltb, not-true, not-false}
 use Rattle.stored.specs.Automaton.{automatonSize}
 use Rattle.stored.specs.Run.{runSize}
-use Rattle.theory.specs.Order.{first, given}
+use Rattle.text.specs.Order.{first, given}
 use Rattle.stored.specs.Asking.{askRefusal}
 use borrow.Author.Needs.{needs}
 use Rattle.machine.proofs.run.refusals.ask_refusal.Statement.{statement}

@@ -4,8 +4,8 @@ use mathlib.Core.List.{List}
 use native.Mathlib.Omega.{arith}
 use Prim.Native.Nat.{ℕ}
 use borrow.Author.Tests.{eq-eqb, ne-eqb, not-true, not-false}
-use Rattle.notation.specs.Activity.{sameName}
-use Rattle.theory.specs.Order.{first, given}
+use Rattle.text.specs.Names.{sameName}
+use Rattle.text.specs.Order.{first, given}
 use Rattle.stored.specs.RunCalls.{storedName, depthOf}
 use Rattle.stored.proofs.Laws.Shapes.Given.{close-name, close-named}
 use Rattle.stored.proofs.Laws.Running.OpenName.{row-name}

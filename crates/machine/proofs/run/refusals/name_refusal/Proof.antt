@@ -1,6 +1,6 @@
 use mathlib.Core.Path.{sym, _∙_}
 use borrow.Author.Tests.{not-true, not-false}
-use Rattle.theory.specs.Order.{first, given}
+use Rattle.text.specs.Order.{first, given}
 use borrow.Author.Needs.{needs}
 use Rattle.machine.proofs.run.refusals.name_refusal.Statement.{statement}
 use Rattle.machine.proofs.run.refusals.name_refusal.Tie as tie

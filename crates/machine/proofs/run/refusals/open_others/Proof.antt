@@ -1,7 +1,7 @@
 use mathlib.Core.Path.{sym, _∙_}
 use borrow.Author.Tests.{le-leb, lt-leb}
 use Rattle.theory.specs.Limits.{maxDepth, maxOpens}
-use Rattle.theory.specs.Order.{first, given}
+use Rattle.text.specs.Order.{first, given}
 use Rattle.stored.proofs.Laws.Shapes.Given.{open-name, open-named}
 use borrow.Author.Needs.{needs}
 use Rattle.machine.proofs.run.refusals.open_others.Statement.{statement}

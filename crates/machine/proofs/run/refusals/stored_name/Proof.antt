@@ -3,7 +3,7 @@ use native.Mathlib.Nat.{add-comm}
 use mathlib.Core.Path.{_≡_, _∙_, ap, ap₂}
 use Prim.Native.Nat.{ℕ, _+_, _-_}
 use lib.ListN.{take, drop}
-use Rattle.notation.specs.Limits.{maxName}
+use Rattle.text.specs.Names.{maxName}
 use Rattle.stored.specs.Run.{rowAt, rowSize, runSize, nameIn}
 use Rattle.stored.proofs.Laws.Shapes.RunShape.{run-shape}
 use borrow.Author.Needs.{needs}

@@ -4,7 +4,7 @@ use mathlib.Core.List.{List}
 use Prim.Native.Nat.{ℕ, _+_, _-_}
 use lib.ListN.{length, replicate, length-set}
 use lib.Seq.{sets}
-use Rattle.notation.specs.Limits.{maxName}
+use Rattle.text.specs.Names.{maxName}
 use Rattle.stored.specs.Run.{rowSize}
 use Rattle.stored.proofs.Laws.Running.Written.{name-written}
 use borrow.Author.Needs.{needs}

@@ -1,6 +1,6 @@
 use native.Mathlib.Numerals.{add-one}
 use borrow.Author.Tests.{lt-leb, le-leb}
-use Rattle.notation.specs.Limits.{maxName}
+use Rattle.text.specs.Names.{maxName}
 use borrow.Author.Needs.{needs}
 use Rattle.machine.proofs.run.shape.row_shaped.Statement.{statement}
 use Rattle.machine.proofs.run.shape.row_shaped.Tie as tie

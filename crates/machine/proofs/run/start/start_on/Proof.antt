@@ -3,7 +3,7 @@ use mathlib.Core.List.{List, _++_}
 use Prim.Native.Nat.{ℕ}
 use lib.ListN.{drop, replicate}
 use lib.Seq.{sets}
-use Rattle.notation.specs.Layout.{le16}
+use Rattle.text.specs.Bytes.{le16}
 use Rattle.stored.specs.Automaton.{startAt}
 use Rattle.stored.specs.Run.{rowsAt, rowSize, stateIn, runSize}
 use Rattle.stored.proofs.Laws.Shapes.Given.{started}

@@ -2,7 +2,7 @@ use mathlib.Core.Path.{sym, _∙_}
 use borrow.Author.Tests.{lt-ltb, le-ltb}
 use Rattle.stored.specs.Automaton.{automatonSize}
 use Rattle.stored.specs.Run.{runSize}
-use Rattle.theory.specs.Order.{first, given}
+use Rattle.text.specs.Order.{first, given}
 use Rattle.stored.specs.RunCalls.{startRefusal}
 use borrow.Author.Needs.{needs}
 use Rattle.machine.proofs.run.start.start_refusal.Statement.{statement}

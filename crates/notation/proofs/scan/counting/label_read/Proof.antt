@@ -1,5 +1,5 @@
 use mathlib.Core.Path.{_∙_}
-use Rattle.notation.specs.Limits.{maxName}
+use Rattle.text.specs.Names.{maxName}
 use borrow.Author.Needs.{needs}
 use Rattle.notation.proofs.scan.counting.label_read.Statement.{statement}
 use Rattle.notation.proofs.scan.counting.label_read.Tie as tie

@@ -1,4 +1,4 @@
-use Rattle.notation.specs.Names.{digit}
+use Rattle.text.specs.Names.{digit}
 use borrow.Author.Tests.{eq-eqb, ne-eqb, le-leb, lt-leb, lt-ltb, le-ltb}
 use borrow.Author.Needs.{needs}
 use Rattle.notation.proofs.scan.modes.in_number.Statement.{statement}

@@ -1,0 +1,47 @@
+// What a call on a run is lent: whether it is large enough, and passes the shape test.
+use crate::layout::AUTOMATON_SIZE;
+use crate::run::layout::RUN_SIZE;
+use crate::run::shape;
+use crate::shape::automaton_shaped;
+use stored::counters::Counters;
+ghost use mathlib.Core.Path.{_≡_};
+ghost use mathlib.Core.Bool.{_&&_};
+ghost use Rattle.text.specs.Order.{given};
+ghost use Rattle.stored.specs.Shape.{automatonShaped};
+ghost use Rattle.stored.specs.RunCalls.{runShaped, shaped, lentConditions};
+
+// Automaton and run pass the shape test.
+pub fn both_shaped(a: &[u8], run: &[u8]) -> bool
+    ensures { λ r. ⌜ r ≡ (automatonShaped (now (a .entry)) && runShaped (now (a .entry)) (now (run .entry))) ⌝ }
+{
+    if automaton_shaped(a) {
+        return shape::run_shaped(a, run);
+    }
+    false
+}
+
+// Automaton, run and counters do.
+fn all_shaped(a: &[u8], run: &[u8], c: Counters) -> bool
+    ensures { λ r. ⌜ r ≡ shaped (now (a .entry)) (now (run .entry)) c ⌝ }
+{
+    if both_shaped(a, run) {
+        return shape::counters_shaped(run, c);
+    }
+    false
+}
+
+// 1, 14 of what is lent, with which open, close and listing begin.
+pub fn refusal(a: &[u8], run: &[u8], c: Counters) -> u8
+    ensures { λ r. ⌜ r ≡ given (lentConditions (now (a .entry)) (now (run .entry)) c) ⌝ }
+{
+    if a.len() < AUTOMATON_SIZE {
+        return 1;
+    }
+    if run.len() < RUN_SIZE {
+        return 1;
+    }
+    if !all_shaped(a, run, c) {
+        return 14;
+    }
+    0
+}

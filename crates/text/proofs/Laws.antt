@@ -1,0 +1,11 @@
+pub mod Tests
+pub mod Lists
+pub mod Said
+pub mod Numbers
+pub mod Order
+pub mod Bytes
+pub mod Decimal
+pub mod Fronts
+pub mod Scans
+pub mod Reads
+pub mod Output

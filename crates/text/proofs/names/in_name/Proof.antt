@@ -1,0 +1,15 @@
+-- `notation::names::in_name` meets its contract: the class tells.
+use mathlib.Core.Path.{sym}
+use borrow.Author.Needs.{needs}
+use Rattle.text.proofs.Laws.Bytes.Classes.{in-class}
+use Rattle.text.proofs.names.in_name.Statement.{statement}
+use Rattle.text.proofs.names.in_name.Tie as tie
+
+class-of-requires : tie.Need-class-of-requires
+class-of-requires c κs = search needs
+
+returns : tie.Need-returns
+returns c = rw (c .class-of .ensures) (sym (in-class _))
+
+pub in-name-spec : {M : Type 1} → statement M
+in-name-spec = tie.close (tie.spec class-of-requires returns)
