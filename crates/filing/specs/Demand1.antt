@@ -10,7 +10,7 @@ use lib.ListN.{length}
 use denote.Ref.{RefT, now}
 use Rattle.text.specs.Names.{Name}
 use Rattle.notation.specs.Sets.{FolderSet}
-use Rattle.text.specs.Refusals.{Refusal, shortBuffer, strangeShape, numberOf}
+use Rattle.text.specs.Refusals.{Refusal, shortBuffer, badShape, numberOf}
 use Rattle.text.specs.Answers.{numberSaid}
 use Rattle.text.specs.Written.{writtenSays}
 use Rattle.notation.specs.Judged.{RefusedText}
@@ -63,8 +63,8 @@ pub record ReportJudged (a run : List ℕ) (c : Counters) (report : List ℕ) (a
   pub refusals : (r : Refusal) → (answer ≡ numberOf r) ↔ RefusedReport a run report r
   pub accepted : (answer ≡ 0) ↔ ((t : Left) × TakenReport a run report t)
   pub either : (answer ≡ 0) ⊎ ((r : Refusal) × (answer ≡ numberOf r))
-  pub untouched : (answer ≡ numberOf shortBuffer) ⊎ (answer ≡ numberOf strangeShape) → (run' ≡ run) × (c' ≡ c)
-  pub fresh : (answer ≡ numberOf shortBuffer → ⊥) → (answer ≡ numberOf strangeShape → ⊥) → IfRefused answer ((run' ≡ startRun a run) × (c' ≡ noCounters))
+  pub untouched : (answer ≡ numberOf shortBuffer) ⊎ (answer ≡ numberOf badShape) → (run' ≡ run) × (c' ≡ c)
+  pub fresh : (answer ≡ numberOf shortBuffer → ⊥) → (answer ≡ numberOf badShape → ⊥) → IfRefused answer ((run' ≡ startRun a run) × (c' ≡ noCounters))
 
 pub record Demand1 : Type 0 where
   -- the numbers are 1 to 14, each that of one refusal

@@ -6,7 +6,7 @@ use mathlib.Core.List.{List, [], _∷_}
 use lib.Dec.{eqb}
 use Rattle.text.specs.Names.{Name}
 use Rattle.text.specs.Lists.{every}
-use Rattle.text.specs.Refusals.{looseEnd, numberOf}
+use Rattle.text.specs.Refusals.{notOneRoot, numberOf}
 use Rattle.stored.specs.RunCalls.{depthOf, openRefusal, openRun, openCounters, closeRefusal, closeRun, closeCounters}
 use Rattle.stored.specs.Demand3.{Left}
 use Rattle.documents.specs.Tokens.{blank}
@@ -37,7 +37,7 @@ closeOutcome a t e =
 
 -- text, blank or not: outside the root it is blank
 abbrev pub textOutcome : Left → Bool → Outcome
-textOutcome t isBlank = cond (eqb (depthOf (t .bytes)) 0 && not isBlank) (refusedWith (numberOf looseEnd)) (leaving t)
+textOutcome t isBlank = cond (eqb (depthOf (t .bytes)) 0 && not isBlank) (refusedWith (numberOf notOneRoot)) (leaving t)
 
 abbrev pub eventOutcome : List ℕ → Left → Event → Outcome
 eventOutcome a t (opening n) = openOutcome a t n

@@ -7,7 +7,7 @@ use mathlib.Core.List.{List, [], _∷_, _++_, map, List·Memᴰ}
 use lib.ListN.{length, drop}
 use Rattle.notation.specs.Sets.{Folder, FolderSet, folderNumber}
 use Rattle.notation.specs.Form.{pathsOf}
-use Rattle.text.specs.Refusals.{Refusal, oversize, longName, foreignByte, torn, looseEnd, tooDeep, crossed, numberOf}
+use Rattle.text.specs.Refusals.{Refusal, tooLarge, nameTooLong, invalidByte, syntaxError, notOneRoot, tooDeep, mismatchedClose, numberOf}
 use Rattle.notation.specs.Accepted.{Accepted}
 use Rattle.notation.specs.declared.PathPlace.{PathPlace}
 use Rattle.notation.specs.declared.FolderNumber.{FolderNumber}
@@ -51,7 +51,7 @@ pub record SameFolders (s : FolderSet) (answer : ℕ) (a run' : List ℕ) (other
 -- 0, and the numbers with which a report itself is refused: not 1 and 14, which are of what is lent, and not 7, since a report is too short for
 -- so many elements
 abbrev pub reportNumbers : List ℕ
-reportNumbers = 0 ∷ map numberOf (oversize ∷ longName ∷ foreignByte ∷ torn ∷ looseEnd ∷ tooDeep ∷ crossed ∷ [])
+reportNumbers = 0 ∷ map numberOf (tooLarge ∷ nameTooLong ∷ invalidByte ∷ syntaxError ∷ notOneRoot ∷ tooDeep ∷ mismatchedClose ∷ [])
 
 -- all of demand 2, of a set, its automaton, the bytes lent, and what the call answers and leaves
 pub record Demand2Bytes (s : FolderSet) (a report run : List ℕ) (answer : ℕ) (run' : List ℕ) (c' : Counters) : Type 0 where

@@ -9,7 +9,7 @@ use lib.Dec.{eqb, ltb}
 use lib.ListN.{length}
 use Rattle.notation.specs.Sets.{FolderSet}
 use Rattle.text.specs.Lists.{every, nonEmpty}
-use Rattle.text.specs.Refusals.{Refusal, oversize, foreignByte, torn, looseEnd, numberOf}
+use Rattle.text.specs.Refusals.{Refusal, tooLarge, invalidByte, syntaxError, notOneRoot, numberOf}
 use Rattle.text.specs.Order.{FirstOf}
 use Rattle.theory.specs.Calls.{asLeft, Call, openCall, closeCall, State, nothingOpen, openOrder, closeOrder, fresh, refusal, accepted, step}
 use Rattle.filing.specs.Limits.{maxReportBytes}
@@ -43,13 +43,13 @@ abbrev pub fileCall : FolderSet → State → Call → Filed
 fileCall set m call = unless (refusal m call) (step set m call)
 
 -- text that is not blank, outside the root: no element is open
-abbrev pub looseText : State → List ℕ → Bool
-looseText m b = nothingOpen m && not (every blank b)
+abbrev pub textOutside : State → List ℕ → Bool
+textOutside m b = nothingOpen m && not (every blank b)
 
 abbrev pub fileEvent : FolderSet → State → Event → Filed
 fileEvent set m (opening n) = fileCall set m (openCall asLeft n)
 fileEvent set m (closing n) = fileCall set m (closeCall asLeft n)
-fileEvent set m (textHere b) = cond (looseText m b) (refused looseEnd) (filed m)
+fileEvent set m (textHere b) = cond (textOutside m b) (refused notOneRoot) (filed m)
 fileEvent set m (commentHere b) = filed m
 
 unfoldable pub fileEvents : FolderSet → State → List Event → Filed
@@ -78,16 +78,16 @@ abbrev pub unfinished : State → Bool
 unfinished m = eqb (m .opens) 0 || nonEmpty (m .levels)
 
 unfoldable pub fileEnd : State → Filed
-fileEnd m = cond (unfinished m) (refused looseEnd) (filed m)
+fileEnd m = cond (unfinished m) (refused notOneRoot) (filed m)
 
 -- the whole report, computed: 2, 8, 9, the tokens, the end
 abbrev pub fileRun : FolderSet → Read (List Token) → Filed
-fileRun set fail = refused torn
+fileRun set fail = refused syntaxError
 fileRun set (got ts r) = thenFile (fileTokens set (fresh set) ts) fileEnd
 
 unfoldable pub fileReport : FolderSet → List ℕ → Filed
 fileReport set bytes =
-    cond (ltb maxReportBytes (length bytes)) (refused oversize) (cond (not (every listed bytes)) (refused foreignByte) (fileRun set (readReport bytes)))
+    cond (ltb maxReportBytes (length bytes)) (refused tooLarge) (cond (not (every listed bytes)) (refused invalidByte) (fileRun set (readReport bytes)))
 
 -- The same, plainly.
 
@@ -99,7 +99,7 @@ Stops m (comment c) r = ⊥
 Stops m (startTag n attributes b) r = FirstOf (openOrder m n) r
 Stops m (emptyTag n attributes b) r = FirstOf (openOrder m n) r
 Stops m (endTag n b) r = FirstOf (closeOrder m n) r
-Stops m (text parts) r = (r ≡ looseEnd) × (looseText m (printParts parts) ≡ true)
+Stops m (text parts) r = (r ≡ notOneRoot) × (textOutside m (printParts parts) ≡ true)
 
 -- the first token that is stopped: those before it are all taken
 pub record StopsAt (set : FolderSet) (ts : List Token) (r : Refusal) : Type 0 where
@@ -113,11 +113,11 @@ pub record StopsAt (set : FolderSet) (ts : List Token) (r : Refusal) : Type 0 wh
 
 -- when a report is refused, and with which refusal: the conditions in their order, each with none of those before it
 pub data Refused (set : FolderSet) (bytes : List ℕ) (r : Refusal) : Type 0 where
-  tooMany : r ≡ oversize → maxReportBytes < length bytes → Refused set bytes r
-  notListed : r ≡ foreignByte → length bytes ≤ maxReportBytes → every listed bytes ≡ false → Refused set bytes r
-  noRun : r ≡ torn → length bytes ≤ maxReportBytes → every listed bytes ≡ true → (RunOfTokens bytes → ⊥) → Refused set bytes r
+  tooMany : r ≡ tooLarge → maxReportBytes < length bytes → Refused set bytes r
+  notListed : r ≡ invalidByte → length bytes ≤ maxReportBytes → every listed bytes ≡ false → Refused set bytes r
+  noRun : r ≡ syntaxError → length bytes ≤ maxReportBytes → every listed bytes ≡ true → (RunOfTokens bytes → ⊥) → Refused set bytes r
   atToken : length bytes ≤ maxReportBytes → every listed bytes ≡ true → (run : RunOfTokens bytes) → StopsAt set (run .tokens) r → Refused set bytes r
-  atEnd : r ≡ looseEnd → length bytes ≤ maxReportBytes → every listed bytes ≡ true → (run : RunOfTokens bytes) → (m : State)
+  atEnd : r ≡ notOneRoot → length bytes ≤ maxReportBytes → every listed bytes ≡ true → (run : RunOfTokens bytes) → (m : State)
       → fileTokens set (fresh set) (run .tokens) ≡ filed m → unfinished m ≡ true → Refused set bytes r
 
 -- when it is filed, and with which machine

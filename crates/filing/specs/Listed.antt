@@ -6,7 +6,7 @@ use lib.Dec.{ltb}
 use lib.ListN.{length}
 use Rattle.text.specs.Decimal.{decimal}
 use Rattle.notation.specs.Print.{folderWord, footer}
-use Rattle.text.specs.Refusals.{shortBuffer, strangeShape}
+use Rattle.text.specs.Refusals.{shortBuffer, badShape}
 use Rattle.text.specs.Written.{TextWritten}
 use Rattle.notation.specs.declared.reads.FolderAt.{FolderAt}
 use Rattle.theory.specs.Folders.{countFrom}
@@ -59,7 +59,7 @@ listingRoom a run c = cond (shaped a run c) (max listingSize (length (listingIn 
 -- 1 and 14 (automaton, run and counters)
 abbrev pub listingConditions : List ℕ → List ℕ → Counters → List ℕ → List Condition
 listingConditions a run c out =
-    gives (tooShort a run || ltb (length out) (listingRoom a run c)) shortBuffer ∷ gives (not (shaped a run c)) strangeShape ∷ []
+    gives (tooShort a run || ltb (length out) (listingRoom a run c)) shortBuffer ∷ gives (not (shaped a run c)) badShape ∷ []
 
 abbrev pub listingRefusal : List ℕ → List ℕ → Counters → List ℕ → ℕ
 listingRefusal a run c out = given (listingConditions a run c out)

@@ -7,7 +7,7 @@ use mathlib.Core.List.{List, [], _∷_, _++_}
 use lib.Dec.{eqb, ltb}
 use lib.ListN.{length}
 use Rattle.text.specs.Lists.{every}
-use Rattle.text.specs.Refusals.{Refusal, shortBuffer, oversize, bentForm, outOfTurn, longName, longPath, full, foreignByte, torn, looseEnd, tooDeep, crossed, noSuchPlace, strangeShape, numberOf}
+use Rattle.text.specs.Refusals.{Refusal, shortBuffer, tooLarge, malformedSet, outOfOrder, nameTooLong, pathTooLong, overCapacity, invalidByte, syntaxError, notOneRoot, tooDeep, mismatchedClose, notFound, badShape, numberOf}
 use Rattle.text.specs.Order.{Condition, gives, Unmet, FirstOf}
 use Rattle.stored.specs.RunCalls.{depthOf, startConditions, openOthers, closeOthers}
 use Rattle.stored.specs.Demand3.{Left, started}
@@ -20,13 +20,13 @@ use Rattle.filing.specs.FileCall.{leaving, eventsOutcome}
 -- 1, 14 (automaton only), 2, 8
 abbrev pub reportConditions : List ℕ → List ℕ → List ℕ → List Condition
 reportConditions a run report =
-    startConditions a run ++ (gives (ltb maxReportBytes (length report)) oversize ∷ gives (not (every listed report)) foreignByte ∷ [])
+    startConditions a run ++ (gives (ltb maxReportBytes (length report)) tooLarge ∷ gives (not (every listed report)) invalidByte ∷ [])
 
 -- those of an event, on run and counters as left before it: an open's and a close's of name and run; text outside the root is blank
 abbrev pub eventConditions : Left → Event → List Condition
 eventConditions t (opening n) = openOthers (t .bytes) (t .counters) n
 eventConditions t (closing n) = closeOthers (t .bytes) n
-eventConditions t (textHere b) = gives (eqb (depthOf (t .bytes)) 0 && not (every blank b)) looseEnd ∷ []
+eventConditions t (textHere b) = gives (eqb (depthOf (t .bytes)) 0 && not (every blank b)) notOneRoot ∷ []
 eventConditions t (commentHere b) = []
 
 -- the first event that is refused; those before it are all taken
@@ -46,9 +46,9 @@ unfinishedIn t = eqb (t .counters .opens) 0 || not (eqb (depthOf (t .bytes)) 0)
 -- refused: by a condition of the four; no run of tokens (9); at an event; at the end
 pub data RefusedReport (a run report : List ℕ) (r : Refusal) : Type 0 where
   atOnce : FirstOf (reportConditions a run report) r → RefusedReport a run report r
-  noTokens : r ≡ torn → Unmet (reportConditions a run report) → (RunOfTokens report → ⊥) → RefusedReport a run report r
+  noTokens : r ≡ syntaxError → Unmet (reportConditions a run report) → (RunOfTokens report → ⊥) → RefusedReport a run report r
   atEvent : Unmet (reportConditions a run report) → (ts : RunOfTokens report) → StopsAtEvent a (started a run) (eventsOf (ts .tokens)) r → RefusedReport a run report r
-  atEnd : r ≡ looseEnd → Unmet (reportConditions a run report) → (ts : RunOfTokens report) → (t : Left)
+  atEnd : r ≡ notOneRoot → Unmet (reportConditions a run report) → (ts : RunOfTokens report) → (t : Left)
       → eventsOutcome a (started a run) (eventsOf (ts .tokens)) ≡ leaving t → unfinishedIn t ≡ true → RefusedReport a run report r
 
 -- filed, with run and counters so left
@@ -61,19 +61,19 @@ pub record TakenReport (a run report : List ℕ) (t : Left) : Type 0 where
 -- 1 and 14 are of what is lent: such a refusal leaves all as it was; any other leaves a fresh run
 abbrev pub refusedLeft : List ℕ → List ℕ → Counters → Refusal → Left
 refusedLeft a run c shortBuffer = record { bytes = run; counters = c }
-refusedLeft a run c oversize = started a run
-refusedLeft a run c bentForm = started a run
-refusedLeft a run c outOfTurn = started a run
-refusedLeft a run c longName = started a run
-refusedLeft a run c longPath = started a run
-refusedLeft a run c full = started a run
-refusedLeft a run c foreignByte = started a run
-refusedLeft a run c torn = started a run
-refusedLeft a run c looseEnd = started a run
+refusedLeft a run c tooLarge = started a run
+refusedLeft a run c malformedSet = started a run
+refusedLeft a run c outOfOrder = started a run
+refusedLeft a run c nameTooLong = started a run
+refusedLeft a run c pathTooLong = started a run
+refusedLeft a run c overCapacity = started a run
+refusedLeft a run c invalidByte = started a run
+refusedLeft a run c syntaxError = started a run
+refusedLeft a run c notOneRoot = started a run
 refusedLeft a run c tooDeep = started a run
-refusedLeft a run c crossed = started a run
-refusedLeft a run c noSuchPlace = started a run
-refusedLeft a run c strangeShape = record { bytes = run; counters = c }
+refusedLeft a run c mismatchedClose = started a run
+refusedLeft a run c notFound = started a run
+refusedLeft a run c badShape = record { bytes = run; counters = c }
 
 -- the contract: the answer, and what run and counters are at exit, by the report's verdict
 pub record Files (a run : List ℕ) (c : Counters) (report : List ℕ) (answer : ℕ) (run' : List ℕ) (c' : Counters) : Type 0 where

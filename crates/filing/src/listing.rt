@@ -11,6 +11,7 @@ use text::output::begin;
 use text::output::emit;
 use text::output::emit_number;
 use text::output::emit_numbered;
+use text::refusals::SHORT_BUFFER;
 use text::written::Written;
 ghost use mathlib.Core.Path.{_≡_};
 ghost use mathlib.Core.Bool.{false};
@@ -150,7 +151,7 @@ fn refusal(a: &[u8], run: &[u8], c: Counters, out: &mut [u8]) -> u8
 {
     let size = out.len();
     if size < LISTING_SIZE {
-        return 1;
+        return SHORT_BUFFER;
     }
     let refused = lent::refusal(a, run, c);
     if refused != 0 {
@@ -160,7 +161,7 @@ fn refusal(a: &[u8], run: &[u8], c: Counters, out: &mut [u8]) -> u8
     if cursor.fits {
         return 0;
     }
-    1
+    SHORT_BUFFER
 }
 
 // Writes the listing of a run to the first bytes of `out` and answers its length, or the number of the refusal. Bytes past it stay. The
@@ -181,7 +182,7 @@ pub fn write_refused(n: u8, out: &mut [u8]) -> Written
     ensures { λ r. ⌜ RefusedWritten n (now (out .entry)) r (now (out .exit)) ⌝ }
 {
     if out.len() < LISTING_SIZE {
-        return Written::Refused(1);
+        return Written::Refused(SHORT_BUFFER);
     }
     let cursor = compose_refused(n, out);
     Written::Bytes(cursor.at)

@@ -7,6 +7,7 @@ use machine::build::build;
 use machine::layout::AUTOMATON_SIZE;
 use machine::run::layout::RUN_SIZE;
 use stored::counters::Counters;
+use text::refusals::SHORT_BUFFER;
 use text::written::Written;
 ghost use mathlib.Core.Path.{_≡_};
 ghost use mathlib.Core.Bool.{false};
@@ -78,7 +79,7 @@ pub fn print_filing(
     ensures { λ r. ⌜ Prints (now (text .entry)) (now (report .entry)) (now (automaton .entry)) (now (run .entry)) (now (out .entry)) r (now (automaton .exit)) (now (run .exit)) (now (out .exit)) ⌝ }
 {
     if too_small(automaton, run, out) {
-        return Written::Refused(1);
+        return Written::Refused(SHORT_BUFFER);
     }
     print_set(text, report, automaton, run, out)
 }

@@ -13,6 +13,10 @@ use machine::run::start::start_by;
 use machine::run::start::start_on;
 use stored::answers::Opened;
 use stored::counters::Counters;
+use text::refusals::INVALID_BYTE;
+use text::refusals::NOT_ONE_ROOT;
+use text::refusals::SYNTAX_ERROR;
+use text::refusals::TOO_LARGE;
 ghost use mathlib.Core.Path.{_≡_};
 ghost use Prim.Native.Nat.{_≤_, _<_};
 ghost use lib.ListN.{length, drop};
@@ -28,7 +32,7 @@ ghost use Rattle.filing.specs.Code.Seen.{tagName};
 ghost use Rattle.filing.specs.FileCall.{thenGo, openOutcome, closeOutcome, textOutcome};
 ghost use Rattle.filing.specs.ReportRefusals.{Files};
 ghost use Rattle.filing.specs.Code.FileCall.{endOutcome, runOutcome, reportOutcome};
-ghost use Rattle.filing.specs.Code.Taking.{so, Takes, Leaves, foundOutcome, tornAt, runFrom};
+ghost use Rattle.filing.specs.Code.Taking.{so, Takes, Leaves, foundOutcome, noTokenAt, runFrom};
 
 // What calls answer: the refusal, 0 for none, and the counters after them.
 pub struct Taken {
@@ -110,7 +114,7 @@ fn take_text(run: &[u8], c: Counters, all: bool) -> Taken
         };
     }
     if depth(run) == 0 {
-        return with_none(10);
+        return with_none(NOT_ONE_ROOT);
     }
     Taken {
         refusal: 0,
@@ -167,8 +171,8 @@ fn take_at(a: &[u8], run: &mut [u8], before: Taken, s: &[u8], at: usize, f: Foun
 }
 
 // No token, or a declaration past offset 0.
-fn torn_at(f: Found, at: usize) -> bool
-    ensures { λ r. ⌜ r ≡ tornAt f at ⌝ }
+fn no_token_at(f: Found, at: usize) -> bool
+    ensures { λ r. ⌜ r ≡ noTokenAt f at ⌝ }
 {
     if end_of(f) <= at {
         return true;
@@ -188,8 +192,8 @@ fn take_tokens(a: &[u8], run: &mut [u8], s: &[u8]) -> Taken
     let mut i = 0;
     while i < s.len() {
         let f = token_at(s, i);
-        if torn_at(f, i) {
-            return with_none(9);
+        if no_token_at(f, i) {
+            return with_none(SYNTAX_ERROR);
         }
         taken = take_at(a, run, taken, s, i, f);
         i = end_of(f);
@@ -206,10 +210,10 @@ fn take_end(run: &[u8], before: Taken) -> Taken
     }
     let counters = before.counters;
     if counters.opens == 0 {
-        return with_none(10);
+        return with_none(NOT_ONE_ROOT);
     }
     if depth(run) != 0 {
-        return with_none(10);
+        return with_none(NOT_ONE_ROOT);
     }
     before
 }
@@ -242,10 +246,10 @@ fn file_fresh(a: &[u8], run: &mut [u8], s: &[u8]) -> Taken
     ensures { λ r. ⌜ Leaves (record { bytes = now (run .entry); counters = noCounters }) (reportOutcome (now (a .entry)) (record { bytes = now (run .entry); counters = noCounters }) (now (s .entry))) (r .refusal) (now (run .exit)) (r .counters) ⌝ }
 {
     if s.len() > MAX_REPORT {
-        return with_none(2);
+        return with_none(TOO_LARGE);
     }
     if !all_listed(s) {
-        return with_none(8);
+        return with_none(INVALID_BYTE);
     }
     take_run(a, run, s)
 }

@@ -90,7 +90,7 @@ pub fn name_reach(s: &[u8], at: usize) -> Reach
 }
 
 // A byte, after blanks.
-pub fn mark_end(s: &[u8], at: usize, mark: u8) -> Reach
+pub fn byte_end(s: &[u8], at: usize, mark: u8) -> Reach
     requires { ⌜ at ≤ length (now s) ⌝ }
     ensures { λ r. ⌜ r ≡ reachOf (length (now (s .entry))) (readWord (mark ∷ []) (back blankByte (drop at (now (s .entry))))) ⌝ }
 {
@@ -149,7 +149,7 @@ pub fn attribute_end(s: &[u8], at: usize) -> Reach
 {
     match name_reach(s, at) {
         Reach::No => Reach::No,
-        Reach::To(e) => match mark_end(s, e, 61) {
+        Reach::To(e) => match byte_end(s, e, 61) {
             Reach::No => Reach::No,
             Reach::To(v) => value_after(s, v),
         },

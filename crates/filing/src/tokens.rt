@@ -3,8 +3,8 @@ use crate::scan::blank;
 use crate::scan::in_text;
 use crate::scan::listed;
 use crate::tags::Reach;
+use crate::tags::byte_end;
 use crate::tags::inside_end;
-use crate::tags::mark_end;
 use crate::tags::name_reach;
 use crate::tags::reference_end;
 use text::truth::both;
@@ -83,7 +83,7 @@ fn end_tag(s: &[u8], at: usize) -> Found
     let from = at + 2;
     match name_reach(s, from) {
         Reach::No => Found::Nothing,
-        Reach::To(to) => match mark_end(s, to, 62) {
+        Reach::To(to) => match byte_end(s, to, 62) {
             Reach::No => Found::Nothing,
             Reach::To(e) => Found::End(from, to, e),
         },

@@ -7,6 +7,7 @@ mod parents;
 use crate::layout::AUTOMATON_SIZE;
 use notation::layout::SET_SIZE;
 use notation::read::read_set;
+use text::refusals::SHORT_BUFFER;
 use text::store::clear;
 ghost use mathlib.Core.Path.{_≡_};
 ghost use mathlib.Core.List.{_++_};
@@ -51,7 +52,7 @@ pub fn build(text: &[u8], automaton: &mut [u8]) -> u8
     ensures { λ r. ⌜ Built (now (text .entry)) (now (automaton .entry)) r (now (automaton .exit)) ⌝ }
 {
     if automaton.len() < AUTOMATON_SIZE {
-        return 1;
+        return SHORT_BUFFER;
     }
     let refused = read_set(text, automaton);
     if refused != 0 {

@@ -3,6 +3,8 @@ use crate::layout::AUTOMATON_SIZE;
 use crate::shape::automaton_shaped;
 use notation::limits::MAX_SET_BYTES;
 use notation::reads;
+use text::refusals::BAD_SHAPE;
+use text::refusals::SHORT_BUFFER;
 use text::store::copy;
 use text::written::Written;
 ghost use Rattle.stored.specs.Build.{SetWritten};
@@ -13,15 +15,15 @@ pub fn write_set(automaton: &[u8], out: &mut [u8]) -> Written
     ensures { λ r. ⌜ SetWritten (now (automaton .entry)) (now (out .entry)) r (now (out .exit)) ⌝ }
 {
     if automaton.len() < AUTOMATON_SIZE {
-        return Written::Refused(1);
+        return Written::Refused(SHORT_BUFFER);
     }
     if out.len() < MAX_SET_BYTES {
-        return Written::Refused(1);
+        return Written::Refused(SHORT_BUFFER);
     }
     if automaton_shaped(automaton) {
         let text = reads::text(automaton);
         copy(out, 0, text);
         return Written::Bytes(text.len());
     }
-    Written::Refused(14)
+    Written::Refused(BAD_SHAPE)
 }

@@ -10,7 +10,7 @@ use Rattle.text.specs.Names.{nameForm, tooLong, within}
 use Rattle.notation.specs.Sets.{Test, label, star, Step, Path, Folder, folder, FolderSet, testOf, folderPaths}
 use Rattle.notation.specs.Print.{print}
 use Rattle.text.specs.Lists.{every, any, nonEmpty}
-use Rattle.text.specs.Refusals.{Refusal, outOfTurn, longName, longPath}
+use Rattle.text.specs.Refusals.{Refusal, outOfOrder, nameTooLong, pathTooLong}
 
 -- labels have name form, of any length
 abbrev pub formedTest : Test → Bool
@@ -60,8 +60,8 @@ abbrev pub overBytes : List ℕ → Bool
 overBytes text = ltb maxSetBytes (length text)
 
 -- over 128 paths or 1,024 labels (refusal 7)
-unfoldable pub overFull : FolderSet → Bool
-overFull s = ltb maxPaths (length (pathsOf s)) || ltb maxLabels (length (labelsOf (stepsOf (pathsOf s))))
+unfoldable pub overLimits : FolderSet → Bool
+overLimits s = ltb maxPaths (length (pathsOf s)) || ltb maxLabels (length (labelsOf (stepsOf (pathsOf s))))
 
 abbrev pub longTest : Test → Bool
 longTest (label n) = tooLong n
@@ -70,7 +70,7 @@ longTest star = false
 -- what is wrong with a set, in the order of its text: a number that is not above the one before (4); at each step a label over the
 -- length of a name (5) and then a step over a path's limit (6). `k` counts the steps of the path before this one
 abbrev pub stepFaults : ℕ → Step → List Refusal
-stepFaults k s = cond (longTest (testOf s)) (longName ∷ []) [] ++ cond (leb maxSteps k) (longPath ∷ []) []
+stepFaults k s = cond (longTest (testOf s)) (nameTooLong ∷ []) [] ++ cond (leb maxSteps k) (pathTooLong ∷ []) []
 
 unfoldable pub pathFaults : ℕ → Path → List Refusal
 pathFaults k [] = []
@@ -83,7 +83,7 @@ pathsFaults (p ∷ ps) = pathFaults 0 p ++ pathsFaults ps
 -- `last` is the number of the folder before, 0 where there is none
 unfoldable pub faultsAfter : ℕ → FolderSet → List Refusal
 faultsAfter last [] = []
-faultsAfter last (folder n ps ∷ fs) = cond (leb n last) (outOfTurn ∷ []) [] ++ (pathsFaults ps ++ faultsAfter n fs)
+faultsAfter last (folder n ps ∷ fs) = cond (leb n last) (outOfOrder ∷ []) [] ++ (pathsFaults ps ++ faultsAfter n fs)
 
 abbrev pub faults : FolderSet → List Refusal
 faults s = faultsAfter 0 s

@@ -3,18 +3,18 @@ use Prim.Native.Nat.{ℕ}
 use mathlib.Core.Path.{_≡_}
 use mathlib.Core.Bool.{true, false}
 use mathlib.Core.List.{List, [], _∷_}
-use Rattle.text.specs.Refusals.{Refusal, oversize, bentForm, full, numberOf}
+use Rattle.text.specs.Refusals.{Refusal, tooLarge, malformedSet, overCapacity, numberOf}
 use Rattle.notation.specs.Sets.{FolderSet}
-use Rattle.notation.specs.Form.{OfForm, overBytes, overFull, faults}
+use Rattle.notation.specs.Form.{OfForm, overBytes, overLimits, faults}
 use Rattle.notation.specs.Accepted.{Accepted}
 
 -- the text is refused with r, in build's order: over its bytes (2); no set prints to it (3); the first fault of its set (4, 5 or 6);
 -- over full (7). Each only where none of those before it holds
 pub data RefusedText (text : List ℕ) (r : Refusal) : Type 0 where
-  overLong : r ≡ oversize → overBytes text ≡ true → RefusedText text r
-  notOfForm : r ≡ bentForm → overBytes text ≡ false → (OfForm text → ⊥) → RefusedText text r
+  overLong : r ≡ tooLarge → overBytes text ≡ true → RefusedText text r
+  notOfForm : r ≡ malformedSet → overBytes text ≡ false → (OfForm text → ⊥) → RefusedText text r
   faulty : overBytes text ≡ false → (o : OfForm text) → (later : List Refusal) → faults (o .set) ≡ r ∷ later → RefusedText text r
-  overfull : r ≡ full → overBytes text ≡ false → (o : OfForm text) → faults (o .set) ≡ [] → overFull (o .set) ≡ true → RefusedText text r
+  overfull : r ≡ overCapacity → overBytes text ≡ false → (o : OfForm text) → faults (o .set) ≡ [] → overLimits (o .set) ≡ true → RefusedText text r
 
 pub data Verdict : Type 0 where
   refuses : Refusal → Verdict

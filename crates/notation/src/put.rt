@@ -121,6 +121,6 @@ pub fn put_byte(part: &mut [u8], s: Scan, b: u8)
         Mode::LineEnd => {}
         Mode::LastLine => {}
         Mode::Done => {}
-        Mode::Bent => {}
+        Mode::Malformed => {}
     }
 }

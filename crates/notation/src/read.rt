@@ -5,6 +5,7 @@ use crate::put;
 use crate::scan;
 use crate::scan::Scan;
 use crate::scan::Tally;
+use text::refusals::SHORT_BUFFER;
 use text::store;
 ghost use mathlib.Core.Path.{_≡_};
 ghost use mathlib.Core.List.{_++_};
@@ -68,7 +69,7 @@ pub fn read_set(text: &[u8], part: &mut [u8]) -> u8
     ensures { λ r. ⌜ ReadSet (now (text .entry)) (now (part .entry)) r (now (part .exit)) ⌝ }
 {
     if part.len() < SET_SIZE {
-        return 1;
+        return SHORT_BUFFER;
     }
     let refused = scan::refusal(text);
     if refused != 0 {

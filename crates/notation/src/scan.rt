@@ -2,6 +2,9 @@
 use crate::limits::MAX_LABELS;
 use crate::limits::MAX_PATHS;
 use crate::limits::MAX_SET_BYTES;
+use text::refusals::MALFORMED_SET;
+use text::refusals::OVER_CAPACITY;
+use text::refusals::TOO_LARGE;
 ghost use mathlib.Core.Path.{_≡_};
 ghost use Prim.Native.Nat.{_+_, _≤_, _<_};
 ghost use lib.ListN.{length};
@@ -39,7 +42,7 @@ pub enum Mode {
     LastLine,
     Done,
     // Not of the form, whatever follows.
-    Bent,
+    Malformed,
 }
 
 // What has been counted so far.
@@ -138,16 +141,16 @@ fn verdict(s: Scan) -> u8
     let m = s.mode;
     let t = s.tally;
     if !is_done(m) {
-        return 3;
+        return MALFORMED_SET;
     }
     if t.fault != 0 {
         return t.fault;
     }
     if MAX_PATHS < t.paths {
-        return 7;
+        return OVER_CAPACITY;
     }
     if MAX_LABELS < t.labels {
-        return 7;
+        return OVER_CAPACITY;
     }
     0
 }
@@ -157,7 +160,7 @@ pub fn refusal(text: &[u8]) -> u8
     ensures { λ r. ⌜ r ≡ refusalOf (now (text .entry)) ⌝ }
 {
     if MAX_SET_BYTES < text.len() {
-        return 2;
+        return TOO_LARGE;
     }
     verdict(run(text))
 }

@@ -1,5 +1,6 @@
 // Writing a stored set back: its text, into a buffer.
 use crate::reads;
+use text::refusals::SHORT_BUFFER;
 use text::store;
 use text::written::Written;
 ghost use Rattle.notation.specs.WriteText.{WriteText};
@@ -11,7 +12,7 @@ pub fn write_text(part: &[u8], out: &mut [u8]) -> Written
     let text = reads::text(part);
     let size = text.len();
     if out.len() < size {
-        return Written::Refused(1);
+        return Written::Refused(SHORT_BUFFER);
     }
     store::copy(out, 0, text);
     Written::Bytes(size)

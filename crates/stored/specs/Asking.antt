@@ -9,7 +9,7 @@ use Rattle.text.specs.Names.{Name, within}
 use Rattle.text.specs.Part.{PartOf}
 use Rattle.notation.specs.Reads.{pathAt, folderOf}
 use Rattle.text.specs.Answers.{Answer, said}
-use Rattle.text.specs.Refusals.{shortBuffer, strangeShape, noSuchPlace}
+use Rattle.text.specs.Refusals.{shortBuffer, badShape, notFound}
 use Rattle.notation.specs.declared.PathPlace.{PathPlace}
 use Rattle.notation.specs.declared.FolderNumber.{FolderNumber}
 use Rattle.notation.specs.declared.reads.PathAt.{PathAt}
@@ -28,8 +28,8 @@ use Rattle.stored.specs.RunCalls.{depthOf, nameLength, storedName, state
 abbrev pub askConditions : List ℕ → List ℕ → Bool → List Condition
 askConditions a run there =
     gives (tooShort a run) shortBuffer
-    ∷ gives (not (automatonShaped a && runShaped a run)) strangeShape
-    ∷ gives (not there) noSuchPlace
+    ∷ gives (not (automatonShaped a && runShaped a run)) badShape
+    ∷ gives (not there) notFound
     ∷ []
 
 unfoldable pub askRefusal : List ℕ → List ℕ → Bool → ℕ

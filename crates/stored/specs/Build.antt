@@ -8,7 +8,7 @@ use lib.ListN.{length, drop}
 use Rattle.notation.specs.Limits.{maxSetBytes}
 use Rattle.notation.specs.Judged.{Verdict, refuses, accepts, Judged, verdictNumber}
 use Rattle.notation.specs.Reads.{textOf}
-use Rattle.text.specs.Refusals.{shortBuffer, strangeShape, numberOf}
+use Rattle.text.specs.Refusals.{shortBuffer, badShape, numberOf}
 use Rattle.text.specs.Written.{TextWritten}
 use Rattle.text.specs.Order.{Condition, gives}
 use Rattle.stored.specs.Automaton.{automatonOf, automatonSize}
@@ -28,7 +28,7 @@ pub record Built (text before : List ℕ) (answer : ℕ) (after : List ℕ) : Ty
 
 abbrev pub writeConditions : List ℕ → List ℕ → List Condition
 writeConditions a out =
-    gives (ltb (length a) automatonSize || ltb (length out) maxSetBytes) shortBuffer ∷ gives (not (automatonShaped a)) strangeShape ∷ []
+    gives (ltb (length a) automatonSize || ltb (length out) maxSetBytes) shortBuffer ∷ gives (not (automatonShaped a)) badShape ∷ []
 
 -- the stored set's text is written
 abbrev pub SetWritten : List ℕ → List ℕ → Written → List ℕ → Type 0

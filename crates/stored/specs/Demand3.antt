@@ -13,7 +13,7 @@ use Rattle.notation.specs.Form.{pathsOf}
 use Rattle.notation.specs.Accepted.{Accepted}
 use Rattle.text.specs.Answers.{Answer, refused, value, numberSaid}
 use Rattle.notation.specs.Fit.{nameAt, Active}
-use Rattle.text.specs.Refusals.{Refusal, noSuchPlace, numberOf}
+use Rattle.text.specs.Refusals.{Refusal, notFound, numberOf}
 use Rattle.notation.specs.declared.PathPlace.{PathPlace}
 use Rattle.notation.specs.declared.FolderNumber.{FolderNumber}
 use Rattle.theory.specs.Words.{Word}
@@ -21,7 +21,7 @@ use Rattle.theory.specs.Prefix.{CurrentPrefix}
 use Rattle.text.specs.Order.{numberIn}
 use Rattle.theory.specs.Calls.{Lent, asLeft, otherwise, Call, openCall, closeCall, pathAt, refusal, run}
 use Rattle.theory.specs.History.{acceptedCalls, opensIn, closesIn, stillOpen, FittedAfterOpen, opensOf}
-use Rattle.theory.specs.Moves.{OpenMoves, MovesTold}
+use Rattle.theory.specs.Moves.{OpenMoves, MovesCounted}
 use Rattle.theory.specs.Elements.{elementsOf, childlessDepths}
 use Rattle.theory.specs.Folders.{placesOf}
 use Rattle.stored.specs.Answers.{openedSays}
@@ -81,7 +81,7 @@ pub data OpenAnswered (s : FolderSet) (before : List Call) (e : Name) : Answer �
 pub record Answers (there holds : Type 0) (answer : Answer Bool) : Type 0 where
   pub yes : (answer ≡ value true) ↔ holds
   pub no : (answer ≡ value false) ↔ (there × (holds → ⊥))
-  pub gone : (answer ≡ refused (numberOf noSuchPlace)) ↔ (there → ⊥)
+  pub gone : (answer ≡ refused (numberOf notFound)) ↔ (there → ⊥)
 
 -- a folder of this number is in the set
 pub record HasFolder (s : FolderSet) (number : ℕ) : Type 0 where
@@ -127,7 +127,7 @@ pub record Holds (s : FolderSet) (a : List ℕ) (made : List Made) (calls : List
   pub folders : (number : FolderNumber) → Answers (HasFolder s (number .0)) (HasMatchedPath s a (t .bytes) (number .0)) (askFolder a (t .bytes) number)
   -- open names, active steps and current prefix are those defined for the names opened and not yet closed
   pub names : (d : ℕ) → 1 ≤ d → d ≤ length still → (askName a (t .bytes) d ≡ nameAt still d) × (nameRefusal a (t .bytes) d ≡ 0)
-  pub noNames : (d : ℕ) → ((1 ≤ d) × (d ≤ length still) → ⊥) → (askName a (t .bytes) d ≡ []) × (nameRefusal a (t .bytes) d ≡ numberOf noSuchPlace)
+  pub noNames : (d : ℕ) → ((1 ≤ d) × (d ≤ length still) → ⊥) → (askName a (t .bytes) d ≡ []) × (nameRefusal a (t .bytes) d ≡ numberOf notFound)
   pub steps : (place : PathPlace) (k : ℕ) → Answers (StepThere s (place .0) k) (Active (pathAt s (place .0)) k still) (askStep a (t .bytes) place k)
   pub prefix : PrefixAnswered s still (askPrefix a (t .bytes))
   -- a fresh run on the same set, given only the opens of those names in order, answers the same
@@ -137,12 +137,12 @@ pub record Holds (s : FolderSet) (a : List ℕ) (made : List Made) (calls : List
   pub balance : t .counters .opens ≡ t .counters .closes + length still
   pub opens : t .counters .opens ≡ run s calls .opens
   pub closes : t .counters .closes ≡ run s calls .closes
-  pub opensTold : t .counters .opens ≡ opensIn (acceptedCalls s calls)
-  pub closesTold : t .counters .closes ≡ closesIn (acceptedCalls s calls)
+  pub opensCounted : t .counters .opens ≡ opensIn (acceptedCalls s calls)
+  pub closesCounted : t .counters .closes ≡ closesIn (acceptedCalls s calls)
   -- the failure moves counted are the machine's, those of the walks of the accepted opens added up, and at most the depths of all childless
   -- elements together
   pub moves : t .counters .moves ≡ run s calls .moves
-  pub movesTold : MovesTold s (acceptedCalls s calls) (t .counters .moves)
+  pub movesCounted : MovesCounted s (acceptedCalls s calls) (t .counters .moves)
   pub movesMost : t .counters .moves ≤ childlessDepths (elementsOf (acceptedCalls s calls))
   -- run and counters pass the shape test
   pub passes : shaped a (t .bytes) (t .counters) ≡ true

@@ -17,7 +17,7 @@ use Rattle.stored.specs.Shape.{automatonShaped, allBelow}
 use Rattle.stored.specs.Run.{matchesAt, nameIn, stateIn, activeIn, seenIn, rowAt, rowSize, runSize}
 use Rattle.stored.specs.declared.counters.Counters.{Counters}
 use Rattle.stored.specs.declared.walk.Walk.{Walk}
-use Rattle.text.specs.Refusals.{shortBuffer, strangeShape, torn, longName, looseEnd, tooDeep, full, crossed}
+use Rattle.text.specs.Refusals.{shortBuffer, badShape, syntaxError, nameTooLong, notOneRoot, tooDeep, overCapacity, mismatchedClose}
 use Rattle.text.specs.Lists.{any}
 use Rattle.text.specs.Order.{Condition, gives, given}
 
@@ -69,28 +69,28 @@ abbrev pub tooShort : List ℕ → List ℕ → Bool
 tooShort a run = ltb (length a) automatonSize || ltb (length run) runSize
 
 abbrev pub startConditions : List ℕ → List ℕ → List Condition
-startConditions a run = gives (tooShort a run) shortBuffer ∷ gives (not (automatonShaped a)) strangeShape ∷ []
+startConditions a run = gives (tooShort a run) shortBuffer ∷ gives (not (automatonShaped a)) badShape ∷ []
 
-abbrev pub rootShut : List ℕ → Counters → Bool
-rootShut run c = not (eqb (c .opens) 0) && eqb (depthOf run) 0
+abbrev pub rootClosed : List ℕ → Counters → Bool
+rootClosed run c = not (eqb (c .opens) 0) && eqb (depthOf run) 0
 
 -- those of what is lent, with which open and close begin
 abbrev pub lentConditions : List ℕ → List ℕ → Counters → List Condition
-lentConditions a run c = gives (tooShort a run) shortBuffer ∷ gives (not (shaped a run c)) strangeShape ∷ []
+lentConditions a run c = gives (tooShort a run) shortBuffer ∷ gives (not (shaped a run c)) badShape ∷ []
 
 -- those of the name, which are next
 abbrev pub nameConditions : Name → List Condition
-nameConditions e = gives (not (nameForm e)) torn ∷ gives (tooLong e) longName ∷ []
+nameConditions e = gives (not (nameForm e)) syntaxError ∷ gives (tooLong e) nameTooLong ∷ []
 
 -- all others of an open, and of a close
 abbrev pub openOthers : List ℕ → Counters → Name → List Condition
 openOthers run c e =
     nameConditions e
-    ++ (gives (rootShut run c) looseEnd ∷ gives (leb maxDepth (depthOf run)) tooDeep ∷ gives (leb maxOpens (c .opens)) full ∷ [])
+    ++ (gives (rootClosed run c) notOneRoot ∷ gives (leb maxDepth (depthOf run)) tooDeep ∷ gives (leb maxOpens (c .opens)) overCapacity ∷ [])
 
 abbrev pub closeOthers : List ℕ → Name → List Condition
 closeOthers run e =
-    nameConditions e ++ (gives (eqb (depthOf run) 0) looseEnd ∷ gives (not (sameName (storedName run (depthOf run)) e)) crossed ∷ [])
+    nameConditions e ++ (gives (eqb (depthOf run) 0) notOneRoot ∷ gives (not (sameName (storedName run (depthOf run)) e)) mismatchedClose ∷ [])
 
 abbrev pub openConditions : List ℕ → List ℕ → Counters → Name → List Condition
 openConditions a run c e = lentConditions a run c ++ openOthers run c e

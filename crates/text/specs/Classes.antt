@@ -77,8 +77,8 @@ squareClass = 20
 abbrev pub otherClass : ℕ
 otherClass = 21
 
-abbrev pub foreignClass : ℕ
-foreignClass = 22
+abbrev pub invalidClass : ℕ
+invalidClass = 22
 
 -- the bytes low .. high and their class
 pub data Range : Type 0 where
@@ -86,7 +86,7 @@ pub data Range : Type 0 where
 
 -- the class of the first range that holds the byte; a byte of no range is foreign
 unfoldable pub lookUp : List Range → ℕ → ℕ
-lookUp [] b = foreignClass
+lookUp [] b = invalidClass
 lookUp (range low high class ∷ rs) b = cond (within low high b) class (lookUp rs b)
 
 unfoldable pub ranges : List Range

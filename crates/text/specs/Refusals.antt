@@ -2,20 +2,20 @@
 use Prim.Native.Nat.{ℕ}
 
 pub data Refusal : Type 0 where
-  shortBuffer oversize bentForm outOfTurn longName longPath full foreignByte torn looseEnd tooDeep crossed noSuchPlace strangeShape : Refusal
+  shortBuffer tooLarge malformedSet outOfOrder nameTooLong pathTooLong overCapacity invalidByte syntaxError notOneRoot tooDeep mismatchedClose notFound badShape : Refusal
 
 abbrev pub numberOf : Refusal → ℕ
 numberOf shortBuffer = 1
-numberOf oversize = 2
-numberOf bentForm = 3
-numberOf outOfTurn = 4
-numberOf longName = 5
-numberOf longPath = 6
-numberOf full = 7
-numberOf foreignByte = 8
-numberOf torn = 9
-numberOf looseEnd = 10
+numberOf tooLarge = 2
+numberOf malformedSet = 3
+numberOf outOfOrder = 4
+numberOf nameTooLong = 5
+numberOf pathTooLong = 6
+numberOf overCapacity = 7
+numberOf invalidByte = 8
+numberOf syntaxError = 9
+numberOf notOneRoot = 10
 numberOf tooDeep = 11
-numberOf crossed = 12
-numberOf noSuchPlace = 13
-numberOf strangeShape = 14
+numberOf mismatchedClose = 12
+numberOf notFound = 13
+numberOf badShape = 14

@@ -2,6 +2,7 @@
 pub mod arith;
 pub mod names;
 pub mod output;
+pub mod refusals;
 pub mod store;
 pub mod truth;
 pub mod words;

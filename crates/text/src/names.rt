@@ -55,7 +55,7 @@ pub const SQUARE: u8 = 20;
 
 pub const OTHER: u8 = 21;
 
-pub const FOREIGN: u8 = 22;
+pub const INVALID: u8 = 22;
 
 // Bytes of 128 and more are answered, not looked up.
 pub fn class_of(b: u8) -> u8
@@ -65,7 +65,7 @@ pub fn class_of(b: u8) -> u8
         let i = b as usize;
         CLASSES[i]
     } else {
-        FOREIGN
+        INVALID
     }
 }
 
@@ -143,41 +143,41 @@ pub fn same_name(a: &[u8], b: &[u8]) -> bool
 // The class of each byte below 128 (paper 01: the constant table).
 const CLASSES: [u8; 128] = [
     // 0
-    FOREIGN,
-    FOREIGN,
-    FOREIGN,
-    FOREIGN,
-    FOREIGN,
-    FOREIGN,
-    FOREIGN,
-    FOREIGN,
+    INVALID,
+    INVALID,
+    INVALID,
+    INVALID,
+    INVALID,
+    INVALID,
+    INVALID,
+    INVALID,
     // 8
-    FOREIGN,
+    INVALID,
     BLANK,
     LINE_END,
-    FOREIGN,
-    FOREIGN,
+    INVALID,
+    INVALID,
     BLANK,
-    FOREIGN,
-    FOREIGN,
+    INVALID,
+    INVALID,
     // 16
-    FOREIGN,
-    FOREIGN,
-    FOREIGN,
-    FOREIGN,
-    FOREIGN,
-    FOREIGN,
-    FOREIGN,
-    FOREIGN,
+    INVALID,
+    INVALID,
+    INVALID,
+    INVALID,
+    INVALID,
+    INVALID,
+    INVALID,
+    INVALID,
     // 24
-    FOREIGN,
-    FOREIGN,
-    FOREIGN,
-    FOREIGN,
-    FOREIGN,
-    FOREIGN,
-    FOREIGN,
-    FOREIGN,
+    INVALID,
+    INVALID,
+    INVALID,
+    INVALID,
+    INVALID,
+    INVALID,
+    INVALID,
+    INVALID,
     // 32: space ! " # $ % & '
     SPACE,
     EXCLAMATION,
@@ -285,5 +285,5 @@ const CLASSES: [u8; 128] = [
     OTHER,
     OTHER,
     OTHER,
-    FOREIGN,
+    INVALID,
 ];

@@ -9,7 +9,7 @@ use Rattle.text.specs.Names.{Name, nameForm, tooLong, sameName}
 use Rattle.notation.specs.Sets.{Path, FolderSet}
 use Rattle.notation.specs.Form.{pathsOf}
 use Rattle.text.specs.Lists.{nonEmpty}
-use Rattle.text.specs.Refusals.{Refusal, torn, longName, looseEnd, tooDeep, full, crossed}
+use Rattle.text.specs.Refusals.{Refusal, syntaxError, nameTooLong, notOneRoot, tooDeep, overCapacity, mismatchedClose}
 use Rattle.notation.specs.Activity.{active, fits}
 use Rattle.theory.specs.Limits.{maxDepth, maxOpens}
 use Rattle.theory.specs.Words.{document, Word, begins}
@@ -121,19 +121,19 @@ isInnermost (level n w ∷ outer) e = sameName n e
 -- the order of an open: 9, 5, 10, 11, 7; of a close: 9, 5, 10, 12
 abbrev pub openOrder : State → Name → List Condition
 openOrder s e =
-    gives (not (nameForm e)) torn
-    ∷ gives (tooLong e) longName
-    ∷ gives (s .rootClosed) looseEnd
+    gives (not (nameForm e)) syntaxError
+    ∷ gives (tooLong e) nameTooLong
+    ∷ gives (s .rootClosed) notOneRoot
     ∷ gives (deepest s) tooDeep
-    ∷ gives (opensSpent s) full
+    ∷ gives (opensSpent s) overCapacity
     ∷ []
 
 abbrev pub closeOrder : State → Name → List Condition
 closeOrder s e =
-    gives (not (nameForm e)) torn
-    ∷ gives (tooLong e) longName
-    ∷ gives (nothingOpen s) looseEnd
-    ∷ gives (not (isInnermost (s .levels) e)) crossed
+    gives (not (nameForm e)) syntaxError
+    ∷ gives (tooLong e) nameTooLong
+    ∷ gives (nothingOpen s) notOneRoot
+    ∷ gives (not (isInnermost (s .levels) e)) mismatchedClose
     ∷ []
 
 abbrev pub orderOf : State → Call → List Condition

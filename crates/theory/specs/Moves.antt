@@ -17,7 +17,7 @@ pub record OpenMoves (set : FolderSet) (names : List Name) (e : Name) (moves : �
   pub walks : Walk set e from moves to
 
 -- those of accepted calls, the last first, added up: each open's, with the names open before it; closes take none back
-pub data MovesTold (set : FolderSet) : List Call → ℕ → Type 0 where
-  none : MovesTold set [] 0
-  anOpen : {l : Lent} {e : Name} {earlier : List Call} {moves more : ℕ} → MovesTold set earlier moves → OpenMoves set (namesLeft earlier) e more → MovesTold set (openCall l e ∷ earlier) (moves + more)
-  aClose : {l : Lent} {e : Name} {earlier : List Call} {moves : ℕ} → MovesTold set earlier moves → MovesTold set (closeCall l e ∷ earlier) moves
+pub data MovesCounted (set : FolderSet) : List Call → ℕ → Type 0 where
+  none : MovesCounted set [] 0
+  anOpen : {l : Lent} {e : Name} {earlier : List Call} {moves more : ℕ} → MovesCounted set earlier moves → OpenMoves set (namesLeft earlier) e more → MovesCounted set (openCall l e ∷ earlier) (moves + more)
+  aClose : {l : Lent} {e : Name} {earlier : List Call} {moves : ℕ} → MovesCounted set earlier moves → MovesCounted set (closeCall l e ∷ earlier) moves

@@ -10,7 +10,7 @@ use Rattle.notation.specs.Fit.{Active}
 use Rattle.theory.specs.Prefix.{CurrentPrefix}
 use Rattle.theory.specs.Calls.{Call, State, openNames, pathAt, activeStep, run}
 use Rattle.theory.specs.History.{acceptedCalls, opensIn, closesIn, stillOpen, FittedAfterOpen, opensOf, SameAnswers}
-use Rattle.theory.specs.Moves.{MovesTold}
+use Rattle.theory.specs.Moves.{MovesCounted}
 use Rattle.theory.specs.Elements.{elementsOf, childlessDepths}
 use Rattle.theory.specs.Folders.{FolderMatched, folderMatched}
 
@@ -30,6 +30,6 @@ pub record Whole (set : FolderSet) (calls : List Call) (s : State) : Type 0 wher
   pub opens : s .opens ≡ opensIn (acceptedCalls set calls)
   pub closes : s .closes ≡ closesIn (acceptedCalls set calls)
   -- the failure moves counted are those of the walks of the accepted opens added up
-  pub movesTold : MovesTold set (acceptedCalls set calls) (s .moves)
+  pub movesCounted : MovesCounted set (acceptedCalls set calls) (s .moves)
   -- and at most the depths of all childless elements added up
   pub moves : s .moves ≤ childlessDepths (elementsOf (acceptedCalls set calls))

@@ -6,7 +6,7 @@ use mathlib.Core.List.{List, [], _∷_}
 use lib.Dec.{eqb, ltb}
 use lib.ListN.{length}
 use Rattle.text.specs.Lists.{every}
-use Rattle.text.specs.Refusals.{oversize, foreignByte, torn, looseEnd, numberOf}
+use Rattle.text.specs.Refusals.{tooLarge, invalidByte, syntaxError, notOneRoot, numberOf}
 use Rattle.stored.specs.RunCalls.{depthOf, startRefusal}
 use Rattle.stored.specs.Demand3.{Left, started}
 use Rattle.stored.specs.declared.counters.Counters.{Counters}
@@ -28,17 +28,17 @@ tokensOutcome a t (x ∷ xs) = thenGo (eventsOutcome a t (eventsOfToken x)) (λ 
 
 -- the report's end: there was a root, and nothing is open
 unfoldable pub endOutcome : Left → Outcome
-endOutcome t = cond (eqb (t .counters .opens) 0 || not (eqb (depthOf (t .bytes)) 0)) (refusedWith (numberOf looseEnd)) (leaving t)
+endOutcome t = cond (eqb (t .counters .opens) 0 || not (eqb (depthOf (t .bytes)) 0)) (refusedWith (numberOf notOneRoot)) (leaving t)
 
 abbrev pub runOutcome : List ℕ → Left → Read (List Token) → Outcome
-runOutcome a t fail = refusedWith (numberOf torn)
+runOutcome a t fail = refusedWith (numberOf syntaxError)
 runOutcome a t (got ts r) = thenGo (tokensOutcome a t ts) endOutcome
 
 -- a report from a fresh run on: 2, 8, 9, the tokens, the end
 unfoldable pub reportOutcome : List ℕ → Left → List ℕ → Outcome
 reportOutcome a t report =
-    cond (ltb maxReportBytes (length report)) (refusedWith (numberOf oversize))
-    (cond (not (every listed report)) (refusedWith (numberOf foreignByte)) (runOutcome a t (readReport report)))
+    cond (ltb maxReportBytes (length report)) (refusedWith (numberOf tooLarge))
+    (cond (not (every listed report)) (refusedWith (numberOf invalidByte)) (runOutcome a t (readReport report)))
 
 -- 1 and 14, of automaton and run, come first
 abbrev pub fileAnswer : List ℕ → List ℕ → List ℕ → ℕ

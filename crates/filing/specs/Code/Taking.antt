@@ -5,7 +5,7 @@ use mathlib.Core.Bool.{Bool, not, _&&_, _||_}
 use mathlib.Core.List.{List}
 use lib.Dec.{eqb, leb}
 use Rattle.text.specs.Names.{Name}
-use Rattle.text.specs.Refusals.{torn, numberOf}
+use Rattle.text.specs.Refusals.{syntaxError, numberOf}
 use Rattle.stored.specs.RunCalls.{startRun}
 use Rattle.stored.specs.Demand3.{Left}
 use Rattle.stored.specs.declared.counters.Counters.{Counters}
@@ -43,10 +43,10 @@ foundOutcome a t (End from to end) e = closeOutcome a t e
 foundOutcome a t (Text end all) e = textOutcome t all
 
 -- no token, or a declaration past offset 0
-abbrev pub tornAt : Found → ℕ → Bool
-tornAt f at = leb (foundEnd f) at || (not (eqb at 0) && declares f)
+abbrev pub noTokenAt : Found → ℕ → Bool
+noTokenAt f at = leb (foundEnd f) at || (not (eqb at 0) && declares f)
 
 -- what the rest of the tokens makes of an outcome: 9 is found first of all
 abbrev pub runFrom : List ℕ → Outcome → Read (List Token) → Outcome
-runFrom a o fail = refusedWith (numberOf torn)
+runFrom a o fail = refusedWith (numberOf syntaxError)
 runFrom a o (got ts r) = thenGo o (λ t. tokensOutcome a t ts)

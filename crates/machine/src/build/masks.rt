@@ -15,15 +15,15 @@ ghost use mathlib.Core.Bool.{true};
 ghost use Prim.Native.Nat.{_+_, _*_, _≤_, _<_};
 ghost use lib.ListN.{length};
 ghost use Rattle.stored.specs.Automaton.{automatonSize, maskSize, bit};
-ghost use Rattle.stored.specs.Code.Masks.{marked, axisMask, markRole, markStep, markSteps, markPath, withMasks, childAt, rooted, anyRooted, withStart};
+ghost use Rattle.stored.specs.Code.Masks.{flaged, axisMask, flagRole, flagStep, flagSteps, flagPath, withMasks, childAt, rooted, anyRooted, withStart};
 ghost use Rattle.notation.specs.Reads.{stepAt, pathCount};
 
 const STEP_BITS: usize = 8 * MASK_SIZE;
 
 // Bit i of mask m.
-fn mark(part: &mut [u8], on: bool, m: usize, i: usize)
+fn flag(part: &mut [u8], on: bool, m: usize, i: usize)
     requires { ⌜ (m < 6) × (i < 8 * maskSize) × (automatonSize ≤ length (now part)) ⌝ }
-    ensures { λ _. ⌜ now (part .exit) ≡ marked on m i (now (part .entry)) ⌝ }
+    ensures { λ _. ⌜ now (part .exit) ≡ flaged on m i (now (part .entry)) ⌝ }
 {
     if on {
         let j = STEP_BITS * m + i;
@@ -44,44 +44,44 @@ fn axis_mask(first: bool, deep: bool) -> usize
 }
 
 // A step in the masks.
-fn mark_role(part: &mut [u8], i: usize, deep: bool, star: bool, first: bool, last: bool)
+fn flag_role(part: &mut [u8], i: usize, deep: bool, star: bool, first: bool, last: bool)
     requires { ⌜ (i < 8 * maskSize) × (automatonSize ≤ length (now part)) ⌝ }
-    ensures { λ _. ⌜ now (part .exit) ≡ markRole i deep star first last (now (part .entry)) ⌝ }
+    ensures { λ _. ⌜ now (part .exit) ≡ flagRole i deep star first last (now (part .entry)) ⌝ }
 {
     let axis = axis_mask(first, deep);
-    mark(part, star, 0, i);
-    mark(part, true, axis, i);
-    mark(part, last, 5, i);
+    flag(part, star, 0, i);
+    flag(part, true, axis, i);
+    flag(part, last, 5, i);
 }
 
-fn mark_step(part: &mut [u8], i: usize, first: bool, last: bool)
+fn flag_step(part: &mut [u8], i: usize, first: bool, last: bool)
     requires { ⌜ automatonSize ≤ length (now part) ⌝ }
-    ensures { λ _. ⌜ now (part .exit) ≡ markStep i first last (now (part .entry)) ⌝ }
+    ensures { λ _. ⌜ now (part .exit) ≡ flagStep i first last (now (part .entry)) ⌝ }
 {
     if STEP_BITS <= i {
         return;
     }
     match reads::step_at(part, i) {
-        StepAt::Step { descendant, star } => mark_role(part, i, descendant, star, first, last),
+        StepAt::Step { descendant, star } => flag_role(part, i, descendant, star, first, last),
         StepAt::Missing => {}
     }
 }
 
 // The steps of a path.
-fn mark_steps(part: &mut [u8], from: usize, steps: usize)
+fn flag_steps(part: &mut [u8], from: usize, steps: usize)
     requires { ⌜ (from < 65536) × (steps < 65536) × (automatonSize ≤ length (now part)) ⌝ }
-    ensures { λ _. ⌜ now (part .exit) ≡ markSteps steps from true (now (part .entry)) ⌝ }
+    ensures { λ _. ⌜ now (part .exit) ≡ flagSteps steps from true (now (part .entry)) ⌝ }
 {
     let mut k = 0;
     while k < steps {
-        mark_step(part, from + k, k == 0, k + 1 == steps);
+        flag_step(part, from + k, k == 0, k + 1 == steps);
         k += 1;
     }
 }
 
-fn mark_path(part: &mut [u8], place: usize)
+fn flag_path(part: &mut [u8], place: usize)
     requires { ⌜ automatonSize ≤ length (now part) ⌝ }
-    ensures { λ _. ⌜ now (part .exit) ≡ markPath place (now (part .entry)) ⌝ }
+    ensures { λ _. ⌜ now (part .exit) ≡ flagPath place (now (part .entry)) ⌝ }
 {
     match reads::path_at(part, PathPlace(place)) {
         PathAt::Path {
@@ -89,7 +89,7 @@ fn mark_path(part: &mut [u8], place: usize)
             steps,
             at: _,
             size: _,
-        } => mark_steps(part, first, steps),
+        } => flag_steps(part, first, steps),
         PathAt::Missing => {}
     }
 }
@@ -102,7 +102,7 @@ pub fn write_masks(part: &mut [u8])
     let n = reads::paths(part);
     let mut place = 0;
     while place < n {
-        mark_path(part, place);
+        flag_path(part, place);
         place += 1;
     }
 }

@@ -29,7 +29,7 @@ fn set_bit(out: &mut [u8], i: usize)
 }
 
 // The bit of a label's step, if the label has the name.
-fn mark_label(out: &mut [u8], a: &[u8], e: &[u8], l: usize)
+fn flag_label(out: &mut [u8], a: &[u8], e: &[u8], l: usize)
     requires { ⌜ (maskSize ≤ length (now out)) × ((Openable (now a)) × (l < labelCount (now a))) ⌝ }
     ensures { λ _. ⌜ ((j : ℕ) → bitAt (now (out .exit)) j ≡ (bitAt (now (out .entry)) j || any (λ m. eqb (word16 (now (a .entry)) (labelEntryAt m + 4)) j) (ownLabel (now (a .entry)) (now (e .entry)) l))) ⌝ }
 {
@@ -39,13 +39,13 @@ fn mark_label(out: &mut [u8], a: &[u8], e: &[u8], l: usize)
 }
 
 // The bits of the labels of the name. `h` is its hash.
-pub fn mark_labels(out: &mut [u8], a: &[u8], e: &[u8], h: usize)
+pub fn flag_labels(out: &mut [u8], a: &[u8], e: &[u8], h: usize)
     requires { ⌜ (maskSize ≤ length (now out)) × ((Openable (now a)) × (h ≡ hash (now e))) ⌝ }
     ensures { λ _. ⌜ ((j : ℕ) → bitAt (now (out .exit)) j ≡ (bitAt (now (out .entry)) j || any (λ m. eqb (word16 (now (a .entry)) (labelEntryAt m + 4)) j) (chainLabels (now (a .entry)) (now (e .entry))))) ⌝ }
 {
     let mut k = word(a, HEADS_AT + 2 * h);
     while k != 0 {
-        mark_label(out, a, e, k - 1);
+        flag_label(out, a, e, k - 1);
         k = word(a, LINKS_AT + LINK_SIZE * (k - 1));
     }
 }

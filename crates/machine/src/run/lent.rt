@@ -4,6 +4,8 @@ use crate::run::layout::RUN_SIZE;
 use crate::run::shape;
 use crate::shape::automaton_shaped;
 use stored::counters::Counters;
+use text::refusals::BAD_SHAPE;
+use text::refusals::SHORT_BUFFER;
 ghost use mathlib.Core.Path.{_≡_};
 ghost use mathlib.Core.Bool.{_&&_};
 ghost use Rattle.text.specs.Order.{given};
@@ -35,13 +37,13 @@ pub fn refusal(a: &[u8], run: &[u8], c: Counters) -> u8
     ensures { λ r. ⌜ r ≡ given (lentConditions (now (a .entry)) (now (run .entry)) c) ⌝ }
 {
     if a.len() < AUTOMATON_SIZE {
-        return 1;
+        return SHORT_BUFFER;
     }
     if run.len() < RUN_SIZE {
-        return 1;
+        return SHORT_BUFFER;
     }
     if !all_shaped(a, run, c) {
-        return 14;
+        return BAD_SHAPE;
     }
     0
 }

@@ -52,8 +52,8 @@ fn write(a: &[u8], run: &mut [u8], e: &[u8], h: usize, d: usize, state: usize)
     let mut seen = [0; MASK_SIZE];
     let mut matched = [0; MASK_SIZE];
     let used = steps::used_bytes(a);
-    candidates::mark_labels(&mut taken, a, e, h);
-    steps::mark_bits(
+    candidates::flag_labels(&mut taken, a, e, h);
+    steps::flag_bits(
         a,
         run,
         &taken,

@@ -9,10 +9,19 @@ use crate::run::rows;
 use crate::run::shape;
 use stored::counters::Counters;
 use text::names;
+use text::refusals::BAD_SHAPE;
+use text::refusals::MISMATCHED_CLOSE;
+use text::refusals::NAME_TOO_LONG;
+use text::refusals::NOT_FOUND;
+use text::refusals::NOT_ONE_ROOT;
+use text::refusals::OVER_CAPACITY;
+use text::refusals::SHORT_BUFFER;
+use text::refusals::SYNTAX_ERROR;
+use text::refusals::TOO_DEEP;
 ghost use mathlib.Core.Path.{_≡_};
 ghost use Prim.Native.Nat.{_≤_};
 ghost use Rattle.text.specs.Order.{given};
-ghost use Rattle.stored.specs.RunCalls.{depthOf, rootShut, nameConditions, openOthers, closeOthers};
+ghost use Rattle.stored.specs.RunCalls.{depthOf, rootClosed, nameConditions, openOthers, closeOthers};
 ghost use Rattle.stored.specs.Asking.{askRefusal, RowName};
 ghost use Rattle.stored.specs.Openable.{Ready};
 
@@ -31,17 +40,17 @@ fn name_refusal(e: &[u8]) -> u8
     ensures { λ r. ⌜ r ≡ given (nameConditions (now (e .entry))) ⌝ }
 {
     if !names::name_form(e) {
-        return 9;
+        return SYNTAX_ERROR;
     }
     if names::too_long(e) {
-        return 5;
+        return NAME_TOO_LONG;
     }
     0
 }
 
 // The root is closed.
-fn root_shut(run: &[u8], c: Counters) -> bool
-    ensures { λ r. ⌜ r ≡ rootShut (now (run .entry)) c ⌝ }
+fn root_closed(run: &[u8], c: Counters) -> bool
+    ensures { λ r. ⌜ r ≡ rootClosed (now (run .entry)) c ⌝ }
 {
     if c.opens == 0 {
         return false;
@@ -57,14 +66,14 @@ pub fn open_others(run: &[u8], c: Counters, e: &[u8]) -> u8
     if first != 0 {
         return first;
     }
-    if root_shut(run, c) {
-        return 10;
+    if root_closed(run, c) {
+        return NOT_ONE_ROOT;
     }
     if MAX_DEPTH <= shape::depth(run) {
-        return 11;
+        return TOO_DEEP;
     }
     if MAX_OPENS <= c.opens {
-        return 7;
+        return OVER_CAPACITY;
     }
     0
 }
@@ -80,10 +89,10 @@ pub fn close_others(a: &[u8], run: &[u8], e: &[u8]) -> u8
     }
     let d = shape::depth(run);
     if d == 0 {
-        return 10;
+        return NOT_ONE_ROOT;
     }
     if !names::same_name(stored_name(a, run, d), e) {
-        return 12;
+        return MISMATCHED_CLOSE;
     }
     0
 }
@@ -93,16 +102,16 @@ pub fn ask_refusal(a: &[u8], run: &[u8], there: bool) -> u8
     ensures { λ r. ⌜ r ≡ askRefusal (now (a .entry)) (now (run .entry)) there ⌝ }
 {
     if a.len() < AUTOMATON_SIZE {
-        return 1;
+        return SHORT_BUFFER;
     }
     if run.len() < RUN_SIZE {
-        return 1;
+        return SHORT_BUFFER;
     }
     if !lent::both_shaped(a, run) {
-        return 14;
+        return BAD_SHAPE;
     }
     if there {
         return 0;
     }
-    13
+    NOT_FOUND
 }

@@ -8,6 +8,8 @@ use crate::shape;
 use notation::reads;
 use stored::answers::Started;
 use stored::counters::Counters;
+use text::refusals::BAD_SHAPE;
+use text::refusals::SHORT_BUFFER;
 use text::store::clear;
 use text::store::put16;
 ghost use mathlib.Core.Path.{_≡_};
@@ -38,15 +40,15 @@ fn start_refusal(a: &[u8], run: &[u8]) -> u8
     ensures { λ r. ⌜ r ≡ startRefusal (now (a .entry)) (now (run .entry)) ⌝ }
 {
     if a.len() < AUTOMATON_SIZE {
-        return 1;
+        return SHORT_BUFFER;
     }
     if run.len() < RUN_SIZE {
-        return 1;
+        return SHORT_BUFFER;
     }
     if shape::automaton_shaped(a) {
         return 0;
     }
-    14
+    BAD_SHAPE
 }
 
 // The start, with the counters by value.

@@ -123,7 +123,7 @@ fn match_byte(a: &[u8], run: &[u8], j: usize, active: usize) -> usize
 }
 
 // The bits of all steps, in one pass over the bytes used. `taken` has the labels of the new element's name, and d is the depth before.
-pub fn mark_bits(
+pub fn flag_bits(
     a: &[u8],
     run: &[u8],
     taken: &[u8],

@@ -7,7 +7,7 @@ use Rattle.text.specs.Names.{inName}
 use Rattle.notation.specs.Layout.{Tables, folderEntry, pathEntry, labelEntry, layout}
 use Rattle.notation.specs.Code.Scan.{scanned, start}
 use Rattle.notation.specs.declared.scan.Mode.{Mode}
-use Rattle.notation.specs.declared.scan.Mode.the-variants.{Header, LineStart, Word, NumberStart, Number, PathOpen, PathStart, Slash, Slashes, Label, Star, PathEnd, LineEnd, LastLine, Done, Bent}
+use Rattle.notation.specs.declared.scan.Mode.the-variants.{Header, LineStart, Word, NumberStart, Number, PathOpen, PathStart, Slash, Slashes, Label, Star, PathEnd, LineEnd, LastLine, Done, Malformed}
 use Rattle.notation.specs.declared.scan.Tally.{Tally}
 use Rattle.notation.specs.declared.scan.Scan.{Scan}
 
@@ -48,7 +48,7 @@ emitted PathEnd b t x = x
 emitted LineEnd b t x = x
 emitted LastLine b t x = x
 emitted Done b t x = x
-emitted Bent b t x = x
+emitted Malformed b t x = x
 
 unfoldable pub emit : Scan → Tables → List ℕ → Tables
 emit s x [] = x

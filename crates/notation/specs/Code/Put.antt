@@ -11,7 +11,7 @@ use Rattle.notation.specs.Code.Scan.{scanned}
 use Rattle.text.specs.Bytes.{le16}
 use Rattle.notation.specs.Layout.{folderSize, pathSize, labelSize, foldersAt, pathsAt, stepsAt, labelsAt, folderEntry, pathEntry, labelEntry}
 use Rattle.notation.specs.declared.scan.Mode.{Mode}
-use Rattle.notation.specs.declared.scan.Mode.the-variants.{Header, LineStart, Word, NumberStart, Number, PathOpen, PathStart, Slash, Slashes, Label, Star, PathEnd, LineEnd, LastLine, Done, Bent}
+use Rattle.notation.specs.declared.scan.Mode.the-variants.{Header, LineStart, Word, NumberStart, Number, PathOpen, PathStart, Slash, Slashes, Label, Star, PathEnd, LineEnd, LastLine, Done, Malformed}
 use Rattle.notation.specs.declared.scan.Tally.{Tally}
 use Rattle.notation.specs.declared.scan.Scan.{Scan}
 
@@ -48,7 +48,7 @@ put PathEnd b t part = part
 put LineEnd b t part = part
 put LastLine b t part = part
 put Done b t part = part
-put Bent b t part = part
+put Malformed b t part = part
 
 -- the tables have room for what has been counted
 pub record Within (t : Tally) : Type 0 where

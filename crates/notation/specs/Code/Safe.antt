@@ -2,7 +2,7 @@
 -- words are within them.
 use Prim.Native.Nat.{_≤_, _<_}
 use Rattle.notation.specs.declared.scan.Mode.{Mode}
-use Rattle.notation.specs.declared.scan.Mode.the-variants.{Header, LineStart, Word, NumberStart, Number, PathOpen, PathStart, Slash, Slashes, Label, Star, PathEnd, LineEnd, LastLine, Done, Bent}
+use Rattle.notation.specs.declared.scan.Mode.the-variants.{Header, LineStart, Word, NumberStart, Number, PathOpen, PathStart, Slash, Slashes, Label, Star, PathEnd, LineEnd, LastLine, Done, Malformed}
 use Rattle.notation.specs.declared.scan.Tally.{Tally}
 use Rattle.notation.specs.declared.scan.Scan.{Scan}
 
@@ -22,7 +22,7 @@ SmallMode PathEnd = Unit {0}
 SmallMode LineEnd = Unit {0}
 SmallMode LastLine = Unit {0}
 SmallMode Done = Unit {0}
-SmallMode Bent = Unit {0}
+SmallMode Malformed = Unit {0}
 
 -- every count leaves room for one more
 pub record Small (t : Tally) : Type 0 where

@@ -10,33 +10,33 @@ use Rattle.notation.specs.Limits.{maxSteps, maxPaths, maxLabels}
 use Rattle.notation.specs.Print.{header, folderWord}
 use Rattle.notation.specs.Form.{overBytes}
 use Rattle.notation.specs.declared.scan.Mode.{Mode}
-use Rattle.notation.specs.declared.scan.Mode.the-variants.{Header, LineStart, Word, NumberStart, Number, PathOpen, PathStart, Slash, Slashes, Label, Star, PathEnd, LineEnd, LastLine, Done, Bent}
+use Rattle.notation.specs.declared.scan.Mode.the-variants.{Header, LineStart, Word, NumberStart, Number, PathOpen, PathStart, Slash, Slashes, Label, Star, PathEnd, LineEnd, LastLine, Done, Malformed}
 use Rattle.notation.specs.declared.scan.Tally.{Tally}
 use Rattle.notation.specs.declared.scan.Scan.{Scan}
 
 -- a label or `*` begins; one ends, before the next step or at the path's bracket
 abbrev pub testStart : ℕ → Mode
-testStart b = cond (beginsName b) Label (cond (eqb b 42) Star Bent)
+testStart b = cond (beginsName b) Label (cond (eqb b 42) Star Malformed)
 
 abbrev pub testEnd : ℕ → Mode
-testEnd b = cond (eqb b 47) Slash (cond (eqb b 41) PathEnd Bent)
+testEnd b = cond (eqb b 47) Slash (cond (eqb b 41) PathEnd Malformed)
 
 -- the next byte of a fixed word, which ends after byte `last`
 abbrev pub inWord : List ℕ → ℕ → ℕ → ℕ → Mode → Mode → Mode
-inWord word k last b more over = cond (eqb b (getD word k 0)) (cond (eqb k last) over more) Bent
+inWord word k last b more over = cond (eqb b (getD word k 0)) (cond (eqb k last) over more) Malformed
 
 -- a number has at most four digits
 abbrev pub inNumber : ℕ → ℕ → Mode
-inNumber n b = cond (eqb b 32) PathOpen (cond (digit b && ltb n 1000) (Number (10 * n + (b - 48))) Bent)
+inNumber n b = cond (eqb b 32) PathOpen (cond (digit b && ltb n 1000) (Number (10 * n + (b - 48))) Malformed)
 
 abbrev pub lineStart : ℕ → Mode
-lineStart b = cond (eqb b 40) (Word 1) (cond (eqb b 41) LastLine Bent)
+lineStart b = cond (eqb b 40) (Word 1) (cond (eqb b 41) LastLine Malformed)
 
 abbrev pub numberStart : ℕ → Mode
-numberStart b = cond (within 49 57 b) (Number (b - 48)) Bent
+numberStart b = cond (within 49 57 b) (Number (b - 48)) Malformed
 
 abbrev pub pathEnd : ℕ → Mode
-pathEnd b = cond (eqb b 32) PathOpen (cond (eqb b 41) LineEnd Bent)
+pathEnd b = cond (eqb b 32) PathOpen (cond (eqb b 41) LineEnd Malformed)
 
 unfoldable pub next : Mode → ℕ → Mode
 next (Header k) b = inWord header k 8 b (Header (k + 1)) LineStart
@@ -44,17 +44,17 @@ next LineStart b = lineStart b
 next (Word k) b = inWord folderWord k 7 b (Word (k + 1)) NumberStart
 next NumberStart b = numberStart b
 next (Number n) b = inNumber n b
-next PathOpen b = cond (eqb b 40) PathStart Bent
-next PathStart b = cond (eqb b 47) Slash Bent
+next PathOpen b = cond (eqb b 40) PathStart Malformed
+next PathStart b = cond (eqb b 47) Slash Malformed
 next Slash b = cond (eqb b 47) Slashes (testStart b)
 next Slashes b = testStart b
 next Label b = cond (inName b) Label (testEnd b)
 next Star b = testEnd b
 next PathEnd b = pathEnd b
-next LineEnd b = cond (eqb b 10) LineStart Bent
-next LastLine b = cond (eqb b 10) Done Bent
-next Done b = Bent
-next Bent b = Bent
+next LineEnd b = cond (eqb b 10) LineStart Malformed
+next LastLine b = cond (eqb b 10) Done Malformed
+next Done b = Malformed
+next Malformed b = Malformed
 
 -- the first of two faults, 0 for none
 abbrev pub orElse : ℕ → ℕ → ℕ
@@ -199,7 +199,7 @@ counted PathEnd b t = t
 counted LineEnd b t = t
 counted LastLine b t = t
 counted Done b t = t
-counted Bent b t = t
+counted Malformed b t = t
 
 unfoldable pub scanned : Scan → ℕ → Scan
 scanned s b = record { mode = next (s .mode) b; tally = ticked (counted (s .mode) b (s .tally)) }
@@ -231,7 +231,7 @@ isDone PathEnd = false
 isDone LineEnd = false
 isDone LastLine = false
 isDone Done = true
-isDone Bent = false
+isDone Malformed = false
 
 -- the refusal of a text whose scan has ended so: 3, the first of 4 to 6, 7, or 0 for none
 unfoldable pub ended : Scan → ℕ

@@ -5,6 +5,9 @@ use crate::scan::Tally;
 use text::arith::minus;
 use text::names;
 use text::names::MAX_NAME;
+use text::refusals::NAME_TOO_LONG;
+use text::refusals::OUT_OF_ORDER;
+use text::refusals::PATH_TOO_LONG;
 ghost use mathlib.Core.Path.{_≡_};
 ghost use mathlib.Core.Bool.{cond};
 ghost use Prim.Native.Nat.{_<_};
@@ -33,7 +36,7 @@ fn folder_read(t: Tally, n: usize) -> Tally
     ensures { λ r. ⌜ r ≡ folderRead n t ⌝ }
 {
     let mut then = t;
-    then.fault = or_else(t.fault, when(n <= t.last, 4));
+    then.fault = or_else(t.fault, when(n <= t.last, OUT_OF_ORDER));
     then.last = n;
     then.folders = t.folders + 1;
     then
@@ -75,7 +78,10 @@ fn step_read(t: Tally, more: usize, long: u8) -> Tally
 {
     let many = minus(t.steps, t.first);
     let mut then = t;
-    then.fault = or_else(t.fault, or_else(long, when(MAX_STEPS <= many, 6)));
+    then.fault = or_else(
+        t.fault,
+        or_else(long, when(MAX_STEPS <= many, PATH_TOO_LONG)),
+    );
     then.deep = 0;
     then.steps = t.steps + 1;
     then.labels = t.labels + more;
@@ -87,7 +93,7 @@ fn label_read(t: Tally) -> Tally
     ensures { λ r. ⌜ r ≡ labelRead t ⌝ }
 {
     let size = minus(t.at, t.from);
-    step_read(t, 1, when(MAX_NAME < size, 5))
+    step_read(t, 1, when(MAX_NAME < size, NAME_TOO_LONG))
 }
 
 // A path has ended, if this byte is its bracket.
@@ -153,6 +159,6 @@ pub fn count(t: Tally, m: Mode, b: u8) -> Tally
         Mode::LineEnd => t,
         Mode::LastLine => t,
         Mode::Done => t,
-        Mode::Bent => t,
+        Mode::Malformed => t,
     }
 }

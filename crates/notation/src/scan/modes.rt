@@ -9,7 +9,7 @@ ghost use Rattle.text.specs.Names.{inName};
 ghost use Rattle.notation.specs.Print.{header, folderWord};
 ghost use Rattle.notation.specs.Code.Scan.{next, testStart, testEnd, inWord, inNumber, lineStart, numberStart, pathEnd};
 ghost use Rattle.notation.specs.Code.Safe.{SmallMode};
-ghost use Rattle.notation.specs.declared.scan.Mode.the-variants.{Header, Word, LineStart, NumberStart, Slashes, Label, Bent};
+ghost use Rattle.notation.specs.declared.scan.Mode.the-variants.{Header, Word, LineStart, NumberStart, Slashes, Label, Malformed};
 
 // "(folders" and the line end; "(folder ".
 const HEADER: [u8; 9] = [40, 102, 111, 108, 100, 101, 114, 115, 10];
@@ -18,9 +18,9 @@ const WORD: [u8; 8] = [40, 102, 111, 108, 100, 101, 114, 32];
 
 // One byte that must be the wanted one.
 fn only(b: u8, wanted: u8, then: Mode) -> Mode
-    ensures { λ r. ⌜ r ≡ cond (eqb b wanted) then Bent ⌝ }
+    ensures { λ r. ⌜ r ≡ cond (eqb b wanted) then Malformed ⌝ }
 {
-    if b == wanted { then } else { Mode::Bent }
+    if b == wanted { then } else { Mode::Malformed }
 }
 
 fn in_header(k: usize, b: u8) -> Mode
@@ -28,7 +28,7 @@ fn in_header(k: usize, b: u8) -> Mode
     ensures { λ r. ⌜ r ≡ inWord header k 8 b (Header (k + 1)) LineStart ⌝ }
 {
     if b != HEADER[k] {
-        return Mode::Bent;
+        return Mode::Malformed;
     }
     if k == 8 {
         Mode::LineStart
@@ -42,7 +42,7 @@ fn in_word(k: usize, b: u8) -> Mode
     ensures { λ r. ⌜ r ≡ inWord folderWord k 7 b (Word (k + 1)) NumberStart ⌝ }
 {
     if b != WORD[k] {
-        return Mode::Bent;
+        return Mode::Malformed;
     }
     if k == 7 {
         Mode::NumberStart
@@ -65,10 +65,10 @@ fn number_start(b: u8) -> Mode
     ensures { λ r. ⌜ r ≡ numberStart b ⌝ }
 {
     if b < b'1' {
-        return Mode::Bent;
+        return Mode::Malformed;
     }
     if b'9' < b {
-        return Mode::Bent;
+        return Mode::Malformed;
     }
     Mode::Number((b - b'0') as usize)
 }
@@ -80,15 +80,15 @@ fn in_number(n: usize, b: u8) -> Mode
         return Mode::PathOpen;
     }
     if b < b'0' {
-        return Mode::Bent;
+        return Mode::Malformed;
     }
     if b'9' < b {
-        return Mode::Bent;
+        return Mode::Malformed;
     }
     if n < 1000 {
         Mode::Number(10 * n + (b - b'0') as usize)
     } else {
-        Mode::Bent
+        Mode::Malformed
     }
 }
 
@@ -162,7 +162,7 @@ pub fn step_mode(m: Mode, b: u8) -> Mode
         Mode::PathEnd => path_end(b),
         Mode::LineEnd => only(b, b'\n', Mode::LineStart),
         Mode::LastLine => only(b, b'\n', Mode::Done),
-        Mode::Done => Mode::Bent,
-        Mode::Bent => Mode::Bent,
+        Mode::Done => Mode::Malformed,
+        Mode::Malformed => Mode::Malformed,
     }
 }

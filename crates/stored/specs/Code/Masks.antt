@@ -14,8 +14,8 @@ use Rattle.stored.specs.Bits.{withBit}
 use Rattle.stored.specs.Automaton.{maskSize, masksAt, startAt, bit}
 
 -- bit i of mask m is set if `on`
-unfoldable pub marked : Bool → ℕ → ℕ → List ℕ → List ℕ
-marked on m i part =
+unfoldable pub flaged : Bool → ℕ → ℕ → List ℕ → List ℕ
+flaged on m i part =
     let at = masksAt + (8 * maskSize * m + i) / 8 in
     cond on (set part at (withBit (getD part at 0) ((8 * maskSize * m + i) % 8))) part
 
@@ -27,32 +27,32 @@ axisMask false true = 2
 axisMask false false = 1
 
 -- a step in the masks
-unfoldable pub markRole : ℕ → Bool → Bool → Bool → Bool → List ℕ → List ℕ
-markRole i deep star first last part = marked last 5 i (marked true (axisMask first deep) i (marked star 0 i part))
+unfoldable pub flagRole : ℕ → Bool → Bool → Bool → Bool → List ℕ → List ℕ
+flagRole i deep star first last part = flaged last 5 i (flaged true (axisMask first deep) i (flaged star 0 i part))
 
-abbrev pub markStepAt : StepAt → ℕ → Bool → Bool → List ℕ → List ℕ
-markStepAt (StepAt.Step deep star) i first last part = markRole i deep star first last part
-markStepAt StepAt.Missing i first last part = part
+abbrev pub flagStepAt : StepAt → ℕ → Bool → Bool → List ℕ → List ℕ
+flagStepAt (StepAt.Step deep star) i first last part = flagRole i deep star first last part
+flagStepAt StepAt.Missing i first last part = part
 
-unfoldable pub markStep : ℕ → Bool → Bool → List ℕ → List ℕ
-markStep i first last part = cond (ltb i (8 * maskSize)) (markStepAt (stepAt part i) i first last part) part
+unfoldable pub flagStep : ℕ → Bool → Bool → List ℕ → List ℕ
+flagStep i first last part = cond (ltb i (8 * maskSize)) (flagStepAt (stepAt part i) i first last part) part
 
 -- the steps of a path that are left, from step i on
-unfoldable pub markSteps : ℕ → ℕ → Bool → List ℕ → List ℕ
-markSteps zero i first part = part
-markSteps (suc left) i first part = markSteps left (suc i) false (markStep i first (eqb left 0) part)
+unfoldable pub flagSteps : ℕ → ℕ → Bool → List ℕ → List ℕ
+flagSteps zero i first part = part
+flagSteps (suc left) i first part = flagSteps left (suc i) false (flagStep i first (eqb left 0) part)
 
-abbrev pub markPathAt : PathAt → List ℕ → List ℕ
-markPathAt (PathAt.Path first steps at size) part = markSteps steps first true part
-markPathAt PathAt.Missing part = part
+abbrev pub flagPathAt : PathAt → List ℕ → List ℕ
+flagPathAt (PathAt.Path first steps at size) part = flagSteps steps first true part
+flagPathAt PathAt.Missing part = part
 
-unfoldable pub markPath : ℕ → List ℕ → List ℕ
-markPath place part = markPathAt (pathAt part (record { 0 = place })) part
+unfoldable pub flagPath : ℕ → List ℕ → List ℕ
+flagPath place part = flagPathAt (pathAt part (record { 0 = place })) part
 
 -- the paths that are left, from a place on
-unfoldable pub markPaths : ℕ → ℕ → List ℕ → List ℕ
-markPaths zero place part = part
-markPaths (suc left) place part = markPaths left (suc place) (markPath place part)
+unfoldable pub flagPaths : ℕ → ℕ → List ℕ → List ℕ
+flagPaths zero place part = part
+flagPaths (suc left) place part = flagPaths left (suc place) (flagPath place part)
 
 -- a path's first step is `/`
 abbrev pub childAt : StepAt → Bool
@@ -75,4 +75,4 @@ unfoldable pub withStart : List ℕ → List ℕ
 withStart part = sets part startAt (le16 (bit (anyRooted (pathCount part) 0 part)))
 
 unfoldable pub withMasks : List ℕ → List ℕ
-withMasks part = markPaths (pathCount part) 0 part
+withMasks part = flagPaths (pathCount part) 0 part

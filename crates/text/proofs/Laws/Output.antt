@@ -70,8 +70,8 @@ and-then {out} {out₁} {out₂} {p} {q} {cursor} {cursor₁} {cursor₂} x y = 
 }
 
 -- the same bytes, told otherwise
-pub told-as : {out out₁ p q : List ℕ} {cursor cursor₁ : Cursor} → Adds out cursor p out₁ cursor₁ → p ≡ q → Adds out cursor q out₁ cursor₁
-told-as x e = rw e at x
+pub same-bytes : {out out₁ p q : List ℕ} {cursor cursor₁ : Cursor} → Adds out cursor p out₁ cursor₁ → p ≡ q → Adds out cursor q out₁ cursor₁
+same-bytes x e = rw e at x
 
 module _ (out : List ℕ) (cursor : Cursor) (on : Within out cursor) where
   pub nothing : Adds out cursor [] out cursor

@@ -7,7 +7,7 @@ pub mod Folders
 pub mod Answers
 pub mod Childless
 pub mod Moves
-pub mod MovesTold
+pub mod MovesCounted
 pub mod Adding
 pub mod Alike
 pub mod Whole

@@ -4,7 +4,7 @@ use mathlib.Core.Path.{_≡_, refl, sym, ap, _∙_}
 use mathlib.Core.Bool.{cond}
 use mathlib.Core.Logic.{inl, inr}
 use mathlib.Core.List.{List}
-use Rattle.text.specs.Refusals.{Refusal, shortBuffer, oversize, bentForm, outOfTurn, longName, longPath, full, foreignByte, torn, looseEnd, tooDeep, crossed, noSuchPlace, strangeShape}
+use Rattle.text.specs.Refusals.{Refusal, shortBuffer, tooLarge, malformedSet, outOfOrder, nameTooLong, pathTooLong, overCapacity, invalidByte, syntaxError, notOneRoot, tooDeep, mismatchedClose, notFound, badShape}
 use Rattle.text.proofs.Laws.Tests.{cases}
 use Rattle.stored.specs.Demand3.{Left, started}
 use Rattle.stored.specs.declared.counters.Counters.{Counters}
@@ -16,19 +16,19 @@ use Rattle.filing.proofs.Laws.Demand1.ReportLeaves.{ofLent, lent-leaves
 -- what a refusal leaves, by whether it is of what is lent
 pub left-is : (a run : List ℕ) (c : Counters) (r : Refusal) → refusedLeft a run c r ≡ cond (ofLent r) (record { bytes = run; counters = c }) (started a run)
 left-is a run c shortBuffer = refl
-left-is a run c oversize = refl
-left-is a run c bentForm = refl
-left-is a run c outOfTurn = refl
-left-is a run c longName = refl
-left-is a run c longPath = refl
-left-is a run c full = refl
-left-is a run c foreignByte = refl
-left-is a run c torn = refl
-left-is a run c looseEnd = refl
+left-is a run c tooLarge = refl
+left-is a run c malformedSet = refl
+left-is a run c outOfOrder = refl
+left-is a run c nameTooLong = refl
+left-is a run c pathTooLong = refl
+left-is a run c overCapacity = refl
+left-is a run c invalidByte = refl
+left-is a run c syntaxError = refl
+left-is a run c notOneRoot = refl
 left-is a run c tooDeep = refl
-left-is a run c crossed = refl
-left-is a run c noSuchPlace = refl
-left-is a run c strangeShape = refl
+left-is a run c mismatchedClose = refl
+left-is a run c notFound = refl
+left-is a run c badShape = refl
 
 module _ (a run : List ℕ) (c : Counters) (report : List ℕ) where
   refused-left : (r : Refusal) → RefusedReport a run report r → fileLeft a run c report ≡ refusedLeft a run c r

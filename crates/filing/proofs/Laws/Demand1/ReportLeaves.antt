@@ -8,7 +8,7 @@ use lib.ListN.{length}
 use borrow.Author.Tests.{eqb-true, not-true}
 use native.Mathlib.Omega.{arith}
 use Rattle.text.specs.Lists.{every}
-use Rattle.text.specs.Refusals.{Refusal, shortBuffer, oversize, foreignByte, strangeShape, numberOf}
+use Rattle.text.specs.Refusals.{Refusal, shortBuffer, tooLarge, invalidByte, badShape, numberOf}
 use Rattle.text.specs.Order.{Condition, gives, refusalOf, FirstOf, first, given}
 use Rattle.text.proofs.Laws.Tests.{cases, both, clash}
 use Rattle.stored.specs.Shape.{automatonShaped}
@@ -26,7 +26,7 @@ use Rattle.filing.proofs.Laws.Demand1.Orders.{given-number}
 
 -- 1 and 14 are of what is lent; any other number is of the report
 abbrev pub ofLent : Refusal → Bool
-ofLent r = eqb (numberOf r) (numberOf shortBuffer) || eqb (numberOf r) (numberOf strangeShape)
+ofLent r = eqb (numberOf r) (numberOf shortBuffer) || eqb (numberOf r) (numberOf badShape)
 
 -- no event gives 1 or 14
 abbrev own : Condition → Bool
@@ -52,7 +52,7 @@ module _ (a run report : List ℕ) where
   unfolding startRefusal given first
   start-lent r = go (tooShort a run) (not (automatonShaped a)) (numberOf r) (some-number r)
     where
-      go : (b c : Bool) (n : ℕ) → (n ≡ 0 → ⊥) → given (gives b shortBuffer ∷ gives c strangeShape ∷ []) ≡ n → (eqb n 1 || eqb n 14) ≡ true
+      go : (b c : Bool) (n : ℕ) → (n ≡ 0 → ⊥) → given (gives b shortBuffer ∷ gives c badShape ∷ []) ≡ n → (eqb n 1 || eqb n 14) ≡ true
       go true c n z e = rw (sym e)
       go false true n z e = rw (sym e)
       go false false n z e = absurd (z (sym e))
@@ -61,8 +61,8 @@ module _ (a run report : List ℕ) where
   unfolding startRefusal given first
   once-own r = go (tooShort a run) (not (automatonShaped a)) (ltb maxReportBytes (length report)) (not (every listed report)) (numberOf r)
     where
-      go : (b c d e : Bool) (n : ℕ) → given (gives b shortBuffer ∷ gives c strangeShape ∷ []) ≡ 0
-          → given (gives b shortBuffer ∷ gives c strangeShape ∷ gives d oversize ∷ gives e foreignByte ∷ []) ≡ n → (eqb n 1 || eqb n 14) ≡ false
+      go : (b c d e : Bool) (n : ℕ) → given (gives b shortBuffer ∷ gives c badShape ∷ []) ≡ 0
+          → given (gives b shortBuffer ∷ gives c badShape ∷ gives d tooLarge ∷ gives e invalidByte ∷ []) ≡ n → (eqb n 1 || eqb n 14) ≡ false
       go true c d e n z h = absurd (omega arith)
       go false true d e n z h = absurd (omega arith)
       go false false true e n z h = rw (sym h)

@@ -9,7 +9,7 @@ use lib.ListN.{length}
 use borrow.Author.Tests.{ne-eqb}
 use native.Mathlib.Omega.{arith}
 use Rattle.text.specs.Lists.{every}
-use Rattle.text.specs.Refusals.{Refusal, shortBuffer, oversize, foreignByte, torn, looseEnd, strangeShape, numberOf}
+use Rattle.text.specs.Refusals.{Refusal, shortBuffer, tooLarge, invalidByte, syntaxError, notOneRoot, badShape, numberOf}
 use Rattle.text.specs.Order.{Condition, gives, Unmet, FirstOf, first, given}
 use Rattle.stored.specs.Shape.{automatonShaped}
 use Rattle.text.proofs.Laws.Tests.{cases}
@@ -64,7 +64,7 @@ module _ (a : List ℕ) where
   eventLeaves t (textHere b) = t
   eventLeaves t (commentHere b) = t
 
-  text-outcome : (c : Bool) (t : Left) → cond c (refusedWith (numberOf looseEnd)) (leaving t) ≡ outcome (given (gives c looseEnd ∷ [])) t
+  text-outcome : (c : Bool) (t : Left) → cond c (refusedWith (numberOf notOneRoot)) (leaving t) ≡ outcome (given (gives c notOneRoot ∷ [])) t
   unfolding given first
   text-outcome true t = refl
   text-outcome false t = refl
@@ -142,7 +142,7 @@ module _ (a : List ℕ) where
   run-is : (t : Left) (report : List ℕ) (ts : RunOfTokens report) → runOutcome a t (readReport report) ≡ thenGo (eventsOutcome a t (eventsOf (ts .tokens))) endOutcome
   run-is t report ts = ap (runOutcome a t) (run-found report ts) ∙ ap (λ (o : Outcome). thenGo o endOutcome) (tokens-are (ts .tokens) t)
 
-end-is : (t : Left) (b : Bool) → unfinishedIn t ≡ b → endOutcome t ≡ cond b (refusedWith (numberOf looseEnd)) (leaving t)
+end-is : (t : Left) (b : Bool) → unfinishedIn t ≡ b → endOutcome t ≡ cond b (refusedWith (numberOf notOneRoot)) (leaving t)
 unfolding endOutcome
 end-is t b e = rw e
 
@@ -162,8 +162,8 @@ module _ (a run report : List ℕ) where
   number-is = go (tooShort a run) (not (automatonShaped a)) (ltb maxReportBytes (length report)) (not (every listed report))
     where
       go : (b c d e : Bool)
-          → cond (eqb (given (gives b shortBuffer ∷ gives c strangeShape ∷ [])) 0) (numberLeft (cond d (refusedWith (numberOf oversize)) (cond e (refusedWith (numberOf foreignByte)) rest))) (given (gives b shortBuffer ∷ gives c strangeShape ∷ []))
-          ≡ cond (eqb (given (gives b shortBuffer ∷ gives c strangeShape ∷ gives d oversize ∷ gives e foreignByte ∷ [])) 0) (numberLeft rest) (given (gives b shortBuffer ∷ gives c strangeShape ∷ gives d oversize ∷ gives e foreignByte ∷ []))
+          → cond (eqb (given (gives b shortBuffer ∷ gives c badShape ∷ [])) 0) (numberLeft (cond d (refusedWith (numberOf tooLarge)) (cond e (refusedWith (numberOf invalidByte)) rest))) (given (gives b shortBuffer ∷ gives c badShape ∷ []))
+          ≡ cond (eqb (given (gives b shortBuffer ∷ gives c badShape ∷ gives d tooLarge ∷ gives e invalidByte ∷ [])) 0) (numberLeft rest) (given (gives b shortBuffer ∷ gives c badShape ∷ gives d tooLarge ∷ gives e invalidByte ∷ []))
       go true c d e = refl
       go false true d e = refl
       go false false true e = refl
@@ -174,7 +174,7 @@ module _ (a run report : List ℕ) where
   unfolding startRefusal given first
   starts = go (tooShort a run) (not (automatonShaped a)) (ltb maxReportBytes (length report)) (not (every listed report))
     where
-      go : (b c d e : Bool) → given (gives b shortBuffer ∷ gives c strangeShape ∷ gives d oversize ∷ gives e foreignByte ∷ []) ≡ 0 → given (gives b shortBuffer ∷ gives c strangeShape ∷ []) ≡ 0
+      go : (b c d e : Bool) → given (gives b shortBuffer ∷ gives c badShape ∷ gives d tooLarge ∷ gives e invalidByte ∷ []) ≡ 0 → given (gives b shortBuffer ∷ gives c badShape ∷ []) ≡ 0
       go true c d e h = absurd (omega arith)
       go false true d e h = absurd (omega arith)
       go false false d e h = refl
@@ -198,11 +198,11 @@ module _ (a run report : List ℕ) where
   events-decided z u ts (inl (t, e)) =
       let all : rest ≡ endOutcome t = run-is a (started a run) report ts ∙ ap (λ (o : Outcome). thenGo o endOutcome) e in
       cases (unfinishedIn t)
-      (λ h. inr (looseEnd, on z ∙ ap numberLeft (all ∙ end-is t true h), atEnd refl u ts t e h))
+      (λ h. inr (notOneRoot, on z ∙ ap numberLeft (all ∙ end-is t true h), atEnd refl u ts t e h))
       (λ h. inl (on z ∙ ap numberLeft (all ∙ end-is t false h), (t, record { unmet = u; tokens = ts; taken = e; finished = h })))
 
   read-decided : (given order ≡ 0) → Unmet order → (x : Read (List Token)) → readReport report ≡ x → FileDecided
-  read-decided z u fail e = inr (torn, on z ∙ ap (λ (x : Read (List Token)). numberLeft (runOutcome a (started a run) x)) e, noTokens refl u (none-found report e))
+  read-decided z u fail e = inr (syntaxError, on z ∙ ap (λ (x : Read (List Token)). numberLeft (runOutcome a (started a run) x)) e, noTokens refl u (none-found report e))
   read-decided z u (got ts r) e =
       let found = found-run report ts r e in
       events-decided z u found (events-end a (eventsOf (found .tokens)) (started a run) (fit z))
@@ -237,8 +237,8 @@ module _ (a run report : List ℕ) where
   unfolding startRefusal reportOutcome given first
   left-on c = go (tooShort a run) (not (automatonShaped a)) (ltb maxReportBytes (length report)) (not (every listed report))
     where
-      go : (b d e f : Bool) → given (gives b shortBuffer ∷ gives d strangeShape ∷ gives e oversize ∷ gives f foreignByte ∷ []) ≡ 0
-          → cond (eqb (given (gives b shortBuffer ∷ gives d strangeShape ∷ [])) 0) (leftIn (started a run) (cond e (refusedWith (numberOf oversize)) (cond f (refusedWith (numberOf foreignByte)) rest))) (record { bytes = run; counters = c })
+      go : (b d e f : Bool) → given (gives b shortBuffer ∷ gives d badShape ∷ gives e tooLarge ∷ gives f invalidByte ∷ []) ≡ 0
+          → cond (eqb (given (gives b shortBuffer ∷ gives d badShape ∷ [])) 0) (leftIn (started a run) (cond e (refusedWith (numberOf tooLarge)) (cond f (refusedWith (numberOf invalidByte)) rest))) (record { bytes = run; counters = c })
           ≡ leftIn (started a run) rest
       go true d e f h = absurd (omega arith)
       go false true e f h = absurd (omega arith)

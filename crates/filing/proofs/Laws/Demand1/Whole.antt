@@ -7,7 +7,7 @@ use mathlib.Core.List.{List, [], _∷_}
 use lib.ListN.{length}
 use denote.Ref.{now}
 use borrow.Author.Tests.{ne-eqb}
-use Rattle.text.specs.Refusals.{Refusal, shortBuffer, strangeShape, numberOf}
+use Rattle.text.specs.Refusals.{Refusal, shortBuffer, badShape, numberOf}
 use Rattle.text.specs.Answers.{value, numberSaid}
 use Rattle.notation.specs.Layout.{setSize}
 use Rattle.notation.specs.Reads.{textOf, pathAt, folderOf}
@@ -67,14 +67,14 @@ module _ (a run : List ℕ) (c : Counters) (report : List ℕ) (answer : ℕ) (r
   either-of (isTaken t w) = inl (f .takes t w .0)
   either-of (isRefused r w) = inr (r, f .refuses r w .0)
 
-  left-untouched : (answer ≡ numberOf shortBuffer) ⊎ (answer ≡ numberOf strangeShape) → (run' ≡ run) × (c' ≡ c)
+  left-untouched : (answer ≡ numberOf shortBuffer) ⊎ (answer ≡ numberOf badShape) → (run' ≡ run) × (c' ≡ c)
   left-untouched (inl e) = f .refuses shortBuffer (why shortBuffer e outcome) .1
-  left-untouched (inr e) = f .refuses strangeShape (why strangeShape e outcome) .1
+  left-untouched (inr e) = f .refuses badShape (why badShape e outcome) .1
 
-  left-own : (r : Refusal) → (numberOf r ≡ numberOf shortBuffer → ⊥) → (numberOf r ≡ numberOf strangeShape → ⊥) → refusedLeft a run c r ≡ started a run
-  left-own r h k = left-is a run c r ∙ rw (ne-eqb (numberOf r) (numberOf shortBuffer) h, ne-eqb (numberOf r) (numberOf strangeShape) k)
+  left-own : (r : Refusal) → (numberOf r ≡ numberOf shortBuffer → ⊥) → (numberOf r ≡ numberOf badShape → ⊥) → refusedLeft a run c r ≡ started a run
+  left-own r h k = left-is a run c r ∙ rw (ne-eqb (numberOf r) (numberOf shortBuffer) h, ne-eqb (numberOf r) (numberOf badShape) k)
 
-  left-fresh : (answer ≡ numberOf shortBuffer → ⊥) → (answer ≡ numberOf strangeShape → ⊥) → (answer ≡ 0 → ⊥) → Outcome → (run' ≡ startRun a run) × (c' ≡ noCounters)
+  left-fresh : (answer ≡ numberOf shortBuffer → ⊥) → (answer ≡ numberOf badShape → ⊥) → (answer ≡ 0 → ⊥) → Outcome → (run' ≡ startRun a run) × (c' ≡ noCounters)
   left-fresh h k n (isTaken t w) = absurd (n (f .takes t w .0))
   left-fresh h k n (isRefused r w) =
       let (is, (p, q)) = f .refuses r w in

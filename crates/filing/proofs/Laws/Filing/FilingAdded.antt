@@ -16,7 +16,7 @@ use Rattle.theory.proofs.Laws.Machine.Alike.{run-alike, same-accepted}
 use Rattle.theory.proofs.Laws.Machine.Adding.{adding-folders}
 use Rattle.documents.specs.Tokens.{Token, blank}
 use Rattle.documents.specs.Document.{Event, opening, closing, textHere, commentHere, eventsOf}
-use Rattle.filing.specs.Filing.{filed, thenFile, fileCall, looseText, fileEvents, fileTokens, callsIn, unfinished, fileReport, FiledWith}
+use Rattle.filing.specs.Filing.{filed, thenFile, fileCall, textOutside, fileEvents, fileTokens, callsIn, unfinished, fileReport, FiledWith}
 use Rattle.filing.specs.Demand2.{Added}
 use Rattle.filing.proofs.Laws.Filing.FilingOrder.{filed-is}
 use Rattle.filing.proofs.Laws.Filing.FilingRun.{tokens-events, taken, taken-after}
@@ -56,12 +56,12 @@ module _ (a b : FolderSet) where
       let here : accepted (run b calls) call ≡ true = same-accepted b a calls call ∙ ap (λ (x : State). accepted x call) (sym is) ∙ ok in
       (n₂, more call calls es n₂ (close-accepted-is (run b calls) e .0 here) f)
 
-  files-text : (m n : State) (t : List ℕ) (es : List Event) → looseText m t ≡ false → Files m es n → Files m (textHere t ∷ es) n
+  files-text : (m n : State) (t : List ℕ) (es : List Event) → textOutside m t ≡ false → Files m es n → Files m (textHere t ∷ es) n
   unfolding fileEvents
   files-text m n t es ok p calls is =
       let (n₂, f) = p calls is in
-      let here : looseText (run b calls) t ≡ false =
-      ap (λ (x : Bool). not x && not (every blank t)) (sym (same-open calls)) ∙ ap (λ (x : State). looseText x t) (sym is) ∙ ok in
+      let here : textOutside (run b calls) t ≡ false =
+      ap (λ (x : Bool). not x && not (every blank t)) (sym (same-open calls)) ∙ ap (λ (x : State). textOutside x t) (sym is) ∙ ok in
       (n₂, rw here f)
 
   files-comment : (m n : State) (t : List ℕ) (es : List Event) → Files m es n → Files m (commentHere t ∷ es) n

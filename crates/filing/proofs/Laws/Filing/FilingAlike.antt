@@ -9,7 +9,7 @@ use lib.ListN.{length, length-map}
 use Rattle.text.specs.Names.{Name, sameName}
 use Rattle.text.specs.Lists.{every}
 use Rattle.notation.specs.Sets.{FolderSet}
-use Rattle.text.specs.Refusals.{Refusal, looseEnd}
+use Rattle.text.specs.Refusals.{Refusal, notOneRoot}
 use Rattle.text.specs.Order.{first}
 use Rattle.theory.specs.Calls.{asLeft, Call, openCall, closeCall, Level, level, nameOf, State, fresh, isInnermost, refusal, step, after, run}
 use Rattle.text.proofs.Laws.Tests.{cases}
@@ -20,7 +20,7 @@ use Rattle.documents.specs.Tokens.{Token, listed}
 use Rattle.text.specs.Read.{Read, fail, got}
 use Rattle.documents.specs.Reading.{readReport}
 use Rattle.documents.specs.Document.{Event, opening, closing, textHere, commentHere, eventsOf}
-use Rattle.filing.specs.Filing.{Filed, refused, filed, numberGiven, thenFile, unless, fileCall, looseText, fileEvents, unfinished, fileEnd, fileRun, fileReport}
+use Rattle.filing.specs.Filing.{Filed, refused, filed, numberGiven, thenFile, unless, fileCall, textOutside, fileEvents, unfinished, fileEnd, fileRun, fileReport}
 use Rattle.filing.proofs.Laws.Filing.FilingRun.{tokens-events}
 use Rattle.filing.proofs.Laws.Filing.FilingAdded.{same-open, same-finished}
 
@@ -37,11 +37,11 @@ abbrev ends : FolderSet → State → List Event → ℕ
 ends set m es = numberGiven (thenFile (fileEvents set m es) fileEnd)
 
 test-same : (t : Bool) (m n : State) (k g : State → Filed) → numberGiven (thenFile (k m) fileEnd) ≡ numberGiven (thenFile (g n) fileEnd)
-    → numberGiven (thenFile (thenFile (cond t (refused looseEnd) (filed m)) k) fileEnd) ≡ numberGiven (thenFile (thenFile (cond t (refused looseEnd) (filed n)) g) fileEnd)
+    → numberGiven (thenFile (thenFile (cond t (refused notOneRoot) (filed m)) k) fileEnd) ≡ numberGiven (thenFile (thenFile (cond t (refused notOneRoot) (filed n)) g) fileEnd)
 test-same true m n k g h = refl
 test-same false m n k g h = h
 
-end-same : (t : Bool) (m n : State) → numberGiven (cond t (refused looseEnd) (filed m)) ≡ numberGiven (cond t (refused looseEnd) (filed n))
+end-same : (t : Bool) (m n : State) → numberGiven (cond t (refused notOneRoot) (filed m)) ≡ numberGiven (cond t (refused notOneRoot) (filed n))
 end-same true m n = refl
 end-same false m n = refl
 
@@ -81,7 +81,7 @@ module _ (a b : FolderSet) where
   events-same (closing e ∷ es) calls = call-same (closeCall asLeft e) es calls (events-same es)
   events-same (textHere t ∷ es) calls =
       rw (same-open a b calls)
-      (test-same (looseText (run b calls) t) (run a calls) (run b calls) (λ x. fileEvents a x es) (λ x. fileEvents b x es) (events-same es calls))
+      (test-same (textOutside (run b calls) t) (run a calls) (run b calls) (λ x. fileEvents a x es) (λ x. fileEvents b x es) (events-same es calls))
   events-same (commentHere t ∷ es) calls = events-same es calls
 
   run-same : (x : Read (List Token)) → numberGiven (fileRun a x) ≡ numberGiven (fileRun b x)

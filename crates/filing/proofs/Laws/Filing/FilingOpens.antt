@@ -9,7 +9,7 @@ use borrow.Author.Tests.{lt-leb}
 use native.Mathlib.Omega.{arith}
 use Rattle.text.specs.Names.{Name}
 use Rattle.notation.specs.Sets.{FolderSet}
-use Rattle.text.specs.Refusals.{Refusal, full, numberOf}
+use Rattle.text.specs.Refusals.{Refusal, overCapacity, numberOf}
 use Rattle.text.specs.Lists.{any}
 use Rattle.theory.specs.Limits.{maxOpens}
 use Rattle.theory.specs.Calls.{State, openNames, opensSpent, fresh}
@@ -73,12 +73,12 @@ module _ (set : FolderSet) (bytes : List ℕ) where
       token-among (stop .token) (stop .state) r (opens-left h run (stop .before) (stop .token ∷ stop .later) (stop .state) (stop .joined) (stop .taken)) (stop .stops)
   refused-among r (atEnd e h l run m taken u) = ap (λ (x : Refusal). among (numberOf x)) e
 
-  pub never-full : Refused set bytes full → ⊥
+  pub never-full : Refused set bytes overCapacity → ⊥
   unfolding any
-  never-full h = clash (refused-among full h) refl
+  never-full h = clash (refused-among overCapacity h) refl
 
-  pub full-never-given : fileReport set bytes ≡ refused full → ⊥
-  full-never-given e = never-full (refused-is set bytes full .0 e)
+  pub full-never-given : fileReport set bytes ≡ refused overCapacity → ⊥
+  full-never-given e = never-full (refused-is set bytes overCapacity .0 e)
 
   -- the number given is 0 or one with which a report is refused
   pub given-among : List·Memᴰ (numberGiven (fileReport set bytes)) reportNumbers

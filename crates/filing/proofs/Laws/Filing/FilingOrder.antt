@@ -9,7 +9,7 @@ use lib.ListN.{length}
 use borrow.Author.Tests.{ltb-true, ltb-false, lt-ltb, le-ltb}
 use Rattle.text.specs.Lists.{every}
 use Rattle.notation.specs.Sets.{FolderSet}
-use Rattle.text.specs.Refusals.{Refusal, oversize, foreignByte, torn, looseEnd}
+use Rattle.text.specs.Refusals.{Refusal, tooLarge, invalidByte, syntaxError, notOneRoot}
 use Rattle.theory.specs.Calls.{State, fresh}
 use Rattle.text.proofs.Laws.Tests.{cases}
 use Rattle.filing.specs.Limits.{maxReportBytes}
@@ -71,19 +71,19 @@ stops-is set ts r = (
 )
 
 -- the end
-end-refused : (m : State) (r : Refusal) → fileEnd m ≡ refused r → (r ≡ looseEnd) × (unfinished m ≡ true)
+end-refused : (m : State) (r : Refusal) → fileEnd m ≡ refused r → (r ≡ notOneRoot) × (unfinished m ≡ true)
 unfolding fileEnd
 end-refused m r e = cases (unfinished m)
-    (λ u. let h : refused looseEnd ≡ refused r = rw u at e in (cc, u))
+    (λ u. let h : refused notOneRoot ≡ refused r = rw u at e in (cc, u))
     (λ u. let h : filed m ≡ refused r = rw u at e in clash (cc))
 
 end-filed : (m n : State) → fileEnd m ≡ filed n → (m ≡ n) × (unfinished m ≡ false)
 unfolding fileEnd
 end-filed m n e = cases (unfinished m)
-    (λ u. let h : refused looseEnd ≡ filed n = rw u at e in clash (cc))
+    (λ u. let h : refused notOneRoot ≡ filed n = rw u at e in clash (cc))
     (λ u. let h : filed m ≡ filed n = rw u at e in (cc, u))
 
-end-loose : (m : State) → unfinished m ≡ true → fileEnd m ≡ refused looseEnd
+end-loose : (m : State) → unfinished m ≡ true → fileEnd m ≡ refused notOneRoot
 unfolding fileEnd
 end-loose m u = rw u
 
@@ -93,11 +93,11 @@ end-whole m u = rw u
 
 module _ (set : FolderSet) (bytes : List ℕ) where
   -- a report that is short, of listed bytes, and a run of tokens
-  over-is : maxReportBytes < length bytes → fileReport set bytes ≡ refused oversize
+  over-is : maxReportBytes < length bytes → fileReport set bytes ≡ refused tooLarge
   unfolding fileReport
   over-is h = rw (lt-ltb maxReportBytes (length bytes) h)
 
-  foreign-is : length bytes ≤ maxReportBytes → every listed bytes ≡ false → fileReport set bytes ≡ refused foreignByte
+  foreign-is : length bytes ≤ maxReportBytes → every listed bytes ≡ false → fileReport set bytes ≡ refused invalidByte
   unfolding fileReport
   foreign-is h l = rw (le-ltb maxReportBytes (length bytes) h, l)
 
@@ -108,14 +108,14 @@ module _ (set : FolderSet) (bytes : List ℕ) where
   tokens-are : length bytes ≤ maxReportBytes → (run : RunOfTokens bytes) → fileReport set bytes ≡ thenFile (fileTokens set (fresh set) (run .tokens)) fileEnd
   tokens-are h run = read-is h (run-listed bytes run) ∙ ap (fileRun set) (run-found bytes run)
 
-  torn-is : length bytes ≤ maxReportBytes → every listed bytes ≡ true → (RunOfTokens bytes → ⊥) → (x : Read (List Token)) → readReport bytes ≡ x → fileReport set bytes ≡ refused torn
-  torn-is h l not-run fail e = read-is h l ∙ ap (fileRun set) e
-  torn-is h l not-run (got ts r) e = absurd (not-run (found-run bytes ts r e))
+  none-is : length bytes ≤ maxReportBytes → every listed bytes ≡ true → (RunOfTokens bytes → ⊥) → (x : Read (List Token)) → readReport bytes ≡ x → fileReport set bytes ≡ refused syntaxError
+  none-is h l not-run fail e = read-is h l ∙ ap (fileRun set) e
+  none-is h l not-run (got ts r) e = absurd (not-run (found-run bytes ts r e))
 
   refused-by : (r : Refusal) → Refused set bytes r → fileReport set bytes ≡ refused r
   refused-by r (tooMany e h) = over-is h ∙ ap refused (sym e)
   refused-by r (notListed e h l) = foreign-is h l ∙ ap refused (sym e)
-  refused-by r (noRun e h l not-run) = torn-is h l not-run (readReport bytes) refl ∙ ap refused (sym e)
+  refused-by r (noRun e h l not-run) = none-is h l not-run (readReport bytes) refl ∙ ap refused (sym e)
   refused-by r (atToken h l run stop) = tokens-are h run ∙ ap (λ (x : Filed). thenFile x fileEnd) (stops-is set (run .tokens) r .1 stop)
   refused-by r (atEnd e h l run m taken u) = tokens-are h run ∙ ap (λ (x : Filed). thenFile x fileEnd) taken ∙ end-loose m u ∙ ap refused (sym e)
 
@@ -132,11 +132,11 @@ module _ (set : FolderSet) (bytes : List ℕ) where
   why-refused : (r : Refusal) → fileReport set bytes ≡ refused r → Refused set bytes r
   why-refused r f = cases (ltb maxReportBytes (length bytes))
       (λ t. let h = ltb-true maxReportBytes (length bytes) t in
-      let e : refused oversize ≡ refused r = sym (over-is h) ∙ f in tooMany (cc) h)
+      let e : refused tooLarge ≡ refused r = sym (over-is h) ∙ f in tooMany (cc) h)
       (λ t. let h = ltb-false maxReportBytes (length bytes) t in
       cases (every listed bytes)
       (λ l. read-refused r h l (readReport bytes) refl (sym (read-is h l) ∙ f))
-      (λ l. let e : refused foreignByte ≡ refused r = sym (foreign-is h l) ∙ f in notListed (cc) h l))
+      (λ l. let e : refused invalidByte ≡ refused r = sym (foreign-is h l) ∙ f in notListed (cc) h l))
 
   -- refused by a number exactly when its condition holds and no earlier one does
   pub refused-is : (r : Refusal) → (fileReport set bytes ≡ refused r) ↔ Refused set bytes r
@@ -162,11 +162,11 @@ module _ (set : FolderSet) (bytes : List ℕ) where
 
   so-filed : (m : State) → fileReport set bytes ≡ filed m → FiledWith set bytes m
   so-filed m f = cases (ltb maxReportBytes (length bytes))
-      (λ t. let e : refused oversize ≡ filed m = sym (over-is (ltb-true maxReportBytes (length bytes) t)) ∙ f in clash (cc))
+      (λ t. let e : refused tooLarge ≡ filed m = sym (over-is (ltb-true maxReportBytes (length bytes) t)) ∙ f in clash (cc))
       (λ t. let h = ltb-false maxReportBytes (length bytes) t in
       cases (every listed bytes)
       (λ l. read-filed m h (readReport bytes) refl (sym (read-is h l) ∙ f))
-      (λ l. let e : refused foreignByte ≡ filed m = sym (foreign-is h l) ∙ f in clash (cc)))
+      (λ l. let e : refused invalidByte ≡ filed m = sym (foreign-is h l) ∙ f in clash (cc)))
 
   -- filed exactly when no condition holds: it is short, a run of tokens that are all taken, and finished
   pub filed-is : (m : State) → (fileReport set bytes ≡ filed m) ↔ FiledWith set bytes m

@@ -11,7 +11,7 @@ use native.Mathlib.Omega.{arith}
 use Rattle.text.specs.Names.{Name}
 use Rattle.text.specs.Lists.{every, nonEmpty, any}
 use Rattle.notation.specs.Sets.{FolderSet}
-use Rattle.text.specs.Refusals.{Refusal, looseEnd}
+use Rattle.text.specs.Refusals.{Refusal, notOneRoot}
 use Rattle.notation.specs.Activity.{fits}
 use Rattle.text.proofs.Laws.Bytes.SameName.{sameName-is}
 use Rattle.theory.specs.Calls.{asLeft, openCall, closeCall, Level, level, nameOf, State, openNames, pathAt, fresh, opened, closedFrom, refusal, accepted, step, after}
@@ -21,7 +21,7 @@ use Rattle.theory.proofs.Laws.Machine.Sound.{Sound, fresh-sound, open-sound, cl
 use Rattle.documents.specs.Tokens.{Token, blank}
 use Rattle.documents.specs.Document.{Event, opening, closing, textHere, commentHere, eventsOfToken, eventsOf}
 use Rattle.documents.specs.Code.Events.{balanced, passed}
-use Rattle.filing.specs.Filing.{Filed, refused, filed, thenFile, unless, fileCall, looseText, fileEvent, fileEvents, fileTokens, callsIn, allAccepted, unfinished}
+use Rattle.filing.specs.Filing.{Filed, refused, filed, thenFile, unless, fileCall, textOutside, fileEvent, fileEvents, fileTokens, callsIn, allAccepted, unfinished}
 use Rattle.text.proofs.Laws.Tests.{both-true, neither}
 use Rattle.documents.proofs.Laws.Trees.Passed.{last-off}
 use Rattle.filing.proofs.Laws.Filing.FilingParts.{clash, both-filed}
@@ -52,7 +52,7 @@ pub unless-filed : (o : Option Refusal) (s n : State) → unless o s ≡ filed n
 unless-filed none s n e = (refl, cc)
 unless-filed (some r) s n e = clash (cc)
 
-text-filed : (b : Bool) (m n : State) → cond b (refused looseEnd) (filed m) ≡ filed n → (b ≡ false) × (m ≡ n)
+text-filed : (b : Bool) (m n : State) → cond b (refused notOneRoot) (filed m) ≡ filed n → (b ≡ false) × (m ≡ n)
 text-filed true m n e = clash (cc)
 text-filed false m n e = (refl, cc)
 
@@ -61,7 +61,7 @@ module _ (set : FolderSet) (P : State → List Event → State → Type 0)
     (at-end : (n : State) → P n [] n)
     (at-open : (m n : State) (e : Name) (es : List Event) → accepted m (openCall asLeft e) ≡ true → P (step set m (openCall asLeft e)) es n → P m (opening e ∷ es) n)
     (at-close : (m n : State) (e : Name) (es : List Event) → accepted m (closeCall asLeft e) ≡ true → P (step set m (closeCall asLeft e)) es n → P m (closing e ∷ es) n)
-    (at-text : (m n : State) (b : List ℕ) (es : List Event) → looseText m b ≡ false → P m es n → P m (textHere b ∷ es) n)
+    (at-text : (m n : State) (b : List ℕ) (es : List Event) → textOutside m b ≡ false → P m es n → P m (textHere b ∷ es) n)
     (at-comment : (m n : State) (b : List ℕ) (es : List Event) → P m es n → P m (commentHere b ∷ es) n) where
   pub taken : (es : List Event) (m n : State) → fileEvents set m es ≡ filed n → P m es n
   unfolding fileEvents
@@ -77,8 +77,8 @@ module _ (set : FolderSet) (P : State → List Event → State → Type 0)
       let (ok, is) = unless-filed (refusal m (closeCall asLeft e)) (step set m (closeCall asLeft e)) m₂ f in
       at-close m n e es (close-accepted-is m e .1 ok) (subst (λ (x : State). P x es n) (sym is) (taken es m₂ n g))
   taken (textHere b ∷ es) m n h =
-      let (m₂, f, g) = both-filed (cond (looseText m b) (refused looseEnd) (filed m)) (λ m₂. fileEvents set m₂ es) n h in
-      let (ok, is) = text-filed (looseText m b) m m₂ f in
+      let (m₂, f, g) = both-filed (cond (textOutside m b) (refused notOneRoot) (filed m)) (λ m₂. fileEvents set m₂ es) n h in
+      let (ok, is) = text-filed (textOutside m b) m m₂ f in
       at-text m n b es ok (subst (λ (x : State). P x es n) (sym is) (taken es m₂ n g))
   taken (commentHere b ∷ es) m n h = at-comment m n b es (taken es m n h)
 

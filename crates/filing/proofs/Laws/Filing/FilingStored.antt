@@ -11,7 +11,7 @@ use borrow.Author.Tests.{ne-eqb}
 use native.Mathlib.Omega.{arith}
 use Rattle.text.specs.Lists.{every, nonEmpty}
 use Rattle.notation.specs.Sets.{FolderSet}
-use Rattle.text.specs.Refusals.{Refusal, looseEnd, numberOf}
+use Rattle.text.specs.Refusals.{Refusal, notOneRoot, numberOf}
 use Rattle.text.specs.Order.{numberIn}
 use Rattle.theory.specs.Calls.{asLeft, openCall, closeCall, Level, State, fresh, refusal, step}
 use Rattle.stored.specs.Run.{runSize}
@@ -28,7 +28,7 @@ use Rattle.documents.specs.Tokens.{Token, listed}
 use Rattle.text.specs.Read.{Read, fail, got}
 use Rattle.documents.specs.Reading.{readReport}
 use Rattle.documents.specs.Document.{Event, opening, closing, textHere, commentHere, eventsOfToken, eventsOf}
-use Rattle.filing.specs.Filing.{Filed, refused, filed, thenFile, unless, looseText, fileEvent, fileEvents, fileTokens, callsIn, unfinished, fileEnd, fileRun, fileReport}
+use Rattle.filing.specs.Filing.{Filed, refused, filed, thenFile, unless, textOutside, fileEvent, fileEvents, fileTokens, callsIn, unfinished, fileEnd, fileRun, fileReport}
 use Rattle.filing.specs.FileCall.{Outcome, refusedWith, leaving, thenGo, outcome, eventOutcome, eventsOutcome}
 use Rattle.filing.specs.Code.FileCall.{tokensOutcome, endOutcome, runOutcome, reportOutcome}
 use Rattle.filing.proofs.Laws.Filing.FilingParts.{clash}
@@ -60,7 +60,7 @@ module _ (s : FolderSet) (rest : List ℕ) where
       rw (e, same)
   call-stored (some r) n t u st e l = rw e (refused-outcome (numberOf r) t (number-none (some r)))
 
-  test-stored : (b : Bool) (st : State) → cond b (refusedWith (numberOf looseEnd)) (leaving (leftOf s rest st)) ≡ storedOf s rest (cond b (refused looseEnd) (filed st))
+  test-stored : (b : Bool) (st : State) → cond b (refusedWith (numberOf notOneRoot)) (leaving (leftOf s rest st)) ≡ storedOf s rest (cond b (refused notOneRoot) (filed st))
   test-stored true st = refl
   test-stored false st = refl
 
@@ -93,7 +93,7 @@ module _ (s : FolderSet) (a : List ℕ) (means : Means s a) (rest : List ℕ) wh
       call-stored s rest (refusal st (closeCall asLeft n)) (closeRefusal a (t .bytes) (t .counters) n)
       (record { bytes = closeRun (t .bytes); counters = closeCounters (t .counters) })
       t (step s st (closeCall asLeft n)) (close-refused s a means st few rest asLeft n) (one-leaves s a means rest st few (closeCall asLeft n))
-  event-stored (textHere b) st few = rw (stored-depth s a means st few rest, none-open (st .levels)) (test-stored s rest (looseText st b) st)
+  event-stored (textHere b) st few = rw (stored-depth s a means st few rest, none-open (st .levels)) (test-stored s rest (textOutside st b) st)
   event-stored (commentHere b) st few = refl
 
   events-stored : (es : List Event) (st : State) → Few s st [] → eventsOutcome a (leftOf s rest st) es ≡ storedOf s rest (fileEvents s st es)

@@ -8,7 +8,7 @@ use mathlib.Core.Option.{Option, none, some, Option·none-ne-some}
 use mathlib.Core.List.{List, [], _∷_}
 use Rattle.text.specs.Names.{Name}
 use Rattle.notation.specs.Sets.{FolderSet}
-use Rattle.text.specs.Refusals.{Refusal, looseEnd}
+use Rattle.text.specs.Refusals.{Refusal, notOneRoot}
 use Rattle.text.proofs.Laws.Bytes.SameName.{sameName-is}
 use Rattle.text.specs.Order.{FirstOf, first}
 use Rattle.theory.specs.Calls.{asLeft, Call, openCall, closeCall, State, openOrder, closeOrder, opened, refusal, accepted, step}
@@ -16,7 +16,7 @@ use Rattle.theory.proofs.Laws.Machine.Calls.{open-accepted}
 use Rattle.theory.proofs.Laws.Machine.Steps.{refusal-is, open-accepted-is, step-accepted}
 use Rattle.documents.specs.Tokens.{Token, Part, Attribute, declaration, comment, startTag, emptyTag, endTag, text, printParts}
 use Rattle.documents.specs.Document.{eventsOfToken, closing}
-use Rattle.filing.specs.Filing.{refused, filed, thenFile, unless, fileCall, looseText, fileEvents, Stops}
+use Rattle.filing.specs.Filing.{refused, filed, thenFile, unless, fileCall, textOutside, fileEvents, Stops}
 use Rattle.filing.proofs.Laws.Filing.FilingParts.{clash, first-refused}
 use Rattle.filing.proofs.Laws.Filing.FilingRun.{unless-filed}
 
@@ -70,14 +70,14 @@ empty-refused set m n l s r = (
     only-refused none x e = clash (cc)
     only-refused (some q) x e = cc
 
-text-cases : (b : Bool) (m : State) (r : Refusal) → (thenFile (cond b (refused looseEnd) (filed m)) (λ x. filed x) ≡ refused r) ↔ ((r ≡ looseEnd) × (b ≡ true))
+text-cases : (b : Bool) (m : State) (r : Refusal) → (thenFile (cond b (refused notOneRoot) (filed m)) (λ x. filed x) ≡ refused r) ↔ ((r ≡ notOneRoot) × (b ≡ true))
 text-cases true m r = (λ e. (cc, refl), λ h. ap refused (sym (h .0)))
 text-cases false m r = (λ e. clash (cc), λ h. clash (let z = h .1 in cc))
 
 text-refused : (set : FolderSet) (m : State) (ps : List Part) (r : Refusal)
-    → (fileEvents set m (eventsOfToken (text ps)) ≡ refused r) ↔ ((r ≡ looseEnd) × (looseText m (printParts ps) ≡ true))
+    → (fileEvents set m (eventsOfToken (text ps)) ≡ refused r) ↔ ((r ≡ notOneRoot) × (textOutside m (printParts ps) ≡ true))
 unfolding fileEvents
-text-refused set m ps r = text-cases (looseText m (printParts ps)) m r
+text-refused set m ps r = text-cases (textOutside m (printParts ps)) m r
 
 -- a token is refused exactly on what stops it
 pub token-stops : (set : FolderSet) (t : Token) (m : State) (r : Refusal) → (fileEvents set m (eventsOfToken t) ≡ refused r) ↔ Stops m t r

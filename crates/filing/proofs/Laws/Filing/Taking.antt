@@ -8,7 +8,7 @@ use lib.Dec.{eqb, leb}
 use lib.ListN.{length, drop}
 use borrow.Author.Tests.{eq-eqb, ne-eqb, leb-false, lt-leb, lt-ltb, le-ltb}
 use Rattle.text.specs.Names.{Name}
-use Rattle.text.specs.Refusals.{torn, numberOf}
+use Rattle.text.specs.Refusals.{syntaxError, numberOf}
 use Rattle.text.specs.Lists.{every}
 use Rattle.text.specs.Answers.{numberSaid}
 use Rattle.text.proofs.Laws.Said.{said-number}
@@ -32,8 +32,8 @@ use Rattle.filing.specs.Seen.{shown, foundOf, foundEnd, declares}
 use Rattle.filing.specs.Code.Seen.{tagName, nameOfToken}
 use Rattle.filing.specs.FileCall.{Outcome, refusedWith, leaving, thenGo, openOutcome, closeOutcome, textOutcome, eventsOutcome}
 use Rattle.filing.specs.Code.FileCall.{tokensOutcome, endOutcome, runOutcome, reportOutcome, FilesBy}
-use Rattle.filing.specs.Code.Taking.{so, Takes, Leaves, foundOutcome, tornAt, runFrom}
-use Rattle.filing.proofs.Laws.Read.Next.{tokensFrom, token-next, from-end, from-torn, from-late, from-next}
+use Rattle.filing.specs.Code.Taking.{so, Takes, Leaves, foundOutcome, noTokenAt, runFrom}
+use Rattle.filing.proofs.Laws.Read.Next.{tokensFrom, token-next, from-end, from-none, from-late, from-next}
 use Rattle.filing.proofs.Laws.Read.RunAt.{shown-end, shown-declares}
 
 -- refusals and what goes on
@@ -130,10 +130,10 @@ late true c d h k = absurd (true≢false h)
 late false true d h k = absurd (true≢false (sym k))
 late false false d h k = (refl, k)
 
-untorn : (b c d : Bool) → (b || (not c && d)) ≡ false → (b ≡ false) × ((c || not d) ≡ true)
-untorn true c d h = absurd (true≢false h)
-untorn false true d h = (refl, refl)
-untorn false false d h = (refl, rw h)
+all-read : (b c d : Bool) → (b || (not c && d)) ≡ false → (b ≡ false) × ((c || not d) ≡ true)
+all-read true c d h = absurd (true≢false h)
+all-read false true d h = (refl, refl)
+all-read false false d h = (refl, rw h)
 
 module _ (a s : List ℕ) (i : ℕ) (f : Found) (is : f ≡ foundOf (length s) i (readToken (drop i s))) (o : Outcome) where
   ends : (t : Token) (r : List ℕ) → readToken (drop i s) ≡ got t r → foundEnd f ≡ length s - length r
@@ -142,29 +142,29 @@ module _ (a s : List ℕ) (i : ℕ) (f : Found) (is : f ≡ foundOf (length s) i
   declared : (t : Token) (r : List ℕ) → readToken (drop i s) ≡ got t r → declares f ≡ isDeclaration t
   declared t r e = ap declares (is ∙ ap (foundOf (length s) i) e) ∙ shown-declares t i (length s - length r)
 
-  pub taken-torn : i < length s → tornAt f i ≡ true → RunAt a o s i ≡ refusedWith (numberOf torn)
-  taken-torn h k = ap (runFrom a o) (by (readToken (drop i s)) refl)
+  pub taken-none : i < length s → noTokenAt f i ≡ true → RunAt a o s i ≡ refusedWith (numberOf syntaxError)
+  taken-none h k = ap (runFrom a o) (by (readToken (drop i s)) refl)
     where
       by : (m : Read Token) → readToken (drop i s) ≡ m → tokensFrom s (eqb i 0) i ≡ fail
-      by fail e = from-torn s i (eqb i 0) h e
+      by fail e = from-none s i (eqb i 0) h e
       by (got t r) e =
           let next = token-next s i t r e in
           let past : leb (foundEnd f) i ≡ false = lt-leb (foundEnd f) i (omega (arith, ends t r e, next .1)) in
           let (first, d) = late (leb (foundEnd f) i) (eqb i 0) (declares f) past k in
           rw first (from-late s i t r h e (sym (declared t r e) ∙ d))
 
-  taken-next : i < length s → tornAt f i ≡ false
+  taken-next : i < length s → noTokenAt f i ≡ false
       → (i < foundEnd f) × ((foundEnd f ≤ length s) × (RunAt a (thenGo o (λ t. foundOutcome a t f (tagName (readToken (drop i s))))) s (foundEnd f) ≡ RunAt a o s i))
   taken-next h k = by (readToken (drop i s)) refl
     where
       by : (m : Read Token) → readToken (drop i s) ≡ m
           → (i < foundEnd f) × ((foundEnd f ≤ length s) × (RunAt a (thenGo o (λ t. foundOutcome a t f (tagName (readToken (drop i s))))) s (foundEnd f) ≡ RunAt a o s i))
       by fail e =
-          let may = untorn (leb (foundEnd f) i) (eqb i 0) (declares f) k in
+          let may = all-read (leb (foundEnd f) i) (eqb i 0) (declares f) k in
           let none : foundEnd f ≡ 0 = ap foundEnd (is ∙ ap (foundOf (length s) i) e) in
           absurd (omega (arith, leb-false (foundEnd f) i (may .0)))
       by (got t r) e =
-          let may = untorn (leb (foundEnd f) i) (eqb i 0) (declares f) k in
+          let may = all-read (leb (foundEnd f) i) (eqb i 0) (declares f) k in
           let next = token-next s i t r e in
           let end = ends t r e in
           let past : eqb (foundEnd f) 0 ≡ false = ne-eqb (foundEnd f) 0 (omega (arith, next .1)) in
@@ -325,17 +325,17 @@ pub opened-usable : (a run : List ℕ) (c : Counters) (e : Name) (n : ℕ) (run'
 opened-usable a run c e n run' c' t u = fit-so a n run' c' (rw (t .outcomes) (open-fit a (record { bytes = run; counters = c }) e u))
 
 -- a turn of the loop
-module _ (a s : List ℕ) (i : ℕ) (f : Found) (is : f ≡ foundOf (length s) i (readToken (drop i s))) (inside : i < length s) (torn : tornAt f i ≡ false) (end : ℕ) (ends : end ≡ foundEnd f) where
+module _ (a s : List ℕ) (i : ℕ) (f : Found) (is : f ≡ foundOf (length s) i (readToken (drop i s))) (inside : i < length s) (syntaxError : noTokenAt f i ≡ false) (end : ℕ) (ends : end ≡ foundEnd f) where
   pub turn-past : (i < end) × (end ≤ length s)
   turn-past =
-      let next = taken-next a s i f is (refusedWith 0) inside torn in
+      let next = taken-next a s i f is (refusedWith 0) inside syntaxError in
       rw ends (next .0, next .1 .0)
 
   pub turn-taken : (run : List ℕ) (n : ℕ) (c : Counters) (n' : ℕ) (run' : List ℕ) (c' : Counters) (all : Outcome)
       → Takes a run (thenGo (so n run c) (λ t. foundOutcome a t f (tagName (readToken (drop i s))))) n' run' c' → RunAt a (so n run c) s i ≡ all → Fit a (so n run c)
       → (RunAt a (so n' run' c') s end ≡ all) × Fit a (so n' run' c')
   turn-taken run n c n' run' c' all t e fit =
-      let next = taken-next a s i f is (so n run c) inside torn in (
+      let next = taken-next a s i f is (so n run c) inside syntaxError in (
         rw (ends, t .outcomes) (next .1 .1 ∙ e),
         rw (t .outcomes) (next-fit a (so n run c) f (tagName (readToken (drop i s))) fit),
       )

@@ -10,7 +10,7 @@ use borrow.Author.Tests.{leb-true, leb-false, lt-ltb, le-ltb, ltb-false, not-fal
 use Rattle.notation.specs.Limits.{maxSetBytes}
 use Rattle.text.specs.Decimal.{decimal}
 use Rattle.notation.specs.Print.{footer}
-use Rattle.text.specs.Refusals.{shortBuffer, strangeShape}
+use Rattle.text.specs.Refusals.{shortBuffer, badShape}
 use Rattle.text.specs.Order.{first, given}
 use Rattle.stored.specs.RunCalls.{shaped, tooShort, lentConditions}
 use Rattle.text.specs.declared.written.Written.{Written}
@@ -38,7 +38,7 @@ module _ (a run : List ℕ) (c : Counters) (out : List ℕ) where
   lent-good : given (lentConditions a run c) ≡ 0 → (tooShort a run ≡ false) × (shaped a run c ≡ true)
   lent-good z =
       let t = not-given (tooShort a run) shortBuffer _ z in
-      (t .0, not-false (shaped a run c) (not-given (not (shaped a run c)) strangeShape _ (t .1) .0))
+      (t .0, not-false (shaped a run c) (not-given (not (shaped a run c)) badShape _ (t .1) .0))
 
   -- a buffer that is too short for every listing
   pub out-short : length out < listingSize → listingRefusal a run c out ≡ 1
@@ -79,7 +79,7 @@ module _ (a run : List ℕ) (c : Counters) (out : List ℕ) where
   unfolding listingRoom
   listing-room e =
       let t = not-given (tooShort a run || ltb (length out) (listingRoom a run c)) shortBuffer _ e in
-      let s : shaped a run c ≡ true = not-false (shaped a run c) (not-given (not (shaped a run c)) strangeShape _ (t .1) .0) in
+      let s : shaped a run c ≡ true = not-false (shaped a run c) (not-given (not (shaped a run c)) badShape _ (t .1) .0) in
       let l : listingRoom a run c ≤ length out = ltb-false (length out) (listingRoom a run c) (go (tooShort a run) (ltb (length out) (listingRoom a run c)) (t .0)) in
       let m : max listingSize (length (listingIn a run c)) ≤ length out = rw s at l in
       omega arith

@@ -68,8 +68,8 @@ module _ (s : List ℕ) (at : ℕ) where
       more zero k e = absurd (omega arith)
       more (suc n) k e = read-more n first (drop at s) (some-left h)
 
-  pub from-torn : (first : Bool) → at < length s → readToken (drop at s) ≡ fail → tokensFrom s first at ≡ fail
-  from-torn first h e = open-from first h ∙ rw e
+  pub from-none : (first : Bool) → at < length s → readToken (drop at s) ≡ fail → tokensFrom s first at ≡ fail
+  from-none first h e = open-from first h ∙ rw e
 
   -- a declaration that is not the first token
   pub from-late : (t : Token) (r : List ℕ) → at < length s → readToken (drop at s) ≡ got t r → isDeclaration t ≡ true → tokensFrom s false at ≡ fail

@@ -15,7 +15,7 @@ use Rattle.documents.specs.Reading.{readToken, readReport}
 use Rattle.filing.specs.Seen.{shown, foundOf, foundEnd, declares}
 use Rattle.filing.specs.Code.Seen.{isGot}
 use Rattle.documents.proofs.Laws.Read.ReadSound.{found-run, run-found}
-use Rattle.filing.proofs.Laws.Read.Next.{tokensFrom, token-next, from-end, from-torn, from-late, from-next}
+use Rattle.filing.proofs.Laws.Read.Next.{tokensFrom, token-next, from-end, from-none, from-late, from-next}
 
 -- the test says whether the bytes are a run of tokens
 pub run-is : (bytes : List ℕ) → (isGot (readReport bytes) ≡ true) ↔ RunOfTokens bytes
@@ -25,8 +25,8 @@ run-is bytes = (λ t. from (readReport bytes) refl t, λ run. ap isGot (run-foun
     from fail e t = absurd (false≢true t)
     from (got ts r) e t = found-run bytes ts r e
 
-pub run-told : (bytes : List ℕ) (b : Bool) → b ≡ isGot (readReport bytes) → (b ≡ true) ↔ RunOfTokens bytes
-run-told bytes b e = (λ t. run-is bytes .0 (sym e ∙ t), λ run. e ∙ run-is bytes .1 run)
+pub run-is : (bytes : List ℕ) (b : Bool) → b ≡ isGot (readReport bytes) → (b ≡ true) ↔ RunOfTokens bytes
+run-is bytes b e = (λ t. run-is bytes .0 (sym e ∙ t), λ run. e ∙ run-is bytes .1 run)
 
 pub shown-end : (t : Token) (at e : ℕ) → foundEnd (shown t at e) ≡ e
 shown-end declaration at e = refl
@@ -54,11 +54,11 @@ RunFrom s i = isGot (tokensFrom s (eqb i 0) i)
 
 module _ (s : List ℕ) (i : ℕ) (f : Found) (is : f ≡ foundOf (length s) i (readToken (drop i s))) where
   -- no token that ends past its offset: none at all
-  pub run-torn : i < length s → foundEnd f ≤ i → false ≡ RunFrom s i
-  run-torn h k = by (readToken (drop i s)) refl
+  pub run-none : i < length s → foundEnd f ≤ i → false ≡ RunFrom s i
+  run-none h k = by (readToken (drop i s)) refl
     where
       by : (m : Read Token) → readToken (drop i s) ≡ m → false ≡ RunFrom s i
-      by fail e = sym (ap isGot (from-torn s i (eqb i 0) h e))
+      by fail e = sym (ap isGot (from-none s i (eqb i 0) h e))
       by (got t r) e =
           let (rest, low, high) = token-next s i t r e in
           let end : foundEnd f ≡ length s - length r = ap foundEnd (is ∙ ap (foundOf (length s) i) e) ∙ shown-end t i (length s - length r) in
@@ -68,7 +68,7 @@ module _ (s : List ℕ) (i : ℕ) (f : Found) (is : f ≡ foundOf (length s) i (
   run-late h k n d = by (readToken (drop i s)) refl
     where
       by : (m : Read Token) → readToken (drop i s) ≡ m → false ≡ RunFrom s i
-      by fail e = sym (ap isGot (from-torn s i (eqb i 0) h e))
+      by fail e = sym (ap isGot (from-none s i (eqb i 0) h e))
       by (got t r) e =
           let late : isDeclaration t ≡ true =
           sym (shown-declares t i (length s - length r)) ∙ sym (ap declares (is ∙ ap (foundOf (length s) i) e)) ∙ d in

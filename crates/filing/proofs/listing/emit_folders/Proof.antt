@@ -8,7 +8,7 @@ use Rattle.theory.specs.Folders.{countFrom}
 use Rattle.stored.specs.HeldSet.{foldersHeld}
 use Rattle.text.specs.Code.Output.{Adds}
 use Rattle.filing.specs.Listed.{foldersListed}
-use Rattle.text.proofs.Laws.Output.{nothing, and-then, told-as}
+use Rattle.text.proofs.Laws.Output.{nothing, and-then, same-bytes}
 use Rattle.filing.proofs.Laws.Listing.Steps.{folders-more}
 use Rattle.filing.proofs.listing.emit_folders.Statement.{statement}
 use Rattle.filing.proofs.listing.emit_folders.Tie as tie
@@ -38,7 +38,7 @@ loop-less c = omega arith
 loop-again : tie.Need-loop-again Inv-loop μ-loop
 loop-again c = let a = c .before .before .before .before .before .before .before .before .before .before .args in
     let l = c .before .before .before .before .before .loop in
-    (omega arith, told-as (and-then (l .inv .1) (c .before .before .emit-folder .ensures)) (folders-more (a .a .now) (a .run .now) (l .i) ∙ ap (λ (j : ℕ). foldersListed (a .a .now) (a .run .now) (countFrom 0 j)) (sym (add-one (l .i)))))
+    (omega arith, same-bytes (and-then (l .inv .1) (c .before .before .emit-folder .ensures)) (folders-more (a .a .now) (a .run .now) (l .i) ∙ ap (λ (j : ℕ). foldersListed (a .a .now) (a .run .now) (countFrom 0 j)) (sym (add-one (l .i)))))
 
 same-length : tie.Need-same-length Inv-loop μ-loop
 same-length c = c .before .loop .inv .1 .size
@@ -46,7 +46,7 @@ same-length c = c .before .loop .inv .1 .size
 returns : tie.Need-returns Inv-loop μ-loop
 returns c = let a = c .before .before .before .before .before .before .args in
     let e : c .before .loop .i ≡ foldersHeld (a .a .now) = omega (arith, c .before .before .folders .ensures .0) in
-    told-as (c .before .loop .inv .1) (ap (λ (j : ℕ). foldersListed (a .a .now) (a .run .now) (countFrom 0 j)) e)
+    same-bytes (c .before .loop .inv .1) (ap (λ (j : ℕ). foldersListed (a .a .now) (a .run .now) (countFrom 0 j)) e)
 
 pub emit-folders-spec : {M : Type 1} → statement M
 emit-folders-spec =

@@ -3,7 +3,7 @@ use native.Mathlib.Omega.{arith}
 use mathlib.Core.Path.{sym, _∙_, ap}
 use Rattle.stored.specs.HeldSet.{topHeld}
 use Rattle.filing.specs.Listed.{lineAt}
-use Rattle.text.proofs.Laws.Output.{nothing, told-as}
+use Rattle.text.proofs.Laws.Output.{nothing, same-bytes}
 use borrow.Author.Needs.{needs}
 use Rattle.filing.proofs.listing.emit_line.Statement.{statement}
 use Rattle.filing.proofs.listing.emit_line.Tie as tie
@@ -24,10 +24,10 @@ same-length : tie.Need-same-length
 same-length c = search needs
 
 returns : tie.Need-returns
-returns c = told-as (c .before .before .emit-folder-line .ensures) (sym (ap (lineAt _ _) (sym (c .before .before .before .before .before .before .before .folder-at .ensures .0) ∙ c .before .before .before .before .before .number .given .1)))
+returns c = same-bytes (c .before .before .emit-folder-line .ensures) (sym (ap (lineAt _ _) (sym (c .before .before .before .before .before .before .before .folder-at .ensures .0) ∙ c .before .before .before .before .before .number .given .1)))
 
 returns-2 : tie.Need-returns-2
-returns-2 c = told-as (nothing _ _ (c .before .before .before .before .before .before .pre)) (sym (ap (lineAt _ _) (sym (c .before .before .folder-at .ensures .0) ∙ c .enum-told .given .1)))
+returns-2 c = same-bytes (nothing _ _ (c .before .before .before .before .before .before .pre)) (sym (ap (lineAt _ _) (sym (c .before .before .folder-at .ensures .0) ∙ c .enum-told .given .1)))
 
 pub emit-line-spec : {M : Type 1} → statement M
 emit-line-spec =

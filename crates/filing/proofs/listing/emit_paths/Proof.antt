@@ -6,7 +6,7 @@ use mathlib.Core.Path.{_≡_, sym, _∙_, ap}
 use Rattle.theory.specs.Folders.{countFrom}
 use Rattle.text.specs.Code.Output.{Adds}
 use Rattle.filing.specs.Listed.{pathsListed}
-use Rattle.text.proofs.Laws.Output.{nothing, and-then, told-as}
+use Rattle.text.proofs.Laws.Output.{nothing, and-then, same-bytes}
 use Rattle.filing.proofs.Laws.Listing.Steps.{paths-more}
 use Rattle.filing.proofs.listing.emit_paths.Statement.{statement}
 use Rattle.filing.proofs.listing.emit_paths.Tie as tie
@@ -36,7 +36,7 @@ loop-less c = omega arith
 loop-again : tie.Need-loop-again Inv-loop μ-loop
 loop-again c = let a = c .before .before .before .before .before .before .before .before .before .args in
     let l = c .before .before .before .before .before .loop in
-    (omega arith, told-as (and-then (l .inv .1) (c .before .before .emit-if-matched .ensures)) (paths-more (a .a .now) (a .run .now) (a .first) (l .i) ∙ ap (λ (j : ℕ). pathsListed (a .a .now) (a .run .now) (countFrom (a .first) j)) (sym (add-one (l .i)))))
+    (omega arith, same-bytes (and-then (l .inv .1) (c .before .before .emit-if-matched .ensures)) (paths-more (a .a .now) (a .run .now) (a .first) (l .i) ∙ ap (λ (j : ℕ). pathsListed (a .a .now) (a .run .now) (countFrom (a .first) j)) (sym (add-one (l .i)))))
 
 same-length : tie.Need-same-length Inv-loop μ-loop
 same-length c = c .before .loop .inv .1 .size
@@ -44,7 +44,7 @@ same-length c = c .before .loop .inv .1 .size
 returns : tie.Need-returns Inv-loop μ-loop
 returns c = let a = c .before .before .before .before .before .args in
     let e : c .before .loop .i ≡ a .count = omega arith in
-    told-as (c .before .loop .inv .1) (ap (λ (j : ℕ). pathsListed (a .a .now) (a .run .now) (countFrom (a .first) j)) e)
+    same-bytes (c .before .loop .inv .1) (ap (λ (j : ℕ). pathsListed (a .a .now) (a .run .now) (countFrom (a .first) j)) e)
 
 pub emit-paths-spec : {M : Type 1} → statement M
 emit-paths-spec =

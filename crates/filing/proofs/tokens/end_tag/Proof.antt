@@ -18,8 +18,8 @@ enum-told c = search needs
 enum-known-to : tie.Need-enum-known-to
 enum-known-to c = search needs
 
-mark-end-requires : tie.Need-mark-end-requires
-mark-end-requires c κs = name-bound _ _ (c .before .before .before .before .before .pre) _ (sym (c .before .before .before .name-reach .ensures) ∙ c .before .to .given .1) .1
+byte-end-requires : tie.Need-byte-end-requires
+byte-end-requires c κs = name-bound _ _ (c .before .before .before .before .before .pre) _ (sym (c .before .before .before .name-reach .ensures) ∙ c .before .to .given .1) .1
 
 enum-told-2 : tie.Need-enum-told-2
 enum-told-2 c = search needs
@@ -31,10 +31,10 @@ returns : tie.Need-returns
 returns c = end-no _ _ (c .before .before .before .before .pre) (sym (c .before .before .name-reach .ensures) ∙ c .enum-told .given .1)
 
 returns-2 : tie.Need-returns-2
-returns-2 c = end-no₂ _ _ (c .before .before .before .before .before .before .before .before .pre) _ (sym (c .before .before .before .before .before .before .name-reach .ensures) ∙ c .before .before .before .before .to .given .1) (sym (c .before .before .mark-end .ensures) ∙ c .enum-told2 .given .1)
+returns-2 c = end-no₂ _ _ (c .before .before .before .before .before .before .before .before .pre) _ (sym (c .before .before .before .before .before .before .name-reach .ensures) ∙ c .before .before .before .before .to .given .1) (sym (c .before .before .byte-end .ensures) ∙ c .enum-told2 .given .1)
 
 returns-3 : tie.Need-returns-3
-returns-3 c = end-to _ _ (c .before .before .before .before .before .before .before .before .before .pre) _ (sym (c .before .before .before .before .before .before .before .name-reach .ensures) ∙ c .before .before .before .before .before .to .given .1) _ (sym (c .before .before .before .mark-end .ensures) ∙ c .before .e .given .1)
+returns-3 c = end-to _ _ (c .before .before .before .before .before .before .before .before .before .pre) _ (sym (c .before .before .before .before .before .before .before .name-reach .ensures) ∙ c .before .before .before .before .before .to .given .1) _ (sym (c .before .before .before .byte-end .ensures) ∙ c .before .e .given .1)
 
 pub end-tag-spec : {M : Type 1} → statement M
 end-tag-spec =
@@ -44,7 +44,7 @@ end-tag-spec =
     name-reach-requires
     enum-told
     enum-known-to
-    mark-end-requires
+    byte-end-requires
     enum-told-2
     enum-known-e
     returns

@@ -16,7 +16,7 @@ use Rattle.notation.specs.Code.Scan.{counted, folderRead, labelRead, pat
 use Rattle.notation.specs.Code.Emit.{withFolder, withStep, withLabel, emitted}
 use Rattle.notation.specs.Code.Put.{putFolder, putStep, putLabel, putPath, putTest, put, Within}
 use Rattle.notation.specs.declared.scan.Mode.{Mode}
-use Rattle.notation.specs.declared.scan.Mode.the-variants.{Header, LineStart, Word, NumberStart, Number, PathOpen, PathStart, Slash, Slashes, Label, Star, PathEnd, LineEnd, LastLine, Done, Bent}
+use Rattle.notation.specs.declared.scan.Mode.the-variants.{Header, LineStart, Word, NumberStart, Number, PathOpen, PathStart, Slash, Slashes, Label, Star, PathEnd, LineEnd, LastLine, Done, Malformed}
 use Rattle.notation.specs.declared.scan.Tally.{Tally}
 use Rattle.text.proofs.Laws.Tests.{cases}
 use Rattle.notation.proofs.Laws.Fill.Assembled.{assembled, Room, moreSteps, add-folder, add-path, add-step, add-label}
@@ -110,4 +110,4 @@ put-is PathEnd b t x head text rest ten short h w = refl
 put-is LineEnd b t x head text rest ten short h w = refl
 put-is LastLine b t x head text rest ten short h w = refl
 put-is Done b t x head text rest ten short h w = refl
-put-is Bent b t x head text rest ten short h w = refl
+put-is Malformed b t x head text rest ten short h w = refl

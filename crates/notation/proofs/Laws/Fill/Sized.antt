@@ -14,7 +14,7 @@ use Rattle.notation.specs.Code.Scan.{counted, scanned, start, folderRead
 use Rattle.notation.specs.Code.Emit.{withFolder, withStep, withLabel, emitted, noTables}
 use Rattle.notation.specs.Code.Put.{Within}
 use Rattle.notation.specs.declared.scan.Mode.{Mode}
-use Rattle.notation.specs.declared.scan.Mode.the-variants.{Header, LineStart, Word, NumberStart, Number, PathOpen, PathStart, Slash, Slashes, Label, Star, PathEnd, LineEnd, LastLine, Done, Bent}
+use Rattle.notation.specs.declared.scan.Mode.the-variants.{Header, LineStart, Word, NumberStart, Number, PathOpen, PathStart, Slash, Slashes, Label, Star, PathEnd, LineEnd, LastLine, Done, Malformed}
 use Rattle.notation.specs.declared.scan.Tally.{Tally}
 use Rattle.notation.specs.declared.scan.Scan.{Scan}
 use Rattle.notation.proofs.Laws.Fill.Padded.{joined-snoc}
@@ -155,7 +155,7 @@ sized-more PathEnd b t x h = h
 sized-more LineEnd b t x h = h
 sized-more LastLine b t x h = h
 sized-more Done b t x h = h
-sized-more Bent b t x h = h
+sized-more Malformed b t x h = h
 
 pub sized-next : (s : Scan) (b : ℕ) (x : Tables) → Sized (s .tally) x → Sized (scanned s b .tally) (emitted (s .mode) b (s .tally) x)
 unfolding scanned

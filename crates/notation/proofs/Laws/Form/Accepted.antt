@@ -12,7 +12,7 @@ use Rattle.notation.specs.Print.{printTest, printPath, printPaths, folde
 use Rattle.text.specs.Lists.{every, nonEmpty}
 use Rattle.notation.specs.Form.{formedTest, formedStep, formedPath, formedFolder, formed, OfForm}
 use Rattle.notation.specs.declared.scan.Mode.{Mode}
-use Rattle.notation.specs.declared.scan.Mode.the-variants.{Header, LineStart, Word, NumberStart, Number, PathOpen, PathStart, Slash, Slashes, Label, Star, PathEnd, LineEnd, LastLine, Done, Bent}
+use Rattle.notation.specs.declared.scan.Mode.the-variants.{Header, LineStart, Word, NumberStart, Number, PathOpen, PathStart, Slash, Slashes, Label, Star, PathEnd, LineEnd, LastLine, Done, Malformed}
 
 -- lines of folders, and the last line
 pub record Lines (l : List ℕ) : Type 0 where
@@ -90,4 +90,4 @@ Rest PathEnd l = AnyPaths l
 Rest LineEnd l = AnyPaths (41 ∷ l)
 Rest LastLine l = Lines (41 ∷ l)
 Rest Done l = Lines (41 ∷ 10 ∷ l)
-Rest Bent l = ⊥
+Rest Malformed l = ⊥

@@ -15,7 +15,7 @@ use Rattle.notation.specs.Print.{folderWord, header, print}
 use Rattle.notation.specs.Form.{OfForm}
 use Rattle.notation.specs.Code.Scan.{next, scan, start, isDone, testStart, testEnd, inWord}
 use Rattle.notation.specs.declared.scan.Mode.{Mode}
-use Rattle.notation.specs.declared.scan.Mode.the-variants.{Header, LineStart, Word, NumberStart, Number, PathOpen, PathStart, Slash, Slashes, Label, Star, PathEnd, LineEnd, LastLine, Done, Bent}
+use Rattle.notation.specs.declared.scan.Mode.the-variants.{Header, LineStart, Word, NumberStart, Number, PathOpen, PathStart, Slash, Slashes, Label, Star, PathEnd, LineEnd, LastLine, Done, Malformed}
 use Rattle.notation.proofs.Laws.Form.Modes.{modes, scan-mode}
 use Rattle.notation.proofs.Laws.Form.Accepted.{Lines, AnySteps, AtTest, Rest}
 use Rattle.notation.proofs.Laws.Form.Grown.{last, line, line-end, path, any-paths, path-end, a-step, any-steps, label-begin, label-more, label-end, a-star, number, digit-begin, in-digits}
@@ -25,7 +25,7 @@ on : (c : Bool) (x y : Mode) (l : List ℕ) {G : Type 0} → (c ≡ true → Res
 on true x y l f g r = f refl r
 on false x y l f g r = g refl r
 
-only : (c : Bool) (x : Mode) (l : List ℕ) {G : Type 0} → (c ≡ true → Rest x l → G) → Rest (cond c x Bent) l → G
+only : (c : Bool) (x : Mode) (l : List ℕ) {G : Type 0} → (c ≡ true → Rest x l → G) → Rest (cond c x Malformed) l → G
 only true x l f r = f refl r
 only false x l f r = absurd r
 
@@ -66,13 +66,13 @@ word-begin r = r (omega arith)
 -- a test ends at the next step or at the path's bracket
 slash-or-end : (b : ℕ) (l : List ℕ) → Rest (testEnd b) l → AnySteps (b ∷ l)
 slash-or-end b l =
-    on (eqb b 47) Slash (cond (eqb b 41) PathEnd Bent) l (λ e r. rw (eqb-true b 47 e) (any-steps r))
+    on (eqb b 47) Slash (cond (eqb b 41) PathEnd Malformed) l (λ e r. rw (eqb-true b 47 e) (any-steps r))
     (λ f. only (eqb b 41) PathEnd l (λ e r. rw (eqb-true b 41 e) (path-end r)))
 
 -- a label or `*` begins
 a-test : (b : ℕ) (l : List ℕ) → Rest (testStart b) l → AtTest (b ∷ l)
 a-test b l =
-    on (beginsName b) Label (cond (eqb b 42) Star Bent) l (λ e r. label-begin b e r)
+    on (beginsName b) Label (cond (eqb b 42) Star Malformed) l (λ e r. label-begin b e r)
     (λ f. only (eqb b 42) Star l (λ e r. rw (eqb-true b 42 e) (a-star r)))
 
 -- what is accepted after a byte, with that byte before it
@@ -80,14 +80,14 @@ back : (m : Mode) (b : ℕ) (l : List ℕ) → Rest (next m b) l → Rest m (b �
 unfolding next
 back (Header k) b l r = in-header k b l r
 back LineStart b l r =
-    on (eqb b 40) (Word 1) (cond (eqb b 41) LastLine Bent) l
+    on (eqb b 40) (Word 1) (cond (eqb b 41) LastLine Malformed) l
     (λ e r. rw (eqb-true b 40 e) (word-begin r))
     (λ f. only (eqb b 41) LastLine l (λ e r. rw (eqb-true b 41 e) r)) r
 back (Word k) b l r = in-line k b l r
 back NumberStart b l r = only (within 49 57 b) (Number (b - 48)) l (digit-begin b l) r
 back (Number n) b l r =
     λ pos top.
-    on (eqb b 32) PathOpen (cond (digit b && ltb n 1000) (Number (10 * n + (b - 48))) Bent) l
+    on (eqb b 32) PathOpen (cond (digit b && ltb n 1000) (Number (10 * n + (b - 48))) Malformed) l
     (λ e r. rw (eqb-true b 32 e) (number n pos top r))
     (λ f. only (digit b && ltb n 1000) (Number (10 * n + (b - 48))) l (in-digits n b l pos)) r
 back PathOpen b l r = only (eqb b 40) PathStart l (λ e r. rw (eqb-true b 40 e) (path r)) r
@@ -98,12 +98,12 @@ back Slashes b l r = a-test b l r
 back Label b l r = on (inName b) Label (testEnd b) l (label-more b) (λ f r. label-end (slash-or-end b l r)) r
 back Star b l r = slash-or-end b l r
 back PathEnd b l r =
-    on (eqb b 32) PathOpen (cond (eqb b 41) LineEnd Bent) l (λ e r. rw (eqb-true b 32 e) (any-paths r))
+    on (eqb b 32) PathOpen (cond (eqb b 41) LineEnd Malformed) l (λ e r. rw (eqb-true b 32 e) (any-paths r))
     (λ f. only (eqb b 41) LineEnd l (λ e r. rw (eqb-true b 41 e) r)) r
 back LineEnd b l r = only (eqb b 10) LineStart l (λ e r. rw (eqb-true b 10 e) (line-end r)) r
 back LastLine b l r = only (eqb b 10) Done l (λ e r. rw (eqb-true b 10 e) r) r
 back Done b l r = absurd r
-back Bent b l r = r
+back Malformed b l r = r
 
 -- one induction: what leads to Done is an accepted rest
 accepted : (l : List ℕ) (m : Mode) → isDone (modes m l) ≡ true → Rest m l
@@ -123,7 +123,7 @@ accepted [] PathEnd e = absurd (false≢true e)
 accepted [] LineEnd e = absurd (false≢true e)
 accepted [] LastLine e = absurd (false≢true e)
 accepted [] Done e = last
-accepted [] Bent e = absurd (false≢true e)
+accepted [] Malformed e = absurd (false≢true e)
 accepted (b ∷ l) m e = back m b l (accepted l (next m b) e)
 
 -- a text whose scan ends in Done is of the form

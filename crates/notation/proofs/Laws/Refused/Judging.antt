@@ -4,10 +4,10 @@ use mathlib.Core.Path.{_≡_, refl, sym, ap, _∙_}
 use mathlib.Core.Bool.{true, false, cond, true≢false}
 use mathlib.Core.List.{List, [], _∷_}
 use borrow.Author.Tests.{ne-eqb}
-use Rattle.text.specs.Refusals.{Refusal, oversize, bentForm, full, numberOf}
+use Rattle.text.specs.Refusals.{Refusal, tooLarge, malformedSet, overCapacity, numberOf}
 use Rattle.notation.specs.Sets.{FolderSet}
 use Rattle.notation.specs.Print.{print}
-use Rattle.notation.specs.Form.{formed, OfForm, overBytes, overFull, faults}
+use Rattle.notation.specs.Form.{formed, OfForm, overBytes, overLimits, faults}
 use Rattle.notation.specs.Accepted.{Accepted}
 use Rattle.notation.specs.Judged.{RefusedText, overLong, notOfForm, faulty, overfull, Verdict, refuses, accepts, Judged, verdictNumber}
 use Rattle.notation.specs.Code.Scan.{scan, start, isDone, ended, refusalOf, orElse}
@@ -26,22 +26,22 @@ module _ (text : List ℕ) where
   form-done : OfForm text → isDone (scan start text .mode) ≡ true
   form-done o = rw (← o .prints, scan-complete (o .set) (o .well) .mode)
 
-  accepted-of : overBytes text ≡ false → (o : OfForm text) → faults (o .set) ≡ [] → overFull (o .set) ≡ false → Accepted text (o .set)
+  accepted-of : overBytes text ≡ false → (o : OfForm text) → faults (o .set) ≡ [] → overLimits (o .set) ≡ false → Accepted text (o .set)
   accepted-of few o none room =
       let c = no-fault (o .set) .0 none in
       record { well = o .well; prints = o .prints; short = few; rising = c .0; names = c .1; paths = c .2; room = room }
 
   by-faults : overBytes text ≡ false → (o : OfForm text) → (fs : List Refusal) → faults (o .set) ≡ fs → (v : Verdict) × Judged text v
   by-faults few o [] e =
-      cases (overFull (o .set)) (λ y. (refuses full, overfull refl few o e y)) (λ n. (accepts (o .set), accepted-of few o e n))
+      cases (overLimits (o .set)) (λ y. (refuses overCapacity, overfull refl few o e y)) (λ n. (accepts (o .set), accepted-of few o e n))
   by-faults few o (r ∷ later) e = (refuses r, faulty few o later e)
 
   pub some-verdict : (v : Verdict) × Judged text v
   some-verdict =
-      cases (overBytes text) (λ over. (refuses oversize, overLong refl over))
+      cases (overBytes text) (λ over. (refuses tooLarge, overLong refl over))
       (λ few.
       cases (isDone (scan start text .mode)) (λ e. let o = sound text e in by-faults few o (faults (o .set)) refl)
-      (λ e. (refuses bentForm, notOfForm refl few (λ o. true≢false (sym (form-done o) ∙ e)))))
+      (λ e. (refuses malformedSet, notOfForm refl few (λ o. true≢false (sym (form-done o) ∙ e)))))
 
   -- what the code's reader answers
 
@@ -54,7 +54,7 @@ module _ (text : List ℕ) where
   bent-answer few none = rw few (cases (isDone (scan start text .mode)) (λ e. absurd (none (sound text e))) (λ e. rw e))
 
   form-answer : (s : FolderSet) → formed s ≡ true → print s ≡ text → overBytes text ≡ false
-      → refusalOf text ≡ orElse (firstOf (faults s)) (cond (overFull s) 7 0)
+      → refusalOf text ≡ orElse (firstOf (faults s)) (cond (overLimits s) 7 0)
   form-answer s well prints few =
       let here : overBytes (print s) ≡ false = rw prints few in
       rw (← prints) (refusal-complete s well ∙ rw here)

@@ -5,31 +5,31 @@ use mathlib.Core.Path.{_≡_, refl, ap}
 use mathlib.Core.Logic.{_↔_}
 use mathlib.Core.Bool.{true, false}
 use mathlib.Core.List.{List, [], _∷_}
-use Rattle.text.specs.Refusals.{Refusal, oversize, bentForm, outOfTurn, longName, longPath, full, numberOf}
+use Rattle.text.specs.Refusals.{Refusal, tooLarge, malformedSet, outOfOrder, nameTooLong, pathTooLong, overCapacity, numberOf}
 use Rattle.notation.specs.Sets.{FolderSet}
-use Rattle.notation.specs.Form.{OfForm, overBytes, numbersFall, namesLong, pathsLong, overFull, faults}
+use Rattle.notation.specs.Form.{OfForm, overBytes, numbersFall, namesLong, pathsLong, overLimits, faults}
 use Rattle.notation.specs.Accepted.{Accepted}
 use Rattle.notation.specs.Judged.{RefusedText, overLong, notOfForm, faulty, overfull, Verdict, refuses, accepts, Judged}
 use Rattle.notation.proofs.Laws.Scan.FaultNumbers.{fault-among, turn-fault, name-fault, path-fault, no-fault}
 use Rattle.notation.proofs.Laws.Refused.Judging.{some-verdict, only-verdict}
 
 module _ (text : List ℕ) where
-  pub refused-2 : RefusedText text oversize ↔ (overBytes text ≡ true)
+  pub refused-2 : RefusedText text tooLarge ↔ (overBytes text ≡ true)
   refused-2 = (go, overLong refl)
     where
-      go : RefusedText text oversize → overBytes text ≡ true
+      go : RefusedText text tooLarge → overBytes text ≡ true
       go (overLong e over) = over
       go (notOfForm e few none) = absurd (omega (arith, ap numberOf e))
-      go (faulty few o later e) = absurd (omega (arith, fault-among (o .set) later oversize e .0))
+      go (faulty few o later e) = absurd (omega (arith, fault-among (o .set) later tooLarge e .0))
       go (overfull e few o none y) = absurd (omega (arith, ap numberOf e))
 
-  pub refused-3 : RefusedText text bentForm ↔ ((overBytes text ≡ false) × (OfForm text → ⊥))
+  pub refused-3 : RefusedText text malformedSet ↔ ((overBytes text ≡ false) × (OfForm text → ⊥))
   refused-3 = (go, λ h. notOfForm refl (h .0) (h .1))
     where
-      go : RefusedText text bentForm → (overBytes text ≡ false) × (OfForm text → ⊥)
+      go : RefusedText text malformedSet → (overBytes text ≡ false) × (OfForm text → ⊥)
       go (overLong e over) = absurd (omega (arith, ap numberOf e))
       go (notOfForm e few none) = (few, none)
-      go (faulty few o later e) = absurd (omega (arith, fault-among (o .set) later bentForm e .0))
+      go (faulty few o later e) = absurd (omega (arith, fault-among (o .set) later malformedSet e .0))
       go (overfull e few o none y) = absurd (omega (arith, ap numberOf e))
 
   -- 4, 5 and 6: the first fault of the set of the text
@@ -44,14 +44,14 @@ module _ (text : List ℕ) where
       go (overfull e few o none y) = absurd (omega (arith, ap numberOf e))
 
   -- each of them on its condition
-  pub refused-4 : RefusedText text outOfTurn → (o : OfForm text) × (numbersFall (o .set) ≡ true)
-  refused-4 j = let (few, o, later, e) = refused-fault outOfTurn (omega arith) (omega arith) .0 j in (o, turn-fault (o .set) later e)
+  pub refused-4 : RefusedText text outOfOrder → (o : OfForm text) × (numbersFall (o .set) ≡ true)
+  refused-4 j = let (few, o, later, e) = refused-fault outOfOrder (omega arith) (omega arith) .0 j in (o, turn-fault (o .set) later e)
 
-  pub refused-5 : RefusedText text longName → (o : OfForm text) × (namesLong (o .set) ≡ true)
-  refused-5 j = let (few, o, later, e) = refused-fault longName (omega arith) (omega arith) .0 j in (o, name-fault (o .set) later e)
+  pub refused-5 : RefusedText text nameTooLong → (o : OfForm text) × (namesLong (o .set) ≡ true)
+  refused-5 j = let (few, o, later, e) = refused-fault nameTooLong (omega arith) (omega arith) .0 j in (o, name-fault (o .set) later e)
 
-  pub refused-6 : RefusedText text longPath → (o : OfForm text) × (pathsLong (o .set) ≡ true)
-  refused-6 j = let (few, o, later, e) = refused-fault longPath (omega arith) (omega arith) .0 j in (o, path-fault (o .set) later e)
+  pub refused-6 : RefusedText text pathTooLong → (o : OfForm text) × (pathsLong (o .set) ≡ true)
+  refused-6 j = let (few, o, later, e) = refused-fault pathTooLong (omega arith) (omega arith) .0 j in (o, path-fault (o .set) later e)
 
   -- where a condition of 4, 5 and 6 holds, the text is refused with one of them
   pub refused-some : overBytes text ≡ false → (o : OfForm text)
@@ -63,14 +63,14 @@ module _ (text : List ℕ) where
       go [] e = absurd (some (no-fault (o .set) .0 e))
       go (r ∷ later) e = let a = fault-among (o .set) later r e in (r, faulty few o later e, a .0, a .1)
 
-  pub refused-7 : RefusedText text full
-      ↔ ((overBytes text ≡ false) × (o : OfForm text) × (faults (o .set) ≡ []) × (overFull (o .set) ≡ true))
+  pub refused-7 : RefusedText text overCapacity
+      ↔ ((overBytes text ≡ false) × (o : OfForm text) × (faults (o .set) ≡ []) × (overLimits (o .set) ≡ true))
   refused-7 = (go, λ h. overfull refl (h .0) (h .1) (h .2) (h .3))
     where
-      go : RefusedText text full → (overBytes text ≡ false) × (o : OfForm text) × (faults (o .set) ≡ []) × (overFull (o .set) ≡ true)
+      go : RefusedText text overCapacity → (overBytes text ≡ false) × (o : OfForm text) × (faults (o .set) ≡ []) × (overLimits (o .set) ≡ true)
       go (overLong e over) = absurd (omega (arith, ap numberOf e))
       go (notOfForm e few none) = absurd (omega (arith, ap numberOf e))
-      go (faulty few o later e) = absurd (omega (arith, fault-among (o .set) later full e .1))
+      go (faulty few o later e) = absurd (omega (arith, fault-among (o .set) later overCapacity e .1))
       go (overfull e few o none y) = (few, o, none, y)
 
   -- no other number is given

@@ -10,9 +10,9 @@ use lib.Dec.{leb, ltb}
 use lib.ListN.{length, getD, length-append}
 use Rattle.notation.specs.Limits.{maxSetBytes, maxNumber, maxPaths, maxSteps, maxLabels}
 use Rattle.notation.specs.Sets.{Path, folder, FolderSet, testOf, folderNumber}
-use Rattle.text.specs.Refusals.{Refusal, outOfTurn, longName, longPath}
+use Rattle.text.specs.Refusals.{Refusal, outOfOrder, nameTooLong, pathTooLong}
 use Rattle.text.specs.Lists.{every, nonEmpty}
-use Rattle.notation.specs.Form.{formedPath, formedFolder, formed, pathsOf, stepsOf, labelsOf, overBytes, overFull, longTest, stepFaults, pathFaults, pathsFaults, faultsAfter, faults}
+use Rattle.notation.specs.Form.{formedPath, formedFolder, formed, pathsOf, stepsOf, labelsOf, overBytes, overLimits, longTest, stepFaults, pathFaults, pathsFaults, faultsAfter, faults}
 use Rattle.notation.specs.Print.{print}
 use Rattle.text.proofs.Laws.Tests.{and-left, and-right, or-left, or-right}
 use Rattle.notation.proofs.Laws.Stored.FolderTable.{noFolder}
@@ -39,7 +39,7 @@ path-short k [] h e = omega arith
 path-short k (s ∷ p) h e =
     let l : stepFaults k s ≡ [] = none-left (stepFaults k s) (pathFaults (suc k) p) e in
     let b : leb maxSteps k ≡ false =
-    unfaulted longPath (leb maxSteps k) (none-right (cond (longTest (testOf s)) (longName ∷ []) []) (cond (leb maxSteps k) (longPath ∷ []) []) l) in
+    unfaulted pathTooLong (leb maxSteps k) (none-right (cond (longTest (testOf s)) (nameTooLong ∷ []) []) (cond (leb maxSteps k) (pathTooLong ∷ []) []) l) in
     let m : k < maxSteps = leb-false maxSteps k b in
     omega (arith, path-short (suc k) p m (none-right (stepFaults k s) (pathFaults (suc k) p) e))
 
@@ -58,7 +58,7 @@ steps-short : (last : ℕ) (s : FolderSet) → faultsAfter last s ≡ [] → len
 unfolding faultsAfter pathsOf stepsOf maxSteps
 steps-short last [] e = omega arith
 steps-short last (folder n ps ∷ fs) e =
-    let r : pathsFaults ps ++ faultsAfter n fs ≡ [] = none-right (cond (leb n last) (outOfTurn ∷ []) []) (pathsFaults ps ++ faultsAfter n fs) e in
+    let r : pathsFaults ps ++ faultsAfter n fs ≡ [] = none-right (cond (leb n last) (outOfOrder ∷ []) []) (pathsFaults ps ++ faultsAfter n fs) e in
     omega (
       arith,
       ap length (steps-append ps (pathsOf fs)),
@@ -95,11 +95,11 @@ numbers-low (folder n ps ∷ fs) e zero h =
 numbers-low (folder n ps ∷ fs) e (suc i) h = numbers-low fs (and-right (formedFolder (folder n ps)) (formed fs) e) i (le-of-suc-le-suc h)
 
 -- no refusal of a set: it fits
-pub fitting : (s : FolderSet) → formed s ≡ true → overBytes (print s) ≡ false → faults s ≡ [] → overFull s ≡ false → Fitting s
-unfolding overFull maxPaths maxSteps
-fitting s well bytes faultless full =
+pub fitting : (s : FolderSet) → formed s ≡ true → overBytes (print s) ≡ false → faults s ≡ [] → overLimits s ≡ false → Fitting s
+unfolding overLimits maxPaths maxSteps
+fitting s well bytes faultless overCapacity =
     let paths : length (pathsOf s) ≤ maxPaths =
-    ltb-false maxPaths (length (pathsOf s)) (or-left (ltb maxPaths (length (pathsOf s))) (ltb maxLabels (length (labelsOf (stepsOf (pathsOf s))))) full) in
+    ltb-false maxPaths (length (pathsOf s)) (or-left (ltb maxPaths (length (pathsOf s))) (ltb maxLabels (length (labelsOf (stepsOf (pathsOf s))))) overCapacity) in
     record {
       bytes = ltb-false maxSetBytes (length (print s)) bytes;
       folders = omega (arith, folders-few s well);
@@ -107,6 +107,6 @@ fitting s well bytes faultless full =
       steps = omega (arith, steps-short 0 s faultless);
       labels =
           ltb-false maxLabels (length (labelsOf (stepsOf (pathsOf s))))
-          (or-right (ltb maxPaths (length (pathsOf s))) (ltb maxLabels (length (labelsOf (stepsOf (pathsOf s))))) full);
+          (or-right (ltb maxPaths (length (pathsOf s))) (ltb maxLabels (length (labelsOf (stepsOf (pathsOf s))))) overCapacity);
       numbers = numbers-low s well;
     }

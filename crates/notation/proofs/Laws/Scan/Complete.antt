@@ -6,7 +6,7 @@ use mathlib.Core.Bool.{true, cond}
 use lib.ListN.{length, length-map}
 use Rattle.notation.specs.Sets.{FolderSet}
 use Rattle.notation.specs.Print.{print}
-use Rattle.notation.specs.Form.{formed, pathsOf, stepsOf, labelsOf, overBytes, overFull, faults}
+use Rattle.notation.specs.Form.{formed, pathsOf, stepsOf, labelsOf, overBytes, overLimits, faults}
 use Rattle.notation.specs.Layout.{stepEntry, tablesOf}
 use Rattle.notation.specs.Code.Scan.{scan, start, ended, refusalOf, orElse}
 use Rattle.notation.specs.Code.Emit.{tablesRead}
@@ -49,6 +49,6 @@ module _ (s : FolderSet) (well : formed s ≡ true) where
   unfolding tablesRead
   tables-complete = sym (all-tables begin (print s)) ∙ set-read s well .tables
 
-  pub refusal-complete : refusalOf (print s) ≡ cond (overBytes (print s)) 2 (orElse (firstOf (faults s)) (cond (overFull s) 7 0))
-  unfolding refusalOf ended overFull
+  pub refusal-complete : refusalOf (print s) ≡ cond (overBytes (print s)) 2 (orElse (firstOf (faults s)) (cond (overLimits s) 7 0))
+  unfolding refusalOf ended overLimits
   refusal-complete = rw (scan-complete .mode, scan-complete .fault, scan-complete .paths, scan-complete .labels)

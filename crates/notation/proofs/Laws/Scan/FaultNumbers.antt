@@ -9,7 +9,7 @@ use lib.Dec.{leb, eqb}
 use borrow.Author.Tests.{eq-eqb, eqb-true}
 use Rattle.notation.specs.Limits.{maxSteps}
 use Rattle.notation.specs.Sets.{Path, folder, FolderSet, testOf}
-use Rattle.text.specs.Refusals.{Refusal, outOfTurn, longName, longPath, numberOf}
+use Rattle.text.specs.Refusals.{Refusal, outOfOrder, nameTooLong, pathTooLong, numberOf}
 use Rattle.text.specs.Lists.{every, any}
 use Rattle.notation.specs.Form.{longTest, stepFaults, pathFaults, pathsFaults, faultsAfter, faults, numbersFall, namesLong, pathsLong}
 use Rattle.text.proofs.Laws.Tests.{cases, and-left, or-left}
@@ -38,14 +38,14 @@ every-append f (a ∷ k) l = rw (every-append f k l) (sym (and-assoc (f a) (ever
 ours-append : (xs ys : List Refusal) → every ours xs ≡ true → every ours ys ≡ true → every ours (xs ++ ys) ≡ true
 ours-append xs ys hx hy = every-append ours xs ys ∙ ap₂ (λ a b. a && b) hx hy
 
-step-ours : (p q : Bool) → every ours (cond p (longName ∷ []) [] ++ cond q (longPath ∷ []) []) ≡ true
+step-ours : (p q : Bool) → every ours (cond p (nameTooLong ∷ []) [] ++ cond q (pathTooLong ∷ []) []) ≡ true
 unfolding every
 step-ours true true = refl
 step-ours true false = refl
 step-ours false true = refl
 step-ours false false = refl
 
-turn-ours : (c : Bool) → every ours (cond c (outOfTurn ∷ []) []) ≡ true
+turn-ours : (c : Bool) → every ours (cond c (outOfOrder ∷ []) []) ≡ true
 unfolding every
 turn-ours true = refl
 turn-ours false = refl
@@ -65,7 +65,7 @@ set-ours : (s : FolderSet) (last : ℕ) → every ours (faultsAfter last s) ≡ 
 unfolding faultsAfter every
 set-ours [] last = refl
 set-ours (folder n ps ∷ fs) last =
-    ours-append (cond (leb n last) (outOfTurn ∷ []) []) (pathsFaults ps ++ faultsAfter n fs) (turn-ours (leb n last))
+    ours-append (cond (leb n last) (outOfOrder ∷ []) []) (pathsFaults ps ++ faultsAfter n fs) (turn-ours (leb n last))
     (ours-append (pathsFaults ps) (faultsAfter n fs) (paths-ours ps) (set-ours fs n))
 
 none-left : (fs : List Refusal) → every ours fs ≡ true → has 4 fs ≡ false → has 5 fs ≡ false → has 6 fs ≡ false → fs ≡ []
@@ -111,13 +111,13 @@ module _ (s : FolderSet) where
     pub fault-among : (r : Refusal) → faults s ≡ r ∷ later → (4 ≤ numberOf r) × (numberOf r ≤ 6)
     fault-among r = first-among r later (faults s) (set-ours s 0)
 
-    pub turn-fault : faults s ≡ outOfTurn ∷ later → numbersFall s ≡ true
-    turn-fault e = sym (has-4 s 0) ∙ first-has outOfTurn later (faults s) e
+    pub turn-fault : faults s ≡ outOfOrder ∷ later → numbersFall s ≡ true
+    turn-fault e = sym (has-4 s 0) ∙ first-has outOfOrder later (faults s) e
 
-    pub name-fault : faults s ≡ longName ∷ later → namesLong s ≡ true
+    pub name-fault : faults s ≡ nameTooLong ∷ later → namesLong s ≡ true
     unfolding namesLong
-    name-fault e = sym (has-5 s 0) ∙ first-has longName later (faults s) e
+    name-fault e = sym (has-5 s 0) ∙ first-has nameTooLong later (faults s) e
 
-    pub path-fault : faults s ≡ longPath ∷ later → pathsLong s ≡ true
+    pub path-fault : faults s ≡ pathTooLong ∷ later → pathsLong s ≡ true
     unfolding pathsLong
-    path-fault e = sym (has-6 s 0) ∙ first-has longPath later (faults s) e
+    path-fault e = sym (has-6 s 0) ∙ first-has pathTooLong later (faults s) e

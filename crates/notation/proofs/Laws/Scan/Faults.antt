@@ -10,7 +10,7 @@ use lib.ListN.{length}
 use Rattle.notation.specs.Limits.{maxSteps}
 use Rattle.text.specs.Names.{tooLong}
 use Rattle.notation.specs.Sets.{Test, label, star, Path, folder, FolderSet, testOf}
-use Rattle.text.specs.Refusals.{Refusal, outOfTurn, longName, longPath, numberOf}
+use Rattle.text.specs.Refusals.{Refusal, outOfOrder, nameTooLong, pathTooLong, numberOf}
 use Rattle.notation.specs.Form.{pathsOf, stepsOf, labelsOf, labelOf, longTest, stepFaults, pathFaults, pathsFaults, faultsAfter, numbersFallAfter, pathLong}
 use Rattle.text.specs.Lists.{any}
 use Rattle.text.proofs.Laws.Tests.{cases}
@@ -31,7 +31,7 @@ has-append k xs ys = any-append (λ r. eqb (numberOf r) k) xs ys
 -- the faults of a step: p, its label is too long; q, it is over the path's limit
 
 abbrev stepList : Bool → Bool → List Refusal
-stepList p q = cond p (longName ∷ []) [] ++ cond q (longPath ∷ []) []
+stepList p q = cond p (nameTooLong ∷ []) [] ++ cond q (pathTooLong ∷ []) []
 
 step-has-4 : (p q : Bool) → has 4 (stepList p q) ≡ false
 unfolding any
@@ -54,7 +54,7 @@ step-has-6 true false = refl
 step-has-6 false true = refl
 step-has-6 false false = refl
 
-turn-has : (k : ℕ) (c : Bool) → has k (cond c (outOfTurn ∷ []) []) ≡ (c && eqb 4 k)
+turn-has : (k : ℕ) (c : Bool) → has k (cond c (outOfOrder ∷ []) []) ≡ (c && eqb 4 k)
 unfolding any
 turn-has k true = or-false (eqb 4 k)
 turn-has k false = refl
@@ -125,7 +125,7 @@ line-has : (k last n : ℕ) (ps : List Path) (fs : FolderSet)
     → has k (faultsAfter last (folder n ps ∷ fs)) ≡ (leb n last && eqb 4 k || (has k (pathsFaults ps) || has k (faultsAfter n fs)))
 unfolding faultsAfter
 line-has k last n ps fs =
-    has-append k (cond (leb n last) (outOfTurn ∷ []) []) (pathsFaults ps ++ faultsAfter n fs) ∙
+    has-append k (cond (leb n last) (outOfOrder ∷ []) []) (pathsFaults ps ++ faultsAfter n fs) ∙
     ap₂ (λ a b. a || b) (turn-has k (leb n last)) (has-append k (pathsFaults ps) (faultsAfter n fs))
 
 pub has-4 : (s : FolderSet) (last : ℕ) → has 4 (faultsAfter last s) ≡ numbersFallAfter last s

@@ -4,7 +4,7 @@ use mathlib.Core.Path.{_≡_, refl, sym}
 use mathlib.Core.List.{List, [], _∷_, _++_}
 use lib.Dec.{eqb}
 use borrow.Author.Tests.{eqb-true}
-use Rattle.text.specs.Refusals.{Refusal, shortBuffer, oversize, bentForm, outOfTurn, longName, longPath, full, foreignByte, torn, looseEnd, tooDeep, crossed, noSuchPlace, strangeShape, numberOf}
+use Rattle.text.specs.Refusals.{Refusal, shortBuffer, tooLarge, malformedSet, outOfOrder, nameTooLong, pathTooLong, overCapacity, invalidByte, syntaxError, notOneRoot, tooDeep, mismatchedClose, notFound, badShape, numberOf}
 use Rattle.notation.specs.Code.Scan.{orElse}
 use Rattle.text.proofs.Laws.Tests.{cases}
 
@@ -22,16 +22,16 @@ orElse-none a = cases (eqb a 0) (λ e. rw e (sym (eqb-true a 0 e))) (λ e. rw e)
 pub first-append : (xs ys : List Refusal) → firstOf (xs ++ ys) ≡ orElse (firstOf xs) (firstOf ys)
 first-append [] ys = refl
 first-append (shortBuffer ∷ xs) ys = refl
-first-append (oversize ∷ xs) ys = refl
-first-append (bentForm ∷ xs) ys = refl
-first-append (outOfTurn ∷ xs) ys = refl
-first-append (longName ∷ xs) ys = refl
-first-append (longPath ∷ xs) ys = refl
-first-append (full ∷ xs) ys = refl
-first-append (foreignByte ∷ xs) ys = refl
-first-append (torn ∷ xs) ys = refl
-first-append (looseEnd ∷ xs) ys = refl
+first-append (tooLarge ∷ xs) ys = refl
+first-append (malformedSet ∷ xs) ys = refl
+first-append (outOfOrder ∷ xs) ys = refl
+first-append (nameTooLong ∷ xs) ys = refl
+first-append (pathTooLong ∷ xs) ys = refl
+first-append (overCapacity ∷ xs) ys = refl
+first-append (invalidByte ∷ xs) ys = refl
+first-append (syntaxError ∷ xs) ys = refl
+first-append (notOneRoot ∷ xs) ys = refl
 first-append (tooDeep ∷ xs) ys = refl
-first-append (crossed ∷ xs) ys = refl
-first-append (noSuchPlace ∷ xs) ys = refl
-first-append (strangeShape ∷ xs) ys = refl
+first-append (mismatchedClose ∷ xs) ys = refl
+first-append (notFound ∷ xs) ys = refl
+first-append (badShape ∷ xs) ys = refl

@@ -12,7 +12,7 @@ use Rattle.text.specs.Names.{within}
 use Rattle.notation.specs.Sets.{Path, folder}
 use Rattle.text.specs.Decimal.{decimal}
 use Rattle.notation.specs.Print.{printPath, printPaths, folderWord, footer, printFolder}
-use Rattle.text.specs.Refusals.{Refusal, outOfTurn}
+use Rattle.text.specs.Refusals.{Refusal, outOfOrder}
 use Rattle.text.specs.Lists.{every}
 use Rattle.notation.specs.Form.{formedPath, formedFolder, stepsOf, pathsFaults}
 use Rattle.notation.specs.Layout.{Tables, folderEntry, stepEntry, pathTable, labelTable, afterNumber}
@@ -53,9 +53,9 @@ abbrev numberAdds : ℕ → ℕ → Tables
 numberAdds n j = record { folders = folderEntry n j ∷ []; paths = []; steps = []; labels = [] }
 
 abbrev turn : ℕ → ℕ → List Refusal
-turn n last = cond (leb n last) (outOfTurn ∷ []) []
+turn n last = cond (leb n last) (outOfOrder ∷ []) []
 
-first-of-turn : (c : Bool) → cond c 4 0 ≡ firstOf (cond c (outOfTurn ∷ []) [])
+first-of-turn : (c : Bool) → cond c 4 0 ≡ firstOf (cond c (outOfOrder ∷ []) [])
 first-of-turn true = refl
 first-of-turn false = refl
 

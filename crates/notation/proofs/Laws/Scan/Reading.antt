@@ -10,7 +10,7 @@ use Rattle.notation.specs.Layout.{Tables}
 use Rattle.notation.specs.Code.Scan.{counted, scanned, scan}
 use Rattle.notation.specs.Code.Emit.{emitted, emit}
 use Rattle.notation.specs.declared.scan.Mode.{Mode}
-use Rattle.notation.specs.declared.scan.Mode.the-variants.{Header, LineStart, Word, NumberStart, Number, PathOpen, PathStart, Slash, Slashes, Label, Star, PathEnd, LineEnd, LastLine, Done, Bent}
+use Rattle.notation.specs.declared.scan.Mode.the-variants.{Header, LineStart, Word, NumberStart, Number, PathOpen, PathStart, Slash, Slashes, Label, Star, PathEnd, LineEnd, LastLine, Done, Malformed}
 use Rattle.notation.specs.declared.scan.Tally.{Tally}
 use Rattle.notation.specs.declared.scan.Scan.{Scan}
 use Rattle.text.proofs.Laws.Tests.{cases}
@@ -86,7 +86,7 @@ counted-at PathEnd b t = refl
 counted-at LineEnd b t = refl
 counted-at LastLine b t = refl
 counted-at Done b t = refl
-counted-at Bent b t = refl
+counted-at Malformed b t = refl
 
 pub byte-at : (r : Reading) (b : ℕ) → readByte r b .state .tally .at ≡ r .state .tally .at + 1
 unfolding readByte scanned

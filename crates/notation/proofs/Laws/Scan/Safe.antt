@@ -12,7 +12,7 @@ use Rattle.notation.specs.Print.{header, folderWord}
 use Rattle.notation.specs.Code.Scan.{next, testStart, testEnd, counted, scanned, start, labelRead, starRead, pathRead}
 use Rattle.notation.specs.Code.Safe.{SmallMode, Small, Safe}
 use Rattle.notation.specs.declared.scan.Mode.{Mode}
-use Rattle.notation.specs.declared.scan.Mode.the-variants.{Header, LineStart, Word, NumberStart, Number, PathOpen, PathStart, Slash, Slashes, Label, Star, PathEnd, LineEnd, LastLine, Done, Bent}
+use Rattle.notation.specs.declared.scan.Mode.the-variants.{Header, LineStart, Word, NumberStart, Number, PathOpen, PathStart, Slash, Slashes, Label, Star, PathEnd, LineEnd, LastLine, Done, Malformed}
 use Rattle.notation.specs.declared.scan.Tally.{Tally}
 use Rattle.notation.specs.declared.scan.Scan.{Scan}
 
@@ -22,7 +22,7 @@ either false x y p q = q
 
 -- the next place of a fixed word is within it
 small-word : (t : Bool) (k last : ℕ) (f : ℕ → Mode) (over : Mode) → (k + 1 ≤ last → SmallMode (f (k + 1))) → SmallMode over → k ≤ last
-    → SmallMode (cond t (cond (eqb k last) over (f (k + 1))) Bent)
+    → SmallMode (cond t (cond (eqb k last) over (f (k + 1))) Malformed)
 small-word false k last f over more end h = tt
 small-word true k last f over more end h = cases (eqb k last) (λ e. rw e end) (λ e. rw e (more (below e)))
   where
@@ -30,32 +30,32 @@ small-word true k last f over more end h = cases (eqb k last) (λ e. rw e end) (
     below e = let ne : k ≡ last → ⊥ = eqb-false k last e in omega arith
 
 small-start : (b : ℕ) → SmallMode (testStart b)
-small-start b = either (beginsName b) Label (cond (eqb b 42) Star Bent) tt (either (eqb b 42) Star Bent tt tt)
+small-start b = either (beginsName b) Label (cond (eqb b 42) Star Malformed) tt (either (eqb b 42) Star Malformed tt tt)
 
 small-end : (b : ℕ) → SmallMode (testEnd b)
-small-end b = either (eqb b 47) Slash (cond (eqb b 41) PathEnd Bent) tt (either (eqb b 41) PathEnd Bent tt tt)
+small-end b = either (eqb b 47) Slash (cond (eqb b 41) PathEnd Malformed) tt (either (eqb b 41) PathEnd Malformed tt tt)
 
 small-next : (m : Mode) (b : ℕ) → SmallMode m → SmallMode (next m b)
 unfolding next
 small-next (Header k) b h = small-word (eqb b (getD header k 0)) k 8 Header LineStart (λ g. g) tt h
 small-next LineStart b h =
-    either (eqb b 40) (Word 1) (cond (eqb b 41) LastLine Bent) (omega arith) (either (eqb b 41) LastLine Bent tt tt)
+    either (eqb b 40) (Word 1) (cond (eqb b 41) LastLine Malformed) (omega arith) (either (eqb b 41) LastLine Malformed tt tt)
 small-next (Word k) b h = small-word (eqb b (getD folderWord k 0)) k 7 Word NumberStart (λ g. g) tt h
-small-next NumberStart b h = either (within 49 57 b) (Number (b - 48)) Bent tt tt
+small-next NumberStart b h = either (within 49 57 b) (Number (b - 48)) Malformed tt tt
 small-next (Number n) b h =
     let more = digit b && ltb n 1000 in
-    either (eqb b 32) PathOpen (cond more (Number (10 * n + (b - 48))) Bent) tt (either more (Number (10 * n + (b - 48))) Bent tt tt)
-small-next PathOpen b h = either (eqb b 40) PathStart Bent tt tt
-small-next PathStart b h = either (eqb b 47) Slash Bent tt tt
+    either (eqb b 32) PathOpen (cond more (Number (10 * n + (b - 48))) Malformed) tt (either more (Number (10 * n + (b - 48))) Malformed tt tt)
+small-next PathOpen b h = either (eqb b 40) PathStart Malformed tt tt
+small-next PathStart b h = either (eqb b 47) Slash Malformed tt tt
 small-next Slash b h = either (eqb b 47) Slashes (testStart b) tt (small-start b)
 small-next Slashes b h = small-start b
 small-next Label b h = either (inName b) Label (testEnd b) tt (small-end b)
 small-next Star b h = small-end b
-small-next PathEnd b h = either (eqb b 32) PathOpen (cond (eqb b 41) LineEnd Bent) tt (either (eqb b 41) LineEnd Bent tt tt)
-small-next LineEnd b h = either (eqb b 10) LineStart Bent tt tt
-small-next LastLine b h = either (eqb b 10) Done Bent tt tt
+small-next PathEnd b h = either (eqb b 32) PathOpen (cond (eqb b 41) LineEnd Malformed) tt (either (eqb b 41) LineEnd Malformed tt tt)
+small-next LineEnd b h = either (eqb b 10) LineStart Malformed tt tt
+small-next LastLine b h = either (eqb b 10) Done Malformed tt tt
 small-next Done b h = tt
-small-next Bent b h = tt
+small-next Malformed b h = tt
 
 -- a byte adds at most one to each count, and takes none away
 pub record Grown (t u : Tally) : Type 0 where
@@ -108,7 +108,7 @@ grown PathEnd b t = same t
 grown LineEnd b t = same t
 grown LastLine b t = same t
 grown Done b t = same t
-grown Bent b t = same t
+grown Malformed b t = same t
 
 pub safe-start : Safe start
 unfolding start

@@ -8,7 +8,7 @@ use lib.Dec.{leb}
 use lib.ListN.{length, length-map}
 use Rattle.notation.specs.Sets.{folder, FolderSet}
 use Rattle.notation.specs.Print.{printFolder, printFolders, print, header, footer}
-use Rattle.text.specs.Refusals.{outOfTurn}
+use Rattle.text.specs.Refusals.{outOfOrder}
 use Rattle.text.specs.Lists.{every}
 use Rattle.notation.specs.Form.{formedFolder, formed, pathsOf, stepsOf, pathsFaults, faultsAfter, faults}
 use Rattle.notation.specs.Layout.{Tables, stepEntry, folderTable, setPaths, setLabels, afterNumber, tablesOf}
@@ -75,7 +75,7 @@ folders-read (folder n ps ∷ fs) last at j k r well h =
     (tables-same refl refl
     (sym (ap (λ ss. map stepEntry ss) (steps-append ps (pathsOf fs)) ∙ map-append stepEntry (stepsOf ps) (stepsOf (pathsOf fs))))
     refl)
-    (append-assoc (cond (leb n last) (outOfTurn ∷ []) []) (pathsFaults ps) (faultsAfter n fs))
+    (append-assoc (cond (leb n last) (outOfOrder ∷ []) []) (pathsFaults ps) (faultsAfter n fs))
     (sym (all-append r (printFolder (folder n ps)) (printFolders fs)))
 
 abbrev pub begin : Reading

@@ -10,7 +10,7 @@ use Rattle.text.specs.Names.{maxName, inName}
 use Rattle.notation.specs.Limits.{maxSteps}
 use Rattle.notation.specs.Sets.{Axis, label, star, Step, step, axisOf, testOf}
 use Rattle.notation.specs.Print.{printAxis, printStep}
-use Rattle.text.specs.Refusals.{longName, longPath}
+use Rattle.text.specs.Refusals.{nameTooLong, pathTooLong}
 use Rattle.notation.specs.Form.{formedStep, stepFaults}
 use Rattle.notation.specs.Layout.{Tables, axisBit, stepEntry, stepLabel, pathEntry}
 use Rattle.notation.specs.Code.Scan.{next, counted, scanned, testEnd, ticked, pathRead, labelRead, orElse}
@@ -41,7 +41,7 @@ one-or-none true e = refl
 one-or-none false e = refl
 
 first-of-step : (p q : Bool)
-    → orElse (cond p 5 0) (cond q 6 0) ≡ firstOf (cond p (longName ∷ []) [] ++ cond q (longPath ∷ []) [])
+    → orElse (cond p 5 0) (cond q 6 0) ≡ firstOf (cond p (nameTooLong ∷ []) [] ++ cond q (pathTooLong ∷ []) [])
 first-of-step true true = refl
 first-of-step true false = refl
 first-of-step false true = refl

@@ -9,7 +9,7 @@ use borrow.Author.Tests.{leb-false, eq-eqb, ne-eqb}
 use lib.Dec.{leb}
 use lib.ListN.{length, getD}
 use Rattle.notation.specs.Sets.{Path, folder, FolderSet, folderNumber}
-use Rattle.text.specs.Refusals.{outOfTurn}
+use Rattle.text.specs.Refusals.{outOfOrder}
 use Rattle.notation.specs.Form.{pathsFaults, faultsAfter}
 use Rattle.notation.specs.Reads.{folderIndex}
 use Rattle.notation.specs.declared.reads.FolderIndex.{FolderIndex}
@@ -21,13 +21,13 @@ module _ (last n : ℕ) (ps : List Path) (fs : FolderSet) (clean : faultsAfter l
   unfolding faultsAfter
   first-above =
       leb-false n last
-      (unfaulted outOfTurn (leb n last) (none-left (cond (leb n last) (outOfTurn ∷ []) []) (pathsFaults ps ++ faultsAfter n fs) clean))
+      (unfaulted outOfOrder (leb n last) (none-left (cond (leb n last) (outOfOrder ∷ []) []) (pathsFaults ps ++ faultsAfter n fs) clean))
 
   others-clean : faultsAfter n fs ≡ []
   unfolding faultsAfter
   others-clean =
       none-right (pathsFaults ps) (faultsAfter n fs)
-      (none-right (cond (leb n last) (outOfTurn ∷ []) []) (pathsFaults ps ++ faultsAfter n fs) clean)
+      (none-right (cond (leb n last) (outOfOrder ∷ []) []) (pathsFaults ps ++ faultsAfter n fs) clean)
 
 -- every number is above the last one before the set
 pub above : (last : ℕ) (fs : FolderSet) → faultsAfter last fs ≡ [] → (i : ℕ) → i < length fs → last < folderNumber (getD fs i noFolder)

@@ -1,4 +1,4 @@
-use Rattle.notation.specs.declared.scan.Mode.the-variants.{Header, LineStart, Word, NumberStart, Number, PathOpen, PathStart, Slash, Slashes, Label, Star, PathEnd, LineEnd, LastLine, Done, Bent}
+use Rattle.notation.specs.declared.scan.Mode.the-variants.{Header, LineStart, Word, NumberStart, Number, PathOpen, PathStart, Slash, Slashes, Label, Star, PathEnd, LineEnd, LastLine, Done, Malformed}
 use Rattle.notation.specs.declared.scan.Mode.{Mode}
 use Rattle.notation.specs.Code.Scan.{isDone}
 use Rattle.notation.proofs.scan.Mode.{the-type}
@@ -32,7 +32,7 @@ not-done PathEnd h = refl
 not-done LineEnd h = refl
 not-done LastLine h = refl
 not-done Done h = absurd (miss others 14 tt h)
-not-done Bent h = refl
+not-done Malformed h = refl
 
 enum-told : tie.Need-enum-told
 enum-told c = search needs

@@ -23,11 +23,11 @@ use Rattle.notation.proofs.Laws.Stored.ReadSteps.{step-read}
 use Rattle.notation.proofs.Laws.Stored.ReadPaths.{path-read}
 use Rattle.stored.specs.Automaton.{maskSize, allSteps, Link, Role, role, rolesFrom, rolesIn, roles, masks, bitBytes, byteOf, assembled}
 use Rattle.stored.specs.Bits.{withBit}
-use Rattle.stored.specs.Code.Masks.{marked, axisMask, markRole, markStep, markSteps, markPath, markPaths, withMasks}
+use Rattle.stored.specs.Code.Masks.{flaged, axisMask, flagRole, flagStep, flagSteps, flagPath, flagPaths, withMasks}
 use Rattle.stored.proofs.Laws.Bytes.Tabulate.{tabulate-length}
 use Rattle.stored.proofs.Laws.Bytes.WithBit.{bits-with}
 use Rattle.stored.proofs.Laws.Tables.Assembled.{Sized, after-set, mask-read, mask-put}
-use Rattle.stored.proofs.Laws.Bytes.MaskRows.{bits-none, place, marks, markBits, roleBits, masks-are}
+use Rattle.stored.proofs.Laws.Bytes.MaskRows.{bits-none, place, flags, flagBits, roleBits, masks-are}
 
 roles-length : (first : Bool) (p : Path) → length (rolesFrom first p) ≡ length p
 unfolding rolesFrom
@@ -47,7 +47,7 @@ unfolding roleBits
 bits-append i [] ts b = ap (λ (j : ℕ). roleBits j ts b) (sym (add-zero i))
 bits-append i (r ∷ rs) ts b =
     let e : suc i + length rs ≡ i + suc (length rs) = omega arith in
-    bits-append (suc i) rs ts (markBits i r b) ∙ ap (λ (j : ℕ). roleBits j ts (roleBits (suc i) rs (markBits i r b))) e
+    bits-append (suc i) rs ts (flagBits i r b) ∙ ap (λ (j : ℕ). roleBits j ts (roleBits (suc i) rs (flagBits i r b))) e
 
 pub bit-in : (m i : ℕ) → m < 6 → i < 8 * maskSize → place m i < 8 * (6 * maskSize)
 unfolding maskSize
@@ -67,9 +67,9 @@ pub all-small : maxPaths * maxSteps ≡ 8 * maskSize
 unfolding maxPaths maxSteps maskSize
 all-small = refl
 
-steps-more : (n i : ℕ) (first : Bool) (part : List ℕ) → markSteps (suc (suc n)) i first part ≡ markSteps (suc n) (suc i) false (markStep i first false part)
-unfolding markSteps
-steps-more n i first part = ap (λ (last : Bool). markSteps (suc n) (suc i) false (markStep i first last part)) (ne-eqb (suc n) 0 (omega arith))
+steps-more : (n i : ℕ) (first : Bool) (part : List ℕ) → flagSteps (suc (suc n)) i first part ≡ flagSteps (suc n) (suc i) false (flagStep i first false part)
+unfolding flagSteps
+steps-more n i first part = ap (λ (last : Bool). flagSteps (suc n) (suc i) false (flagStep i first last part)) (ne-eqb (suc n) 0 (omega arith))
 
 one-path : (p : Path) → length (stepsOf (p ∷ [])) ≡ length p
 unfolding stepsOf
@@ -102,27 +102,27 @@ module _ (s : FolderSet) (fit : Fitting s) (hs : List ℕ) (ls : List Link) (f :
   sized : (b : ℕ → Bool) → Sized hs ls (bitBytes b (6 * maskSize))
   sized b = sizes (bitBytes b (6 * maskSize)) (tabulate-length (byteOf b) (6 * maskSize))
 
-  marked-bit : (on : Bool) (m i : ℕ) → m < 6 → i < 8 * maskSize → (b : ℕ → Bool) → marked on m i (bytes b) ≡ bytes (marks on (place m i) b)
-  unfolding marked
-  marked-bit false m i k h b = refl
-  marked-bit true m i k h b =
+  flaged-bit : (on : Bool) (m i : ℕ) → m < 6 → i < 8 * maskSize → (b : ℕ → Bool) → flaged on m i (bytes b) ≡ bytes (flags on (place m i) b)
+  unfolding flaged
+  flaged-bit false m i k h b = refl
+  flaged-bit true m i k h b =
       rw (mask-read s fit hs ls (bitBytes b (6 * maskSize)) f (sized b) rest (place m i / 8) (byte-in m i k h))
       (mask-put s fit hs ls (bitBytes b (6 * maskSize)) f (sized b) rest (place m i / 8) (withBit (getD (bitBytes b (6 * maskSize)) (place m i / 8) 0) (place m i % 8)) (byte-in m i k h)
       ∙ ap (λ (l : List ℕ). assembled s hs ls l f ++ rest) (bits-with b (6 * maskSize) (place m i) (bit-in m i k h)))
 
   role-bits : (i : ℕ) → i < 8 * maskSize → (st : Step) (first last : Bool) (b : ℕ → Bool)
-      → markRole i (isDescendant (axisOf st)) (isStar (testOf st)) first last (bytes b) ≡ bytes (markBits i (role st first last) b)
-  unfolding markRole
+      → flagRole i (isDescendant (axisOf st)) (isStar (testOf st)) first last (bytes b) ≡ bytes (flagBits i (role st first last) b)
+  unfolding flagRole
   role-bits i h st first last b =
       let axis = axisMask first (isDescendant (axisOf st)) in
-      let b1 = marks (isStar (testOf st)) (place 0 i) b in
-      let b2 = marks true (place axis i) b1 in
-      rw (marked-bit (isStar (testOf st)) 0 i (omega arith) h b, marked-bit true axis i (axis-small first (isDescendant (axisOf st))) h b1)
-      (marked-bit last 5 i (omega arith) h b2)
+      let b1 = flags (isStar (testOf st)) (place 0 i) b in
+      let b2 = flags true (place axis i) b1 in
+      rw (flaged-bit (isStar (testOf st)) 0 i (omega arith) h b, flaged-bit true axis i (axis-small first (isDescendant (axisOf st))) h b1)
+      (flaged-bit last 5 i (omega arith) h b2)
 
   step-bits : (i : ℕ) → i < length (allSteps s) → (first last : Bool) (b : ℕ → Bool)
-      → markStep i first last (bytes b) ≡ bytes (markBits i (role (getD (allSteps s) i noStep) first last) b)
-  unfolding markStep
+      → flagStep i first last (bytes b) ≡ bytes (flagBits i (role (getD (allSteps s) i noStep) first last) b)
+  unfolding flagStep
   step-bits i h first last b =
       let x = after-set s fit hs ls (bitBytes b (6 * maskSize)) f rest in
       let read : stepAt (bytes b) i ≡ StepAt.Step (isDescendant (axisOf (getD (allSteps s) i noStep))) (isStar (testOf (getD (allSteps s) i noStep))) = rw (x .1) (step-read s fit (x .0) i h) in
@@ -131,15 +131,15 @@ module _ (s : FolderSet) (fit : Fitting s) (hs : List ℕ) (ls : List Link) (f :
 
   path-bits : (p : Path) (i : ℕ) (first : Bool) (b : ℕ → Bool) → i + length p ≤ length (allSteps s)
       → ((k : ℕ) → k < length p → getD (allSteps s) (i + k) noStep ≡ getD p k noStep)
-      → markSteps (length p) i first (bytes b) ≡ bytes (roleBits i (rolesFrom first p) b)
-  unfolding markSteps rolesFrom roleBits
+      → flagSteps (length p) i first (bytes b) ≡ bytes (roleBits i (rolesFrom first p) b)
+  unfolding flagSteps rolesFrom roleBits
   path-bits [] i first b h g = refl
   path-bits (x ∷ []) i first b h g =
-      step-bits i (omega arith) first true b ∙ ap (λ (y : Step). bytes (markBits i (role y first true) b)) (rw add-zero at (g 0 (omega arith)))
+      step-bits i (omega arith) first true b ∙ ap (λ (y : Step). bytes (flagBits i (role y first true) b)) (rw add-zero at (g 0 (omega arith)))
   path-bits (x ∷ y ∷ p) i first b h g =
       steps-more (length p) i first (bytes b)
-      ∙ ap (λ (part : List ℕ). markSteps (suc (length p)) (suc i) false part) (step-bits i (omega arith) first false b ∙ ap (λ (z : Step). bytes (markBits i (role z first false) b)) here)
-      ∙ (path-bits (y ∷ p) (suc i) false (markBits i (role x first false) b) (omega arith) later)
+      ∙ ap (λ (part : List ℕ). flagSteps (suc (length p)) (suc i) false part) (step-bits i (omega arith) first false b ∙ ap (λ (z : Step). bytes (flagBits i (role z first false) b)) here)
+      ∙ (path-bits (y ∷ p) (suc i) false (flagBits i (role x first false) b) (omega arith) later)
     where
       here : getD (allSteps s) i noStep ≡ x
       here = rw add-zero at (g 0 (omega arith))
@@ -154,10 +154,10 @@ module _ (s : FolderSet) (fit : Fitting s) (hs : List ℕ) (ls : List Link) (f :
       let r = path-in s fit (x .0) pre p ps e in
       (r .0, rw (x .1) (r .1))
 
-  mark-path-bits : (b : ℕ → Bool) (pre : List Path) (p : Path) (ps : List Path) → pathsOf s ≡ pre ++ (p ∷ ps)
-      → markPath (length pre) (bytes b) ≡ bytes (roleBits (length (stepsOf pre)) (rolesFrom true p) b)
-  unfolding markPath
-  mark-path-bits b pre p ps e =
+  flag-path-bits : (b : ℕ → Bool) (pre : List Path) (p : Path) (ps : List Path) → pathsOf s ≡ pre ++ (p ∷ ps)
+      → flagPath (length pre) (bytes b) ≡ bytes (roleBits (length (stepsOf pre)) (rolesFrom true p) b)
+  unfolding flagPath
+  flag-path-bits b pre p ps e =
       let r = path-here b pre p ps e in
       let split = steps-here s pre p ps e in
       rw (r .1) (path-bits p (length (stepsOf pre)) true b (omega (arith, ap length split, length-append (stepsOf pre) (p ++ stepsOf ps), length-append p (stepsOf ps))) (step-here split))
@@ -167,12 +167,12 @@ module _ (s : FolderSet) (fit : Fitting s) (hs : List ℕ) (ls : List Link) (f :
           ap (λ (l : List Step). getD l (length (stepsOf pre) + k) noStep) split
           ∙ getD-append-add (stepsOf pre) (p ++ stepsOf ps) k noStep ∙ List·getD-append p (stepsOf ps) noStep k h
 
-  all-bits-here : (ps pre : List Path) (b : ℕ → Bool) → pathsOf s ≡ pre ++ ps → markPaths (length ps) (length pre) (bytes b) ≡ bytes (roleBits (length (stepsOf pre)) (rolesIn ps) b)
-  unfolding markPaths rolesIn roleBits
+  all-bits-here : (ps pre : List Path) (b : ℕ → Bool) → pathsOf s ≡ pre ++ ps → flagPaths (length ps) (length pre) (bytes b) ≡ bytes (roleBits (length (stepsOf pre)) (rolesIn ps) b)
+  unfolding flagPaths rolesIn roleBits
   all-bits-here [] pre b e = refl
   all-bits-here (p ∷ ps) pre b e =
-      ap (λ (part : List ℕ). markPaths (length ps) (suc (length pre)) part) (mark-path-bits b pre p ps e)
-      ∙ (ap (λ (n : ℕ). markPaths (length ps) n (bytes (roleBits (length (stepsOf pre)) (rolesFrom true p) b))) (sym size)
+      ap (λ (part : List ℕ). flagPaths (length ps) (suc (length pre)) part) (flag-path-bits b pre p ps e)
+      ∙ (ap (λ (n : ℕ). flagPaths (length ps) n (bytes (roleBits (length (stepsOf pre)) (rolesFrom true p) b))) (sym size)
       ∙ all-bits-here ps (pre ++ (p ∷ [])) (roleBits (length (stepsOf pre)) (rolesFrom true p) b) (e ∙ sym (append-assoc pre (p ∷ []) ps))
       ∙ ap (λ (n : ℕ). bytes (roleBits n (rolesIn ps) (roleBits (length (stepsOf pre)) (rolesFrom true p) b))) steps
       ∙ ap bytes (sym (bits-append (length (stepsOf pre)) (rolesFrom true p) (rolesIn ps) b)))

@@ -35,7 +35,7 @@ use Rattle.stored.proofs.Laws.Tables.SetReads.{of-set, label-bytes, ste
 use Rattle.stored.proofs.Laws.Tables.States.{same-word, word-same, shortened-followed, followed-last, words-count, word-ends, label-parent, state-followed}
 use Rattle.stored.proofs.Laws.Tables.Goto.{Chained, ParentAt, goto-word}
 use Rattle.stored.proofs.Laws.Tables.Linked.{chained-here, parent-here}
-use Rattle.stored.proofs.Laws.Building.Placed.{marked, placed, marked-next, marked-parent, marked-length, upTo, upTo-length, upTo-done, upTo-rest, upTo-step, upTo-all, find-first, words-short}
+use Rattle.stored.proofs.Laws.Building.Placed.{flaged, placed, flaged-next, flaged-parent, flaged-length, upTo, upTo-length, upTo-done, upTo-rest, upTo-step, upTo-all, find-first, words-short}
 
 -- the word is empty, `#`, or that of a label below l
 data Seen (s : FolderSet) (l : ℕ) (w : Word) : Type 0 where
@@ -57,7 +57,7 @@ record Here (s : FolderSet) (i l begun : ℕ) (w : Word) (p : Path) (ps : List P
   goneSize : length gone ≡ begun
   until : i + length p ≡ length (stepsOf gone)
   seen : Seen s l w
-  full : every nonEmpty ps ≡ true
+  overCapacity : every nonEmpty ps ≡ true
 
 -- the same with the step's axis dealt with
 record Ready (s : FolderSet) (i l begun : ℕ) (w : Word) (x : Step) (p : Path) (ps : List Path) : Type 0 where
@@ -72,7 +72,7 @@ record Ready (s : FolderSet) (i l begun : ℕ) (w : Word) (x : Step) (p : Path) 
   goneSize : length gone ≡ begun
   until : i + suc (length p) ≡ length (stepsOf gone)
   seen : Seen s l w
-  full : every nonEmpty ps ≡ true
+  overCapacity : every nonEmpty ps ≡ true
 
 -- one step of the pass
 next-step : (left i : ℕ) (at : Place) (a : List ℕ) (first : Bool) {x : StepAt} → stepAt a i ≡ x → startsAt (pathAt a (record { 0 = at .paths })) i ≡ first
@@ -106,7 +106,7 @@ go-on s i l begun w x v p ps h e q = record {
   goneSize = h .goneSize;
   until = h .until;
   seen = q;
-  full = h .full;
+  overCapacity = h .overCapacity;
 }
 
 -- a path's first step
@@ -135,7 +135,7 @@ begin s i l begun w x v p ps h e q = record {
   goneSize = length-append (h .gone) ((x ∷ p) ∷ []) ∙ ap (λ (n : ℕ). n + 1) (h .goneSize);
   until = omega (arith, h .until, steps-one (h .gone) (x ∷ p));
   seen = q;
-  full = h .full;
+  overCapacity = h .overCapacity;
 }
   where
     steps-one : (g : List Path) (y : Path) → length (stepsOf (g ++ (y ∷ []))) ≡ length (stepsOf g) + length y
@@ -159,7 +159,7 @@ module _ (s : FolderSet) (fit : Fitting s) (ls : List Link) (ms : List ℕ) (f :
   nexts-kept : (l m : ℕ) → l ≤ length (allLabels s) → m < length (allLabels s) → nextOf (getD (upTo s ls l) m noLink) ≡ getD (nexts 0 (allLabels s)) m 0
   nexts-kept l m h k =
       cases (ltb m l)
-      (λ t. ap nextOf (upTo-done s ls counted l m (rw count h) (ltb-true m l t)) ∙ marked-next s (getD (allWords s) m []) (getD ls m noLink) ∙ next m k)
+      (λ t. ap nextOf (upTo-done s ls counted l m (rw count h) (ltb-true m l t)) ∙ flaged-next s (getD (allWords s) m []) (getD ls m noLink) ∙ next m k)
       (λ t. ap nextOf (upTo-rest s ls counted l m (rw count h) (ltb-false m l t)) ∙ next m k)
 
   chains : (l : ℕ) → l ≤ length (allLabels s) → Chained s (stage l)
@@ -170,14 +170,14 @@ module _ (s : FolderSet) (fit : Fitting s) (ls : List Link) (ms : List ℕ) (f :
   unfolding stage
   parents l m h k =
       parent-here s fit (upTo s ls l) ms f (sized (upTo s ls l) (counts l)) rest (counts l) (λ m k. nexts-kept l m h k) m (omega arith)
-      (ap parentOf (upTo-done s ls counted l m (rw count h) k) ∙ marked-parent s (getD (allWords s) m []) (getD ls m noLink))
+      (ap parentOf (upTo-done s ls counted l m (rw count h) k) ∙ flaged-parent s (getD (allWords s) m []) (getD ls m noLink))
 
   -- the length of a word seen is stored
   size-at : (l m : ℕ) → l ≤ length (allLabels s) → m < l → sizeAt (stage l) m ≡ length (getD (allWords s) m [])
   unfolding stage maxLabels
   size-at l m h k =
       let e : lengthOf (getD (upTo s ls l) m noLink) ≡ length (getD (allWords s) m []) =
-      ap lengthOf (upTo-done s ls counted l m (rw count h) k) ∙ marked-length s (getD (allWords s) m []) (getD ls m noLink) in
+      ap lengthOf (upTo-done s ls counted l m (rw count h) k) ∙ flaged-length s (getD (allWords s) m []) (getD ls m noLink) in
       size-read s fit (heads (allLabels s)) (upTo s ls l) ms f (sized (upTo s ls l) (counts l)) rest m (omega (arith, counts l))
       (omega (arith, e, words-short s m (omega (arith, words-count s)), fit .labels))
       ∙ e
@@ -214,7 +214,7 @@ module _ (s : FolderSet) (fit : Fitting s) (ls : List Link) (ms : List ℕ) (f :
         let ks' : List Link = set ks l p in
         let n' : length ks' ≡ length (allLabels s) = length-set ks l p ∙ counts l in
         let size : sizeOf (stage l) (stateOf s w) + 1 ≡ length w + 1 = ap (λ (n : ℕ). n + 1) (size-here l w (omega arith) seen) in
-        let m : withLength (length w + 1) p ≡ marked s (getD (allWords s) l []) k = rw (word, shortened-followed w e, length-append w (name e ∷ [])) in
+        let m : withLength (length w + 1) p ≡ flaged s (getD (allWords s) l []) k = rw (word, shortened-followed w e, length-append w (name e ∷ [])) in
         ap (λ (n : ℕ). sets (sets (stage l) (linksAt + linkSize * l + 2) (le16 (stateOf s w))) (linksAt + linkSize * l + 6) (le16 n)) size
         ∙ ap (λ (a : List ℕ). sets a (linksAt + linkSize * l + 6) (le16 (length w + 1)))
         (parent-put s fit (heads (allLabels s)) ks ms f (sized ks (counts l)) rest l (stateOf s w) b
@@ -290,7 +290,7 @@ module _ (s : FolderSet) (fit : Fitting s) (ls : List Link) (ms : List ℕ) (f :
         goneSize = r .goneSize;
         until = omega (arith, r .until);
         seen = earlier l (omega arith) e;
-        full = r .full;
+        overCapacity = r .overCapacity;
       }))
   after i l begun left w a star p ps r k = k l [] (record {
     front = r .front ++ (step a star ∷ []);
@@ -304,7 +304,7 @@ module _ (s : FolderSet) (fit : Fitting s) (ls : List Link) (ms : List ℕ) (f :
     goneSize = r .goneSize;
     until = omega (arith, r .until);
     seen = nothing refl;
-    full = r .full;
+    overCapacity = r .overCapacity;
   })
 
   Claim : Path → List Path → Type 0
@@ -331,7 +331,7 @@ module _ (s : FolderSet) (fit : Fitting s) (ls : List Link) (ms : List ℕ) (f :
   outside [] i l begun w h =
       let e : l ≡ length (allLabels s) = omega (arith, words-count s, ap length (h .words), length-append {A = Word} (h .done) [], h .doneSize) in
       ap stage e
-  outside ([] ∷ ps) i l begun w h = clash (h .full) refl
+  outside ([] ∷ ps) i l begun w h = clash (h .overCapacity) refl
   outside ((step child t ∷ p) ∷ ps) i l begun w h =
       next-step (length (p ++ stepsOf ps)) i (at l begun w) (stage l) true
       (step-here l i (h .front) (step child t) (p ++ stepsOf ps) (h .steps) (h .frontSize))
@@ -352,7 +352,7 @@ module _ (s : FolderSet) (fit : Fitting s) (ls : List Link) (ms : List ℕ) (f :
       → parented (stepCount (assembled s (heads (allLabels s)) ls ms f ++ rest)) 0 outset (assembled s (heads (allLabels s)) ls ms f ++ rest)
       ≡ assembled s (heads (allLabels s)) (placed s (allWords s) ls) ms f ++ rest
   unfolding stage at Claim stateIn labelWords stepsOf
-  parented-is full =
+  parented-is overCapacity =
       let all : parented (length (allSteps s)) 0 outset (stage 0) ≡ stage (length (allLabels s)) = outside (pathsOf s) 0 0 0 [] (record {
         front = [];
         steps = refl;
@@ -365,7 +365,7 @@ module _ (s : FolderSet) (fit : Fitting s) (ls : List Link) (ms : List ℕ) (f :
         goneSize = refl;
         until = refl;
         seen = nothing refl;
-        full = full;
+        overCapacity = overCapacity;
       }) in
       ap (λ (n : ℕ). parented n 0 outset (stage 0)) (step-count s fit (heads (allLabels s)) ls ms f rest)
       ∙ all

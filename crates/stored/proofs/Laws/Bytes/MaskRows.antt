@@ -56,17 +56,17 @@ place-same m m' i i' h h' = same-test (eqb (place m i) (place m' i')) (eqb m m' 
     back t = let b = both (eqb m m') (eqb i i') t in eq-eqb (place m i) (place m' i') (omega (arith, eqb-true m m' (b .0), eqb-true i i' (b .1)))
 
 -- bit j set if `on`
-abbrev pub marks : Bool → ℕ → (ℕ → Bool) → ℕ → Bool
-marks on j b k = (on && eqb k j) || b k
+abbrev pub flags : Bool → ℕ → (ℕ → Bool) → ℕ → Bool
+flags on j b k = (on && eqb k j) || b k
 
 -- the bits of step i
-abbrev pub markBits : ℕ → Role → (ℕ → Bool) → ℕ → Bool
-markBits i (role st first last) b = marks last (place 5 i) (marks true (place (axisMask first (isDescendant (axisOf st))) i) (marks (isStar (testOf st)) (place 0 i) b))
+abbrev pub flagBits : ℕ → Role → (ℕ → Bool) → ℕ → Bool
+flagBits i (role st first last) b = flags last (place 5 i) (flags true (place (axisMask first (isDescendant (axisOf st))) i) (flags (isStar (testOf st)) (place 0 i) b))
 
 -- and of all steps from i on
 unfoldable pub roleBits : ℕ → List Role → (ℕ → Bool) → ℕ → Bool
 roleBits i [] b = b
-roleBits i (r ∷ rs) b = roleBits (suc i) rs (markBits i r b)
+roleBits i (r ∷ rs) b = roleBits (suc i) rs (flagBits i r b)
 
 and-no : (a : Bool) → (a && false) ≡ false
 and-no true = refl
@@ -150,7 +150,7 @@ one-deep m h t first last x b =
     three (eqb m 5) (eqb m (axisMask first true)) (eqb m 0) last (isStar t) x b ∙ ap (λ (y : Bool). b || (x && y)) (sym (deep-mask m h t first last))
 
 module _ (m : ℕ) (small : m < 6) (j : ℕ) (hj : j < 8 * maskSize) where
-  role-bit : (i : ℕ) → i < 8 * maskSize → (r : Role) (b : ℕ → Bool) → markBits i r b (place m j) ≡ (b (place m j) || (eqb j i && maskTest m r))
+  role-bit : (i : ℕ) → i < 8 * maskSize → (r : Role) (b : ℕ → Bool) → flagBits i r b (place m j) ≡ (b (place m j) || (eqb j i && maskTest m r))
   role-bit i hi (role (step child t) first last) b =
       rw (place-same m 5 j i hj hi, place-same m (axisMask first false) j i hj hi, place-same m 0 j i hj hi)
       (one-step m small t first last (eqb j i) (b (place m j)))
@@ -163,7 +163,7 @@ module _ (m : ℕ) (small : m < 6) (j : ℕ) (hj : j < 8 * maskSize) where
   unfolding roleBits roleAt
   roles-bit [] i b h = or-none (leb i j) (b (place m j))
   roles-bit (r ∷ rs) i b h =
-      roles-bit rs (suc i) (markBits i r b) (omega arith)
+      roles-bit rs (suc i) (flagBits i r b) (omega arith)
       ∙ ap (λ (x : Bool). x || (leb (suc i) j && roleAt (maskTest m) rs (j - suc i))) (role-bit i (omega arith) r b)
       ∙ cases (leb i j) (λ t. cases (eqb j i) (here t) (later t)) before
     where

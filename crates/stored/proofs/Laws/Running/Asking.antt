@@ -15,7 +15,7 @@ use Rattle.notation.specs.Sets.{Path, FolderSet, folderPaths}
 use Rattle.notation.specs.Form.{pathsOf}
 use Rattle.text.specs.Lists.{any}
 use Rattle.notation.specs.Print.{print}
-use Rattle.text.specs.Refusals.{numberOf, noSuchPlace}
+use Rattle.text.specs.Refusals.{numberOf, notFound}
 use Rattle.text.specs.Answers.{Answer, refused, value, said}
 use Rattle.notation.specs.Activity.{active}
 use Rattle.notation.specs.Reads.{pathAt, folderOf, folderIndex}
@@ -48,7 +48,7 @@ use Rattle.stored.proofs.Laws.Running.FolderPlaces.{hasNumber, Placed, 
 
 -- the answer where it is there, else 13
 abbrev pub asked : Bool → Bool → Answer Bool
-asked there b = cond there (value b) (refused (numberOf noSuchPlace))
+asked there b = cond there (value b) (refused (numberOf notFound))
 
 any-same : (f g : ℕ → Bool) (first n : ℕ) → ((i : ℕ) → first ≤ i → i < first + n → f i ≡ g i) → any f (countFrom first n) ≡ any g (countFrom first n)
 unfolding any countFrom
@@ -81,7 +81,7 @@ module _ (s : FolderSet) (a : List ℕ) (m : Means s a) (st : State) (few : Few 
   run = runOf s st ++ rest
 
   -- only 13 is left
-  ask-refused : (there : Bool) → askRefusal a run there ≡ cond there 0 (numberOf noSuchPlace)
+  ask-refused : (there : Bool) → askRefusal a run there ≡ cond there 0 (numberOf notFound)
   unfolding askRefusal given first
   ask-refused true = rw (long-enough s a m st few rest, m .shaped, run-shaped s a m st few rest)
   ask-refused false = rw (long-enough s a m st few rest, m .shaped, run-shaped s a m st few rest)
@@ -109,9 +109,9 @@ module _ (s : FolderSet) (a : List ℕ) (m : Means s a) (st : State) (few : Few 
   place-matched i h =
       let p = getD ps i [] in
       let k = pred (length p) in
-      let e : stepsBefore ps i + length p - 1 ≡ stepsBefore ps i + k = omega (arith, m .full i h) in
-      let w : k < length p = omega (arith, m .full i h) in
-      let l : suc k ≡ length p = omega (arith, m .full i h) in
+      let e : stepsBefore ps i + length p - 1 ≡ stepsBefore ps i + k = omega (arith, m .overCapacity i h) in
+      let w : k < length p = omega (arith, m .overCapacity i h) in
+      let l : suc k ≡ length p = omega (arith, m .overCapacity i h) in
       rw (path-there i h .answer)
       (ap (matchedAt run) e ∙ matched-read s names (st .matched) (names-deep s st g) (names-short s st g) rest (stepsBefore ps i + k) (steps-room i k h w)
       ∙ rw (match-at (st .matched) ps 0 i k h w, eq-eqb (suc k) (length p) l, zero-add i))
@@ -181,7 +181,7 @@ module _ (s : FolderSet) (a : List ℕ) (m : Means s a) (st : State) (few : Few 
   ask-prefix = ap₂ (λ (r n : ℕ). said r n) (ask-refused true) prefix-size
 
   -- the open name at a depth
-  pub ask-name-refused : (d : ℕ) → nameRefusal a run d ≡ cond (within 1 (length names) d) 0 (numberOf noSuchPlace)
+  pub ask-name-refused : (d : ℕ) → nameRefusal a run d ≡ cond (within 1 (length names) d) 0 (numberOf notFound)
   unfolding nameRefusal
   ask-name-refused d = rw (stored-depth s a m st few rest, ← names-length s st g) (ask-refused (within 1 (length names) d))
 

@@ -39,8 +39,8 @@ use Rattle.text.proofs.Laws.Tests.{cases, clash, both-true}
 use Rattle.text.proofs.Laws.Lists.{any-is, is-any}
 use Rattle.theory.proofs.Laws.Machine.Matches.{run-matched, run-matched-there}
 use Rattle.theory.proofs.Laws.Machine.Moves.{Few}
-use Rattle.theory.proofs.Laws.Machine.History.{run-names-told}
-use Rattle.theory.proofs.Laws.Machine.MovesTold.{open-moves}
+use Rattle.theory.proofs.Laws.Machine.History.{run-names-counted}
+use Rattle.theory.proofs.Laws.Machine.MovesCounted.{open-moves}
 use Rattle.theory.proofs.Laws.Machine.Whole.{whole}
 use Rattle.theory.proofs.Laws.Machine.Folders.{folder-matched}
 use Rattle.stored.proofs.Laws.Building.Built.{built-is}
@@ -92,8 +92,8 @@ module _ (s : FolderSet) (a : List ℕ) (m : Means s a) (rest : List ℕ) (calls
   abbrev held : List Name
   held = stillOpen s calls
 
-  told : openNames st ≡ held
-  told = whole s calls .names
+  counted : openNames st ≡ held
+  counted = whole s calls .names
 
   pub path-answers : (place : PathPlace) → Answers (place .0 < length (pathsOf s)) (FittedAfterOpen s calls (place .0)) (askPath a bytes place)
   path-answers place =
@@ -149,12 +149,12 @@ module _ (s : FolderSet) (a : List ℕ) (m : Means s a) (rest : List ℕ) (calls
 
   pub name-answers : (d : ℕ) → 1 ≤ d → d ≤ length held → (askName a bytes d ≡ nameAt held d) × (nameRefusal a bytes d ≡ 0)
   name-answers d lo hi =
-      let w : within 1 (length (openNames st)) d ≡ true = within-in d (length (openNames st)) lo (omega (arith, ap length told)) in
-      (ask-name s a m st few rest d ∙ rw w (ap (λ (l : List Name). nameAt l d) told), ask-name-refused s a m st few rest d ∙ rw w)
+      let w : within 1 (length (openNames st)) d ≡ true = within-in d (length (openNames st)) lo (omega (arith, ap length counted)) in
+      (ask-name s a m st few rest d ∙ rw w (ap (λ (l : List Name). nameAt l d) counted), ask-name-refused s a m st few rest d ∙ rw w)
 
   pub no-name-answers : (d : ℕ) → ((1 ≤ d) × (d ≤ length held) → ⊥) → (askName a bytes d ≡ []) × (nameRefusal a bytes d ≡ 13)
   no-name-answers d h =
-      let w : within 1 (length (openNames st)) d ≡ false = within-not d (length (openNames st)) (λ p. h (p .0, omega (arith, ap length told, p .1))) in
+      let w : within 1 (length (openNames st)) d ≡ false = within-not d (length (openNames st)) (λ p. h (p .0, omega (arith, ap length counted, p .1))) in
       (ask-name s a m st few rest d ∙ rw w, ask-name-refused s a m st few rest d ∙ rw w)
 
   pub prefix-answers : PrefixAnswered s held (askPrefix a bytes)
@@ -195,7 +195,7 @@ module _ (s : FolderSet) (a : List ℕ) (m : Means s a) (buffer : List ℕ) wher
       o .answers
       ∙ ap (λ (x : Left). said (openRefusal a (x .bytes) (x .counters) e) (openWalk a (x .bytes) e .moves)) (left-by s a m buffer c)
       ∙ rw (open-refused s a m st few rest asLeft e, opened-moves s a m rest st few e) in
-      subst (OpenAnswered s (callsOf before) e) (sym is) (open-answer s (callsOf before) e (refusal st (openCall asLeft e)) k refl (open-moves s (stillOpen s (callsOf before)) (st .current) e (few .0 .prefix ∙ ap (prefixOf s) (run-names-told s (callsOf before)))))
+      subst (OpenAnswered s (callsOf before) e) (sym is) (open-answer s (callsOf before) e (refusal st (openCall asLeft e)) k refl (open-moves s (stillOpen s (callsOf before)) (st .current) e (few .0 .prefix ∙ ap (prefixOf s) (run-names-counted s (callsOf before)))))
 
   close-answers : (before : List Made) (u v : Left) (e : Name) (answer : ℕ) → Calls a (started a buffer) before u → Closes a (u .bytes) (u .counters) e answer (v .bytes) (v .counters)
       → answer ≡ numberIn (refusal (run s (callsOf before)) (closeCall asLeft e))
@@ -234,10 +234,10 @@ module _ (s : FolderSet) (a : List ℕ) (m : Means s a) (buffer : List ℕ) wher
         balance = rw e (w .balance ∙ ap (λ (l : List Name). run s calls .closes + length l) (w .names));
         opens = rw e refl;
         closes = rw e refl;
-        opensTold = rw e (w .opens);
-        closesTold = rw e (w .closes);
+        opensCounted = rw e (w .opens);
+        closesCounted = rw e (w .closes);
         moves = rw e refl;
-        movesTold = rw e (w .movesTold);
+        movesCounted = rw e (w .movesCounted);
         movesMost = rw e (w .moves);
         passes = rw e (all-shaped s a m (run s calls) (few-run s calls) rest);
       }

@@ -22,7 +22,7 @@ use Rattle.stored.proofs.Laws.Running.FullPaths.{full-paths}
 pub record Means (s : FolderSet) (a : List ℕ) : Type 0 where
   pub fit : Fitting s
   -- no path is empty, and the folders' numbers rise
-  pub full : (i : ℕ) → i < length (pathsOf s) → 1 ≤ length (getD (pathsOf s) i [])
+  pub overCapacity : (i : ℕ) → i < length (pathsOf s) → 1 ≤ length (getD (pathsOf s) i [])
   pub rising : numbersFall s ≡ false
   -- the set's bytes stand first
   pub more : List ℕ
@@ -38,7 +38,7 @@ means text s acc rest =
     let first = after-set s fit (heads (allLabels s)) (links s) (masks s) (startState s) rest in
     record {
       fit = fit;
-      full = full-paths s (acc .well);
+      overCapacity = full-paths s (acc .well);
       rising = acc .rising;
       more = first .0;
       stored = first .1;

@@ -10,14 +10,14 @@ use lib.Seq.{sets, set-append-left}
 use borrow.Author.Tests.{le-ltb, ltb-false, not-false, leb-false}
 use Rattle.text.specs.Names.{Name, nameForm, tooLong, maxName, sameName}
 use Rattle.text.specs.Bytes.{le16}
-use Rattle.text.specs.Refusals.{shortBuffer, longName, full, torn, looseEnd, tooDeep, crossed, noSuchPlace, strangeShape}
+use Rattle.text.specs.Refusals.{shortBuffer, nameTooLong, overCapacity, syntaxError, notOneRoot, tooDeep, mismatchedClose, notFound, badShape}
 use Rattle.theory.specs.Limits.{maxDepth, maxOpens}
 use Rattle.text.specs.Order.{gives, given, first}
 use Rattle.stored.specs.Automaton.{automatonSize}
 use Rattle.stored.specs.Tables.{startOf}
 use Rattle.stored.specs.Shape.{automatonShaped}
 use Rattle.stored.specs.Run.{rowAt, rowsAt, rowSize, runSize, stateIn}
-use Rattle.stored.specs.RunCalls.{depthOf, storedName, runShaped, countersShaped, shaped, tooShort, lentConditions, nameConditions, openOthers, closeOthers, rootShut, startRefusal, openRefusal, closeRefusal, startRun}
+use Rattle.stored.specs.RunCalls.{depthOf, storedName, runShaped, countersShaped, shaped, tooShort, lentConditions, nameConditions, openOthers, closeOthers, rootClosed, startRefusal, openRefusal, closeRefusal, startRun}
 use Rattle.stored.specs.Asking.{askRefusal}
 use Rattle.stored.specs.Openable.{Ready, Usable}
 use Rattle.stored.specs.declared.counters.Counters.{Counters}
@@ -36,7 +36,7 @@ pub may-start : (a run : List ℕ) → startRefusal a run ≡ 0 → MayStart a r
 unfolding startRefusal
 may-start a run h =
     let s = not-given (tooShort a run) shortBuffer _ h in
-    let t = not-given (not (automatonShaped a)) strangeShape _ (s .1) in
+    let t = not-given (not (automatonShaped a)) badShape _ (s .1) in
     let l = long-enough a run (s .0) in
     record { size = l .0; runLength = l .1; shaped = not-false _ (t .0) }
 
@@ -51,12 +51,12 @@ pub may-open : (a run : List ℕ) (c : Counters) (e : Name) → openRefusal a ru
 unfolding openRefusal shaped
 may-open a run c e h =
     let s = not-given (tooShort a run) shortBuffer _ h in
-    let t = not-given (not (shaped a run c)) strangeShape _ (s .1) in
-    let u = not-given (not (nameForm e)) torn _ (t .1) in
-    let v = not-given (tooLong e) longName _ (u .1) in
-    let w = not-given (rootShut run c) looseEnd _ (v .1) in
+    let t = not-given (not (shaped a run c)) badShape _ (s .1) in
+    let u = not-given (not (nameForm e)) syntaxError _ (t .1) in
+    let v = not-given (tooLong e) nameTooLong _ (u .1) in
+    let w = not-given (rootClosed run c) notOneRoot _ (v .1) in
     let x = not-given (leb maxDepth (depthOf run)) tooDeep _ (w .1) in
-    let y = not-given (leb maxOpens (c .opens)) full _ (x .1) in
+    let y = not-given (leb maxOpens (c .opens)) overCapacity _ (x .1) in
     let l = long-enough a run (s .0) in
     let f = both (automatonShaped a) (runShaped a run && countersShaped run c) (not-false _ (t .0)) in
     let g = both (runShaped a run) (countersShaped run c) (f .1) in
@@ -78,10 +78,10 @@ pub may-close : (a run : List ℕ) (c : Counters) (e : Name) → closeRefusal a 
 unfolding closeRefusal shaped
 may-close a run c e h =
     let s = not-given (tooShort a run) shortBuffer _ h in
-    let t = not-given (not (shaped a run c)) strangeShape _ (s .1) in
-    let u = not-given (not (nameForm e)) torn _ (t .1) in
-    let v = not-given (tooLong e) longName _ (u .1) in
-    let w = not-given (eqb (depthOf run) 0) looseEnd _ (v .1) in
+    let t = not-given (not (shaped a run c)) badShape _ (s .1) in
+    let u = not-given (not (nameForm e)) syntaxError _ (t .1) in
+    let v = not-given (tooLong e) nameTooLong _ (u .1) in
+    let w = not-given (eqb (depthOf run) 0) notOneRoot _ (v .1) in
     let l = long-enough a run (s .0) in
     let f = both (automatonShaped a) (runShaped a run && countersShaped run c) (not-false _ (t .0)) in
     let g = both (runShaped a run) (countersShaped run c) (f .1) in
@@ -91,8 +91,8 @@ pub may-ask : (a run : List ℕ) (there : Bool) → askRefusal a run there ≡ 0
 unfolding askRefusal
 may-ask a run there h =
     let s = not-given (tooShort a run) shortBuffer _ h in
-    let t = not-given (not (automatonShaped a && runShaped a run)) strangeShape _ (s .1) in
-    let u = not-given (not there) noSuchPlace _ (t .1) in
+    let t = not-given (not (automatonShaped a && runShaped a run)) badShape _ (s .1) in
+    let u = not-given (not there) notFound _ (t .1) in
     let l = long-enough a run (s .0) in
     let f = both (automatonShaped a) (runShaped a run) (not-false _ (t .0)) in
     (record { size = l .0; shaped = f .0; runLength = l .1; runIsShaped = f .1 }, not-false _ (u .0))
@@ -102,7 +102,7 @@ pub lent-usable : (a run : List ℕ) (c : Counters) → given (lentConditions a 
 unfolding shaped
 lent-usable a run c h =
     let s = not-given (tooShort a run) shortBuffer _ h in
-    let t = not-given (not (shaped a run c)) strangeShape _ (s .1) in
+    let t = not-given (not (shaped a run c)) badShape _ (s .1) in
     let l = long-enough a run (s .0) in
     let f = both (automatonShaped a) (runShaped a run && countersShaped run c) (not-false _ (t .0)) in
     let g = both (runShaped a run) (countersShaped run c) (f .1) in
@@ -142,7 +142,7 @@ module _ (run : List ℕ) (c : Counters) (e : Name) where
   open-name n = given-first (nameConditions e) _ n
 
   pub open-named : given (nameConditions e) ≡ 0
-      → given (openOthers run c e) ≡ given (gives (rootShut run c) looseEnd ∷ gives (leb maxDepth (depthOf run)) tooDeep ∷ gives (leb maxOpens (c .opens)) full ∷ [])
+      → given (openOthers run c e) ≡ given (gives (rootClosed run c) notOneRoot ∷ gives (leb maxDepth (depthOf run)) tooDeep ∷ gives (leb maxOpens (c .opens)) overCapacity ∷ [])
   open-named z = given-then (nameConditions e) _ z
 
 module _ (run : List ℕ) (e : Name) where
@@ -150,7 +150,7 @@ module _ (run : List ℕ) (e : Name) where
   close-name n = given-first (nameConditions e) _ n
 
   pub close-named : given (nameConditions e) ≡ 0
-      → given (closeOthers run e) ≡ given (gives (eqb (depthOf run) 0) looseEnd ∷ gives (not (sameName (storedName run (depthOf run)) e)) crossed ∷ [])
+      → given (closeOthers run e) ≡ given (gives (eqb (depthOf run) 0) notOneRoot ∷ gives (not (sameName (storedName run (depthOf run)) e)) mismatchedClose ∷ [])
   close-named z = given-then (nameConditions e) _ z
 
 -- a fresh run

@@ -11,7 +11,7 @@ use lib.Seq.{getD-at}
 use Rattle.text.specs.Names.{maxName, Name, nameForm, tooLong, sameName}
 use Rattle.notation.specs.Sets.{FolderSet}
 use Rattle.text.specs.Lists.{nonEmpty}
-use Rattle.text.specs.Refusals.{torn, longName, looseEnd, crossed}
+use Rattle.text.specs.Refusals.{syntaxError, nameTooLong, notOneRoot, mismatchedClose}
 use Rattle.notation.specs.Reads.{labelCount}
 use Rattle.theory.specs.Limits.{maxDepth, maxOpens}
 use Rattle.theory.specs.Prefix.{prefixOf}
@@ -19,7 +19,7 @@ use Rattle.text.specs.Order.{Condition, gives, first, numberIn, given}
 use Rattle.theory.specs.Calls.{Lent, openCall, closeCall, Level, level, nameOf, State, namesOf, openNames, depth, isInnermost, refusal}
 use Rattle.stored.specs.Automaton.{automatonSize, stateOf, allLabels}
 use Rattle.stored.specs.Run.{runSize, runOf}
-use Rattle.stored.specs.RunCalls.{depthOf, storedName, rowShaped, runShaped, countersShaped, shaped, tooShort, rootShut, openRefusal, closeRefusal}
+use Rattle.stored.specs.RunCalls.{depthOf, storedName, rowShaped, runShaped, countersShaped, shaped, tooShort, rootClosed, openRefusal, closeRefusal}
 use Rattle.stored.specs.declared.counters.Counters.{Counters}
 use Rattle.text.proofs.Laws.Tests.{both-true}
 use Rattle.theory.proofs.Laws.Keywords.Prefix.{current-prefix}
@@ -45,7 +45,7 @@ module _ (s : FolderSet) (st : State) (g : Sound s st) where
   names-short n k = omega (arith, leb-false (suc maxName) (length n) (sound-names s st g n k .1))
 
 -- with nothing open, what comes after 10 is not asked
-nothing-left : (x y : Bool) (later other : List Condition) → given (gives x torn ∷ gives y longName ∷ gives true looseEnd ∷ later) ≡ given (gives x torn ∷ gives y longName ∷ gives true looseEnd ∷ other)
+nothing-left : (x y : Bool) (later other : List Condition) → given (gives x syntaxError ∷ gives y nameTooLong ∷ gives true notOneRoot ∷ later) ≡ given (gives x syntaxError ∷ gives y nameTooLong ∷ gives true notOneRoot ∷ other)
 unfolding given first
 nothing-left true y later other = refl
 nothing-left false true later other = refl
@@ -57,8 +57,8 @@ last-name n outer =
     ap (λ (l : List Name). getD l (length outer) []) (reverse-cons n outer) ∙ getD-at (reverse outer) n [] [] (length outer) (length-reverse outer)
 
 close-order-given : (levels : List Level) (stored e : Name) (x y : Bool) → stored ≡ getD ([] ∷ namesOf levels) (length levels) []
-    → given (gives x torn ∷ gives y longName ∷ gives (eqb (length levels) 0) looseEnd ∷ gives (not (sameName stored e)) crossed ∷ [])
-    ≡ given (gives x torn ∷ gives y longName ∷ gives (not (nonEmpty levels)) looseEnd ∷ gives (not (isInnermost levels e)) crossed ∷ [])
+    → given (gives x syntaxError ∷ gives y nameTooLong ∷ gives (eqb (length levels) 0) notOneRoot ∷ gives (not (sameName stored e)) mismatchedClose ∷ [])
+    ≡ given (gives x syntaxError ∷ gives y nameTooLong ∷ gives (not (nonEmpty levels)) notOneRoot ∷ gives (not (isInnermost levels e)) mismatchedClose ∷ [])
 close-order-given [] stored e x y h = nothing-left x y _ _
 close-order-given (level n w ∷ outer) stored e x y h =
     let last : stored ≡ n = h ∙ ap (λ (k : ℕ). getD ([] ∷ namesOf (level n w ∷ outer)) (suc k) []) (sym (length-map outer nameOf)) ∙ last-name n (map nameOf outer) in
@@ -112,7 +112,7 @@ module _ (s : FolderSet) (a : List ℕ) (m : Means s a) (st : State) (few : Few 
         le-ltb (length run) runSize (omega (arith, length-append (runOf s st) rest, run-length s names (st .matched) (names-deep s st g) (names-short s st g))),
       )
 
-  root-same : rootShut run (countersOf st) ≡ st .rootClosed
+  root-same : rootClosed run (countersOf st) ≡ st .rootClosed
   root-same = rw (stored-depth, g .root, some-opens (st .opens)) (ap (λ (b : Bool). ltb 0 (st .opens) && b) (none-open (st .levels)))
     where
       some-opens : (n : ℕ) → not (eqb n 0) ≡ ltb 0 n

@@ -7,7 +7,7 @@ use native.Mathlib.Omega.{arith}
 use lib.Dec.{leb, ltb, eqb}
 use borrow.Author.Tests.{lt-leb, ltb-true, ltb-false, ne-eqb}
 use Rattle.text.specs.Names.{within, letter, digit, beginsName, inName}
-use Rattle.text.specs.Classes.{Range, range, lookUp, ranges, classOf, startClass, digitClass, dotClass, foreignClass}
+use Rattle.text.specs.Classes.{Range, range, lookUp, ranges, classOf, startClass, digitClass, dotClass, invalidClass}
 use Rattle.text.proofs.Laws.Tests.{cases, and-left, and-right}
 use Rattle.text.proofs.Laws.Bytes.Table.{values, same-entries}
 
@@ -19,7 +19,7 @@ under n (range low high class ∷ rs) = ltb high n && under n rs
 within-past : (low high b : ℕ) → high < b → within low high b ≡ false
 within-past low high b h = rw (lt-leb b high) (and-false (leb low b))
 
-lookUp-past : (n b : ℕ) → n ≤ b → (rs : List Range) → under n rs ≡ true → lookUp rs b ≡ foreignClass
+lookUp-past : (n b : ℕ) → n ≤ b → (rs : List Range) → under n rs ≡ true → lookUp rs b ≡ invalidClass
 unfolding under lookUp
 lookUp-past n b h [] e = refl
 lookUp-past n b h (range low high class ∷ rs) e =
@@ -27,7 +27,7 @@ lookUp-past n b h (range low high class ∷ rs) e =
     rw (within-past low high b) (lookUp-past n b h rs (and-right (ltb high n) (under n rs) e))
 
 -- a number of 128 and more is of no range
-pub class-past : (b : ℕ) → 128 ≤ b → classOf b ≡ foreignClass
+pub class-past : (b : ℕ) → 128 ≤ b → classOf b ≡ invalidClass
 unfolding classOf under ranges
 class-past b h = lookUp-past 128 b h ranges refl
 
@@ -36,7 +36,7 @@ by-class :
     (plain test : ℕ → Bool)
     → values plain 0 128 ≡ values (λ b. test (classOf b)) 0 128
     → ((b : ℕ) → 128 ≤ b → plain b ≡ false)
-    → test foreignClass ≡ false
+    → test invalidClass ≡ false
     → (b : ℕ) → plain b ≡ test (classOf b)
 by-class plain test e past foreign b =
     cases (ltb b 128)

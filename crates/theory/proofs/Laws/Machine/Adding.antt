@@ -9,7 +9,7 @@ use lib.Dec.{leb}
 use borrow.Author.Tests.{leb-false}
 use Rattle.notation.specs.Sets.{Path, Folder, folder, FolderSet, folderNumber, folderPaths}
 use Rattle.notation.specs.Form.{pathsFaults, faultsAfter, faults}
-use Rattle.text.specs.Refusals.{Refusal, outOfTurn}
+use Rattle.text.specs.Refusals.{Refusal, outOfOrder}
 use Rattle.notation.specs.Fit.{Fits}
 use Rattle.theory.specs.Calls.{asLeft, Call, openCall, openNames, pathAt, run}
 use Rattle.theory.specs.Folders.{placesOf, folderMatched, HasFolders}
@@ -55,7 +55,7 @@ above : (fs : FolderSet) (last : ℕ) → faultsAfter last fs ≡ [] → (f : Fo
 unfolding faultsAfter
 above [] last h f m = absurd (List·Memᴰ·not-nil m)
 above (folder n ps ∷ fs) last h f m =
-    let a = no-faults (leb n last) outOfTurn (pathsFaults ps ++ faultsAfter n fs) h in
+    let a = no-faults (leb n last) outOfOrder (pathsFaults ps ++ faultsAfter n fs) h in
     let l : last < n = leb-false n last (a .0) in
     go l (above fs n (append-none (pathsFaults ps) (faultsAfter n fs) (a .1)) f) (List·Memᴰ·cases-cons m)
   where
@@ -67,7 +67,7 @@ different : (fs : FolderSet) (last : ℕ) → faultsAfter last fs ≡ [] → (f 
 unfolding faultsAfter
 different [] last h f g m k e = absurd (List·Memᴰ·not-nil m)
 different (folder n ps ∷ fs) last h f g m k e =
-    let a = no-faults (leb n last) outOfTurn (pathsFaults ps ++ faultsAfter n fs) h in
+    let a = no-faults (leb n last) outOfOrder (pathsFaults ps ++ faultsAfter n fs) h in
     let r = append-none (pathsFaults ps) (faultsAfter n fs) (a .1) in
     go (above fs n r) (different fs n r f g) (List·Memᴰ·cases-cons m) (List·Memᴰ·cases-cons k)
   where

@@ -19,18 +19,18 @@ use Rattle.theory.specs.History.{stillOpen, opensOf, SameAnswers}
 use Rattle.theory.proofs.Laws.Keywords.Prefix.{current-prefix}
 use Rattle.theory.proofs.Laws.Machine.Calls.{Openable, accepted-open}
 use Rattle.theory.proofs.Laws.Machine.Sound.{run-prefix, run-depth, run-names}
-use Rattle.theory.proofs.Laws.Machine.History.{run-names-told}
+use Rattle.theory.proofs.Laws.Machine.History.{run-names-counted}
 use Rattle.theory.proofs.Laws.Machine.Steps.{step-accepted, names-opened}
 
 -- the current prefix is the one that paper 01 defines for the names opened and not yet closed
 pub run-current-prefix : (set : FolderSet) (calls : List Call) → CurrentPrefix set (stillOpen set calls) (run set calls .current)
 run-current-prefix set calls =
-    rw (run-prefix set calls) (subst (λ (names : List Name). CurrentPrefix set names (prefixOf set (openNames (run set calls)))) (run-names-told set calls) (current-prefix set (openNames (run set calls))))
+    rw (run-prefix set calls) (subst (λ (names : List Name). CurrentPrefix set names (prefixOf set (openNames (run set calls)))) (run-names-counted set calls) (current-prefix set (openNames (run set calls))))
 
 -- and so are the active steps
 pub run-active : (set : FolderSet) (calls : List Call) (place k : ℕ) → (activeStep set (run set calls) place k ≡ true) ↔ Active (pathAt set place) k (stillOpen set calls)
 run-active set calls place k =
-    let e = ap (λ (names : List Name). active (pathAt set place) k names) (run-names-told set calls) in
+    let e = ap (λ (names : List Name). active (pathAt set place) k names) (run-names-counted set calls) in
     (λ h. active-is (pathAt set place) k (stillOpen set calls) .1 (sym e ∙ h), λ a. e ∙ active-is (pathAt set place) k (stillOpen set calls) .0 a)
 
 after-open : (set : FolderSet) (s : State) (n : Name) (calls : List Call) → Openable s n → after set s (openCall asLeft n ∷ calls) ≡ after set (opened set s n) calls

@@ -14,7 +14,7 @@ use Rattle.theory.specs.History.{acceptedCalls, opensIn}
 use Rattle.theory.specs.Elements.{Element, element, Elements, elements, withChild, opening, closing, elementsOf, openElements, closedElements, sumDepths, childlessDepths}
 use Rattle.theory.proofs.Laws.Keywords.Walk.{walk-moves}
 use Rattle.theory.proofs.Laws.Machine.Calls.{Openable, Closable, always}
-use Rattle.theory.proofs.Laws.Machine.History.{run-opens-told}
+use Rattle.theory.proofs.Laws.Machine.History.{run-opens-counted}
 use Rattle.theory.proofs.Laws.Machine.Sound.{Sound, fresh-sound, open-sound, close-sound, current-length}
 
 -- `Paid gone moves prefix inner`: of the open elements only the innermost can be childless. While it is, the moves and the prefix, bar
@@ -115,4 +115,4 @@ counted-opens (closeCall l n ∷ h) = go (elementsOf h) (counted-opens h)
     go (elements (x ∷ inner) gone) e = omega arith
 
 pub run-elements : (set : FolderSet) (calls : List Call) → let es = elementsOf (acceptedCalls set calls) in length (openElements es) + length (closedElements es) ≡ run set calls .opens
-run-elements set calls = counted-opens (acceptedCalls set calls) ∙ sym (run-opens-told set calls)
+run-elements set calls = counted-opens (acceptedCalls set calls) ∙ sym (run-opens-counted set calls)

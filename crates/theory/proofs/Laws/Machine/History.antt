@@ -9,7 +9,7 @@ use Rattle.theory.specs.Calls.{asLeft, Call, openCall, closeCall, Level,
 use Rattle.theory.specs.History.{acceptedCalls, opensIn, closesIn, unclosed, stillOpen}
 use Rattle.theory.proofs.Laws.Machine.Calls.{Closable, always}
 
-pub record Told (s : State) (h : List Call) : Type 0 where
+pub record Counted (s : State) (h : List Call) : Type 0 where
   pub opens : s .opens ≡ opensIn h
   pub closes : s .closes ≡ closesIn h
   pub names : (taken : ℕ) → unclosed taken h ≡ drop taken (map nameOf (s .levels))
@@ -18,36 +18,36 @@ drop-none : (taken : ℕ) → _≡_ {A = List Name} [] (drop taken [])
 drop-none zero = refl
 drop-none (suc k) = refl
 
-pub fresh-told : (set : FolderSet) → Told (fresh set) []
+pub fresh-counted : (set : FolderSet) → Counted (fresh set) []
 unfolding fresh opensIn closesIn unclosed
-fresh-told set = record { opens = refl; closes = refl; names = drop-none }
+fresh-counted set = record { opens = refl; closes = refl; names = drop-none }
 
-pub open-told : (set : FolderSet) (s : State) (h : List Call) (e : Name) → Told s h → Told (opened set s e) (openCall asLeft e ∷ h)
+pub open-counted : (set : FolderSet) (s : State) (h : List Call) (e : Name) → Counted s h → Counted (opened set s e) (openCall asLeft e ∷ h)
 unfolding opened opensIn closesIn unclosed
-open-told set s h e t = record { opens = ap suc (t .opens); closes = t .closes; names = more (t .names) }
+open-counted set s h e t = record { opens = ap suc (t .opens); closes = t .closes; names = more (t .names) }
   where
     more : ((taken : ℕ) → unclosed taken h ≡ drop taken (map nameOf (s .levels))) → (taken : ℕ) → unclosed taken (openCall asLeft e ∷ h) ≡ drop taken (e ∷ map nameOf (s .levels))
     more f zero = ap (λ (l : List Name). e ∷ l) (f zero)
     more f (suc k) = f k
 
-pub close-told : (s : State) (h : List Call) (e : Name) (c : Closable s e) → Told s h → Told (closedFrom (level e (c .before) ∷ c .outer) s) (closeCall asLeft e ∷ h)
+pub close-counted : (s : State) (h : List Call) (e : Name) (c : Closable s e) → Counted s h → Counted (closedFrom (level e (c .before) ∷ c .outer) s) (closeCall asLeft e ∷ h)
 unfolding closedFrom opensIn closesIn unclosed
-close-told s h e c t = record {
+close-counted s h e c t = record {
   opens = t .opens;
   closes = ap suc (t .closes);
   names = λ taken. t .names (suc taken) ∙ ap (λ (l : List Level). drop (suc taken) (map nameOf l)) (c .innermost);
 }
 
-told : (set : FolderSet) (calls : List Call) → Told (run set calls) (acceptedCalls set calls)
-told set calls = always set Told (λ s h e o t. open-told set s h e t) (λ s h e c t. close-told s h e c t) calls (fresh set) [] (fresh-told set)
+counted : (set : FolderSet) (calls : List Call) → Counted (run set calls) (acceptedCalls set calls)
+counted set calls = always set Counted (λ s h e o t. open-counted set s h e t) (λ s h e c t. close-counted s h e c t) calls (fresh set) [] (fresh-counted set)
 
 -- accepted opens and accepted closes are how many such calls the list has
-pub run-opens-told : (set : FolderSet) (calls : List Call) → run set calls .opens ≡ opensIn (acceptedCalls set calls)
-run-opens-told set calls = told set calls .opens
+pub run-opens-counted : (set : FolderSet) (calls : List Call) → run set calls .opens ≡ opensIn (acceptedCalls set calls)
+run-opens-counted set calls = counted set calls .opens
 
-pub run-closes-told : (set : FolderSet) (calls : List Call) → run set calls .closes ≡ closesIn (acceptedCalls set calls)
-run-closes-told set calls = told set calls .closes
+pub run-closes-counted : (set : FolderSet) (calls : List Call) → run set calls .closes ≡ closesIn (acceptedCalls set calls)
+run-closes-counted set calls = counted set calls .closes
 
 -- the open names are the names opened and not yet closed, in order
-pub run-names-told : (set : FolderSet) (calls : List Call) → openNames (run set calls) ≡ stillOpen set calls
-run-names-told set calls = ap reverse (sym (told set calls .names zero))
+pub run-names-counted : (set : FolderSet) (calls : List Call) → openNames (run set calls) ≡ stillOpen set calls
+run-names-counted set calls = ap reverse (sym (counted set calls .names zero))

@@ -9,11 +9,11 @@ use Rattle.theory.specs.Prefix.{prefixOf}
 use Rattle.theory.specs.Walk.{movesOf, arrivedAt, walk}
 use Rattle.theory.specs.Calls.{asLeft, Call, openCall, closeCall, level, State, fresh, opened, closedFrom, run}
 use Rattle.theory.specs.History.{acceptedCalls, namesLeft}
-use Rattle.theory.specs.Moves.{OpenMoves, MovesTold, none, anOpen, aClose}
+use Rattle.theory.specs.Moves.{OpenMoves, MovesCounted, none, anOpen, aClose}
 use Rattle.theory.proofs.Laws.Keywords.Prefix.{current-prefix, current-prefix-only}
 use Rattle.theory.proofs.Laws.Keywords.Walk.{walk-is, walk-only}
 use Rattle.theory.proofs.Laws.Machine.Calls.{Openable, Closable, always}
-use Rattle.theory.proofs.Laws.Machine.History.{Told, fresh-told, open-told, close-told}
+use Rattle.theory.proofs.Laws.Machine.History.{Counted, fresh-counted, open-counted, close-counted}
 use Rattle.theory.proofs.Laws.Machine.Sound.{Sound, fresh-sound, open-sound, close-sound}
 
 -- an open from the current prefix of the names makes the moves that its computed walk counts
@@ -32,41 +32,41 @@ sum set [] = 0
 sum set (openCall l e ∷ earlier) = sum set earlier + movesOf (walk set (prefixOf set (namesLeft earlier)) e)
 sum set (closeCall l e ∷ earlier) = sum set earlier
 
-told-sum : {set : FolderSet} {h : List Call} {moves : ℕ} → MovesTold set h moves → moves ≡ sum set h
+counted-sum : {set : FolderSet} {h : List Call} {moves : ℕ} → MovesCounted set h moves → moves ≡ sum set h
 unfolding sum
-told-sum none = refl
-told-sum (anOpen t m) = ap₂ (λ (x y : ℕ). x + y) (told-sum t) (open-moves-computed m)
-told-sum (aClose t) = told-sum t
+counted-sum none = refl
+counted-sum (anOpen t m) = ap₂ (λ (x y : ℕ). x + y) (counted-sum t) (open-moves-computed m)
+counted-sum (aClose t) = counted-sum t
 
-pub moves-only : {set : FolderSet} {h : List Call} {one other : ℕ} → MovesTold set h one → MovesTold set h other → one ≡ other
-moves-only t u = told-sum t ∙ sym (told-sum u)
+pub moves-only : {set : FolderSet} {h : List Call} {one other : ℕ} → MovesCounted set h one → MovesCounted set h other → one ≡ other
+moves-only t u = counted-sum t ∙ sym (counted-sum u)
 
 -- what every list of calls keeps
 record Kept (set : FolderSet) (s : State) (h : List Call) : Type 0 where
   sound : Sound set s
-  told : Told s h
-  moves : MovesTold set h (s .moves)
+  counted : Counted s h
+  moves : MovesCounted set h (s .moves)
 
 fresh-kept : (set : FolderSet) → Kept set (fresh set) []
 unfolding fresh
-fresh-kept set = record { sound = fresh-sound set; told = fresh-told set; moves = none }
+fresh-kept set = record { sound = fresh-sound set; counted = fresh-counted set; moves = none }
 
 open-kept : (set : FolderSet) (s : State) (h : List Call) (e : Name) → Openable s e → Kept set s h → Kept set (opened set s e) (openCall asLeft e ∷ h)
 unfolding opened
 open-kept set s h e o k = record {
   sound = open-sound set s e o (k .sound);
-  told = open-told set s h e (k .told);
-  moves = anOpen (k .moves) (open-moves set (namesLeft h) (s .current) e (k .sound .prefix ∙ ap (λ (l : List Name). prefixOf set (reverse l)) (sym (k .told .names 0))));
+  counted = open-counted set s h e (k .counted);
+  moves = anOpen (k .moves) (open-moves set (namesLeft h) (s .current) e (k .sound .prefix ∙ ap (λ (l : List Name). prefixOf set (reverse l)) (sym (k .counted .names 0))));
 }
 
 close-kept : (set : FolderSet) (s : State) (h : List Call) (e : Name) (c : Closable s e) → Kept set s h → Kept set (closedFrom (level e (c .before) ∷ c .outer) s) (closeCall asLeft e ∷ h)
 unfolding closedFrom
 close-kept set s h e c k = record {
   sound = close-sound set s e c (k .sound);
-  told = close-told s h e c (k .told);
+  counted = close-counted s h e c (k .counted);
   moves = aClose (k .moves);
 }
 
 -- the failure moves counted are those of the accepted opens' walks
-pub run-moves-told : (set : FolderSet) (calls : List Call) → MovesTold set (acceptedCalls set calls) (run set calls .moves)
-run-moves-told set calls = always set (Kept set) (open-kept set) (close-kept set) calls (fresh set) [] (fresh-kept set) .moves
+pub run-moves-counted : (set : FolderSet) (calls : List Call) → MovesCounted set (acceptedCalls set calls) (run set calls .moves)
+run-moves-counted set calls = always set (Kept set) (open-kept set) (close-kept set) calls (fresh set) [] (fresh-kept set) .moves

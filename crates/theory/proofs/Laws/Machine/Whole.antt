@@ -7,10 +7,10 @@ use Rattle.theory.specs.Calls.{Call, run}
 use Rattle.theory.specs.History.{opensOf, SameAnswers}
 use Rattle.theory.specs.Whole.{Whole}
 use Rattle.theory.proofs.Laws.Machine.Sound.{run-balance}
-use Rattle.theory.proofs.Laws.Machine.History.{run-opens-told, run-closes-told, run-names-told}
+use Rattle.theory.proofs.Laws.Machine.History.{run-opens-counted, run-closes-counted, run-names-counted}
 use Rattle.theory.proofs.Laws.Machine.Matches.{run-matched}
 use Rattle.theory.proofs.Laws.Machine.Answers.{run-current-prefix, run-active, replay}
-use Rattle.theory.proofs.Laws.Machine.MovesTold.{run-moves-told}
+use Rattle.theory.proofs.Laws.Machine.MovesCounted.{run-moves-counted}
 use Rattle.theory.proofs.Laws.Machine.Childless.{run-moves-childless}
 use Rattle.theory.proofs.Laws.Machine.Folders.{folder-matched}
 
@@ -18,13 +18,13 @@ pub whole : (set : FolderSet) (calls : List Call) → Whole set calls (run set c
 whole set calls = record {
   paths = run-matched set calls;
   folders = folder-matched set (run set calls);
-  names = run-names-told set calls;
+  names = run-names-counted set calls;
   steps = run-active set calls;
   prefix = run-current-prefix set calls;
-  replayed = subst (λ (names : List Name). SameAnswers set (run set calls) (run set (opensOf names))) (run-names-told set calls) (replay set calls);
+  replayed = subst (λ (names : List Name). SameAnswers set (run set calls) (run set (opensOf names))) (run-names-counted set calls) (replay set calls);
   balance = run-balance set calls;
-  opens = run-opens-told set calls;
-  closes = run-closes-told set calls;
-  movesTold = run-moves-told set calls;
+  opens = run-opens-counted set calls;
+  closes = run-closes-counted set calls;
+  movesCounted = run-moves-counted set calls;
   moves = run-moves-childless set calls;
 }

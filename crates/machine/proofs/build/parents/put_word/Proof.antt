@@ -15,9 +15,9 @@ use borrow.Author.Needs.{needs}
 use Rattle.machine.proofs.build.parents.put_word.Statement.{statement}
 use Rattle.machine.proofs.build.parents.put_word.Tie as tie
 
-full : (at : Place) (a : List ℕ) → maxLabels ≤ at .labels → labelled at a ≡ record { bytes = a; place = at }
+overCapacity : (at : Place) (a : List ℕ) → maxLabels ≤ at .labels → labelled at a ≡ record { bytes = a; place = at }
 unfolding labelled
-full at a h = rw (le-ltb (at .labels) maxLabels h)
+overCapacity at a h = rw (le-ltb (at .labels) maxLabels h)
 
 roomy : (at : Place) (a b : List ℕ) (r : ℕ) → at .labels < maxLabels → b ≡ wordStored (at .labels) (at .state) a → r ≡ goto b (at .state) (labelName b (at .labels))
     → labelled at a ≡ record { bytes = b; place = record { labels = at .labels + 1; paths = at .paths; state = r } }
@@ -32,7 +32,7 @@ returns : tie.Need-returns
 unfolding maxLabels
 returns c = let at = c .before .before .args .at in
     let a = c .before .before .args .part .now in
-    let e = full at a (c .if1 .taken) in
+    let e = overCapacity at a (c .if1 .taken) in
     (sym (ap (λ (r : Passed). r .bytes) e), (sym (ap (λ (r : Passed). r .place) e), record { searchable = c .before .before .pre .0; paths = omega arith; state = c .before .before .pre .1 .0 }))
 
 store-word-requires : tie.Need-store-word-requires

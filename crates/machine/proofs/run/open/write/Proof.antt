@@ -8,7 +8,7 @@ use Rattle.stored.specs.Automaton.{maskSize}
 use Rattle.stored.specs.Run.{matchesAt}
 use Rattle.stored.specs.RunCalls.{usedBytes}
 use Rattle.stored.proofs.Laws.Running.RunBytes.{used-room}
-use Rattle.stored.proofs.Laws.Running.Marked.{active-bits, seen-bits, match-bits, opened}
+use Rattle.stored.proofs.Laws.Running.Flaged.{active-bits, seen-bits, match-bits, opened}
 use borrow.Author.Needs.{needs}
 use Rattle.machine.proofs.run.open.write.Statement.{statement}
 use Rattle.machine.proofs.run.open.write.Tie as tie
@@ -16,32 +16,32 @@ use Rattle.machine.proofs.run.open.write.Tie as tie
 used-bytes-requires : tie.Need-used-bytes-requires
 used-bytes-requires c κs = search needs
 
-slice-aggregate-mark-labels : tie.Need-slice-aggregate-mark-labels
-slice-aggregate-mark-labels c = search needs
+slice-aggregate-flag-labels : tie.Need-slice-aggregate-flag-labels
+slice-aggregate-flag-labels c = search needs
 
-mark-labels-requires : tie.Need-mark-labels-requires
+flag-labels-requires : tie.Need-flag-labels-requires
 unfolding maskSize
-mark-labels-requires c κs = let p = c .before .before .before .before .before .pre in
+flag-labels-requires c κs = let p = c .before .before .before .before .before .pre in
     (omega arith, (p .0 .0, p .1 .0))
 
-slice-aggregate-mark-bits : tie.Need-slice-aggregate-mark-bits
-slice-aggregate-mark-bits c = search needs
+slice-aggregate-flag-bits : tie.Need-slice-aggregate-flag-bits
+slice-aggregate-flag-bits c = search needs
 
-slice-aggregate-mark-bits-2 : tie.Need-slice-aggregate-mark-bits-2
-slice-aggregate-mark-bits-2 c = search needs
+slice-aggregate-flag-bits-2 : tie.Need-slice-aggregate-flag-bits-2
+slice-aggregate-flag-bits-2 c = search needs
 
-slice-aggregate-mark-bits-3 : tie.Need-slice-aggregate-mark-bits-3
-slice-aggregate-mark-bits-3 c = search needs
+slice-aggregate-flag-bits-3 : tie.Need-slice-aggregate-flag-bits-3
+slice-aggregate-flag-bits-3 c = search needs
 
-slice-aggregate-mark-bits-4 : tie.Need-slice-aggregate-mark-bits-4
-slice-aggregate-mark-bits-4 c = search needs
+slice-aggregate-flag-bits-4 : tie.Need-slice-aggregate-flag-bits-4
+slice-aggregate-flag-bits-4 c = search needs
 
-mark-bits-requires : tie.Need-mark-bits-requires
+flag-bits-requires : tie.Need-flag-bits-requires
 unfolding maskSize
-mark-bits-requires c κs = let b = c .before .before .before .before .before .before .before .before .before .before .before .before in
+flag-bits-requires c κs = let b = c .before .before .before .before .before .before .before .before .before .before .before .before in
     let p = b .pre .0 in
     let u : c .before .before .before .before .before .before .before .before .used-bytes .result ≤ 256 = omega (arith, c .before .before .before .before .before .before .before .before .used-bytes .ensures, used-room (b .args .a .now) (p .0 .steps)) in
-    ((p .0 .size, (p .1 .0, (omega (arith, c .before .before .before .before .before .before .mark-labels .kept .0), (omega (arith, p .1 .1 .0), u)))), (omega arith, (omega arith, omega arith)))
+    ((p .0 .size, (p .1 .0, (omega (arith, c .before .before .before .before .before .before .flag-labels .kept .0), (omega (arith, p .1 .1 .0), u)))), (omega arith, (omega arith, omega arith)))
 
 slice-aggregate-store : tie.Need-slice-aggregate-store
 slice-aggregate-store c = search needs
@@ -52,19 +52,19 @@ slice-aggregate-store-2 c = search needs
 store-requires : tie.Need-store-requires
 unfolding maskSize
 store-requires c κs = let p = c .before .before .before .before .before .before .before .before .before .before .before .before .before .before .before .before .before .before .before .pre .0 in
-    let k = c .before .before .before .before .before .before .mark-bits .kept in
+    let k = c .before .before .before .before .before .before .flag-bits .kept in
     (p .1 .1 .0, (p .1 .0, (p .1 .1 .1, (k .1 .1 .1 .1 .1 .0, k .1 .1 .1 .1 .1 .1 .0))))
 
 array-share-prefix-matched : tie.Need-array-share-prefix-matched
 unfolding maskSize
 array-share-prefix-matched c = let b = c .before .before .before .before .before .before .before .before .before .before .before .before .before .before .before .before .before .before .before .before .before .before .before in
-    omega (arith, c .before .before .before .before .before .before .before .before .before .before .mark-bits .kept .1 .1 .1 .1 .1 .1 .1 .0, c .before .before .before .before .before .before .before .before .before .before .before .before .before .before .before .before .before .before .before .used-bytes .ensures, used-room (b .args .a .now) (b .pre .0 .0 .steps))
+    omega (arith, c .before .before .before .before .before .before .before .before .before .before .flag-bits .kept .1 .1 .1 .1 .1 .1 .1 .0, c .before .before .before .before .before .before .before .before .before .before .before .before .before .before .before .before .before .before .before .used-bytes .ensures, used-room (b .args .a .now) (b .pre .0 .0 .steps))
 
 slice-aggregate-copy : tie.Need-slice-aggregate-copy
 unfolding maskSize
 slice-aggregate-copy c = let b = c .before .before .before .before .before .before .before .before .before .before .before .before .before .before .before .before .before .before .before .before .before .before .before .before in
-    sym (length-take-le (c .before .before .before .before .before .before .before .before .before .before .before .before .before .before .before .before .before .before .before .before .used-bytes .result) (c .before .before .before .before .before .before .before .before .before .before .before .mark-bits .last .1 .1 .1 .1 .1 .1 .1 .0)
-    (omega (arith, c .before .before .before .before .before .before .before .before .before .before .before .mark-bits .kept .1 .1 .1 .1 .1 .1 .1 .0, c .before .before .before .before .before .before .before .before .before .before .before .before .before .before .before .before .before .before .before .before .used-bytes .ensures, used-room (b .args .a .now) (b .pre .0 .0 .steps))))
+    sym (length-take-le (c .before .before .before .before .before .before .before .before .before .before .before .before .before .before .before .before .before .before .before .before .used-bytes .result) (c .before .before .before .before .before .before .before .before .before .before .before .flag-bits .last .1 .1 .1 .1 .1 .1 .1 .0)
+    (omega (arith, c .before .before .before .before .before .before .before .before .before .before .before .flag-bits .kept .1 .1 .1 .1 .1 .1 .1 .0, c .before .before .before .before .before .before .before .before .before .before .before .before .before .before .before .before .before .before .before .before .used-bytes .ensures, used-room (b .args .a .now) (b .pre .0 .0 .steps))))
 
 copy-requires : tie.Need-copy-requires
 copy-requires c κs = search needs
@@ -86,8 +86,8 @@ returns c = let b = c .before .before .before .before .before .before .before .b
     let R = b .args .run .now in
     let E = b .args .e .now in
     let u = c .before .before .before .before .before .before .before .before .before .before .before .before .before .before .before .before .before .before .before .before .before .before .before .before .before .before .before .used-bytes in
-    let t = c .before .before .before .before .before .before .before .before .before .before .before .before .before .before .before .before .before .before .before .before .before .before .before .before .before .mark-labels in
-    let m = c .before .before .before .before .before .before .before .before .before .before .before .before .before .before .before .before .before .before .mark-bits in
+    let t = c .before .before .before .before .before .before .before .before .before .before .before .before .before .before .before .before .before .before .before .before .before .before .before .before .before .flag-labels in
+    let m = c .before .before .before .before .before .before .before .before .before .before .before .before .before .before .before .before .before .before .flag-bits in
     let room : usedBytes A ≤ 256 = used-room A (b .pre .0 .0 .steps) in
     c .before .before .put16 .ensures
     ∙ rw (c .before .before .before .before .before .before .copy .ensures, c .before .before .before .before .before .before .before .before .before .before .before .store .ensures)
@@ -101,13 +101,13 @@ write-spec =
     tie.close
     (tie.spec
     used-bytes-requires
-    slice-aggregate-mark-labels
-    mark-labels-requires
-    slice-aggregate-mark-bits
-    slice-aggregate-mark-bits-2
-    slice-aggregate-mark-bits-3
-    slice-aggregate-mark-bits-4
-    mark-bits-requires
+    slice-aggregate-flag-labels
+    flag-labels-requires
+    slice-aggregate-flag-bits
+    slice-aggregate-flag-bits-2
+    slice-aggregate-flag-bits-3
+    slice-aggregate-flag-bits-4
+    flag-bits-requires
     slice-aggregate-store
     slice-aggregate-store-2
     store-requires

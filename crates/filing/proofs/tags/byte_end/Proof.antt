@@ -1,8 +1,8 @@
--- `filing::tags::mark_end` meets its contract.
+-- `filing::tags::byte_end` meets its contract.
 use Rattle.filing.proofs.Laws.Read.Offsets.{mark-none, mark-no, mark-to}
 use borrow.Author.Needs.{needs}
-use Rattle.filing.proofs.tags.mark_end.Statement.{statement}
-use Rattle.filing.proofs.tags.mark_end.Tie as tie
+use Rattle.filing.proofs.tags.byte_end.Statement.{statement}
+use Rattle.filing.proofs.tags.byte_end.Tie as tie
 
 blanks-end-requires : tie.Need-blanks-end-requires
 blanks-end-requires c κs = search needs
@@ -22,7 +22,7 @@ add-t5 c = search needs
 returns-3 : tie.Need-returns-3
 returns-3 c = mark-to _ _ _ (c .before .before .before .before .before .pre) (c .before .before .before .blanks-end .ensures) _ (c .before .before .if1 .left) (c .if2 .left)
 
-pub mark-end-spec : {M : Type 1} → statement M
-mark-end-spec =
+pub byte-end-spec : {M : Type 1} → statement M
+byte-end-spec =
     tie.close
     (tie.spec blanks-end-requires returns shared-slice-read-if2 returns-2 add-t5 returns-3)

@@ -1,7 +1,7 @@
 use borrow.Author.Tests.{le-leb, lt-leb, eq-eqb, ne-eqb}
 use borrow.Author.Needs.{needs}
-use Rattle.filing.proofs.report.torn_at.Statement.{statement}
-use Rattle.filing.proofs.report.torn_at.Tie as tie
+use Rattle.filing.proofs.report.no_token_at.Statement.{statement}
+use Rattle.filing.proofs.report.no_token_at.Tie as tie
 
 end-of-requires : tie.Need-end-of-requires
 end-of-requires c κs = search needs
@@ -18,6 +18,6 @@ is-declaration-requires c κs = search needs
 returns-3 : tie.Need-returns-3
 returns-3 c = rw (lt-leb _ _ (rw (c .before .before .before .end-of .ensures) at (c .before .before .if1 .left)), ne-eqb _ _ (c .before .if2 .left)) (c .is-declaration .ensures)
 
-pub torn-at-spec : {M : Type 1} → statement M
-torn-at-spec =
+pub no-token-at-spec : {M : Type 1} → statement M
+no-token-at-spec =
     tie.close (tie.spec end-of-requires returns returns-2 is-declaration-requires returns-3)

@@ -11,8 +11,8 @@ use Rattle.stored.specs.Bits.{bitAt}
 use Rattle.stored.specs.Automaton.{maskSize, automatonSize}
 use Rattle.stored.proofs.Laws.Bytes.BitRows.{any-one, or-none}
 use borrow.Author.Needs.{needs}
-use Rattle.machine.proofs.run.candidates.mark_label.Statement.{statement}
-use Rattle.machine.proofs.run.candidates.mark_label.Tie as tie
+use Rattle.machine.proofs.run.candidates.flag_label.Statement.{statement}
+use Rattle.machine.proofs.run.candidates.flag_label.Tie as tie
 
 label-is-requires : tie.Need-label-is-requires
 label-is-requires c κs = let b = c .before .before .before in
@@ -55,8 +55,8 @@ returns-2 c = let a = c .before .before .before .before .before .args in
     let t : sameName (labelName (a .a .now) (a .l)) (a .e .now) ≡ false = sym (c .before .label-is .ensures) ∙ c .if1 .left in
     λ j. rw t (sym (or-none (bitAt (a .out .now) j) _))
 
-pub mark-label-spec : {M : Type 1} → statement M
-mark-label-spec =
+pub flag-label-spec : {M : Type 1} → statement M
+flag-label-spec =
     tie.close
     (tie.spec
     label-is-requires

@@ -7,10 +7,10 @@ use lib.Seq.{sets, length-sets}
 use Rattle.stored.specs.Automaton.{maskSize, bitBytes}
 use Rattle.stored.specs.RunCalls.{maskBit, seenAt, matchedAt}
 use Rattle.stored.specs.Code.OpenSteps.{takenActive, takenSeen, takenMatched}
-use Rattle.stored.proofs.Laws.Running.Marked.{none-stored, one-stored}
+use Rattle.stored.proofs.Laws.Running.Flaged.{none-stored, one-stored}
 use borrow.Author.Needs.{needs}
-use Rattle.machine.proofs.run.steps.mark_bits.Statement.{statement}
-use Rattle.machine.proofs.run.steps.mark_bits.Tie as tie
+use Rattle.machine.proofs.run.steps.flag_bits.Statement.{statement}
+use Rattle.machine.proofs.run.steps.flag_bits.Tie as tie
 
 abbrev Inv-loop : tie.InvT-loop
 Inv-loop a run taken d used active₀ seen₀ matched₀ j₀ active seen matched j =
@@ -105,8 +105,8 @@ returns : tie.Need-returns Inv-loop μ-loop
 returns c = let e : c .before .before .before .before .before .before .before .before .args .used ≡ c .before .loop .j = omega arith in
     rw e (c .before .loop .inv .1)
 
-pub mark-bits-spec : {M : Type 1} → statement M
-mark-bits-spec =
+pub flag-bits-spec : {M : Type 1} → statement M
+flag-bits-spec =
     tie.close
     (tie.spec
     Inv-loop

@@ -14,9 +14,9 @@ use Rattle.stored.specs.Bits.{bitAt}
 use Rattle.stored.specs.Chain.{chainFrom, chainLabels}
 use Rattle.stored.proofs.Laws.Tables.Goto.{hash-small}
 use Rattle.stored.proofs.Laws.Bytes.BitRows.{or-none}
-use Rattle.stored.proofs.Laws.Tables.ChainTurns.{chain-none, left, low, rises, marked}
-use Rattle.machine.proofs.run.candidates.mark_labels.Statement.{statement}
-use Rattle.machine.proofs.run.candidates.mark_labels.Tie as tie
+use Rattle.stored.proofs.Laws.Tables.ChainTurns.{chain-none, left, low, rises, flaged}
+use Rattle.machine.proofs.run.candidates.flag_labels.Statement.{statement}
+use Rattle.machine.proofs.run.candidates.flag_labels.Tie as tie
 
 abbrev Inv-loop : tie.InvT-loop
 Inv-loop out₀ a e h k₀ out k = (k ≤ labelCount a) × ((length out ≡ length out₀) × ((j : ℕ) → (bitAt out j || any (λ m. eqb (word16 a (labelEntryAt m + 4)) j) (chainFrom maxLabels a e k)) ≡ (bitAt out₀ j || any (λ m. eqb (word16 a (labelEntryAt m + 4)) j) (chainLabels a e))))
@@ -46,11 +46,11 @@ loop-holds c = let b = c .before .before .before .before in
     let r : c .word .result ≡ headAt a (hash e) = rw hh at (c .word .ensures .0) in
     (rw r (b .pre .1 .0 .walkable .searchable .head (hash e) (hash-small e)), (refl, λ j. rw r))
 
-sub-mark-label : tie.Need-sub-mark-label Inv-loop μ-loop
-sub-mark-label c = omega arith
+sub-flag-label : tie.Need-sub-flag-label Inv-loop μ-loop
+sub-flag-label c = omega arith
 
-mark-label-requires : tie.Need-mark-label-requires Inv-loop μ-loop
-mark-label-requires c κs = let b = c .before .before .before .before .before .before .before in
+flag-label-requires : tie.Need-flag-label-requires Inv-loop μ-loop
+flag-label-requires c κs = let b = c .before .before .before .before .before .before .before in
     let l = c .before .before .loop in
     (omega (arith, l .inv .1 .0, b .pre .0), (b .pre .1 .0, low (b .args .a .now) (b .pre .1 .0 .walkable .searchable) (l .k) (c .before .loop-test .taken) (l .inv .0)))
 
@@ -86,8 +86,8 @@ loop-again c = let b = c .before .before .before .before .before .before .before
     let s = b .pre .1 .0 .walkable .searchable in
     let z = c .before .before .before .before .before .loop-test .taken in
     let r : c .word2 .result ≡ nextAt a (l .k - 1) = c .word2 .ensures .0 in
-    let m = c .before .before .before .mark-label in
-    (rw r (s .next (l .k - 1) (low a s (l .k) z (l .inv .0))), (m .kept .0 ∙ l .inv .1 .0, λ j. rw r (marked a s (l .k) z (l .inv .0) e (λ n. eqb (word16 a (labelEntryAt n + 4)) j) (bitAt (m .last .0) j) (bitAt (l .out) j) (m .ensures j) ∙ l .inv .1 .1 j)))
+    let m = c .before .before .before .flag-label in
+    (rw r (s .next (l .k - 1) (low a s (l .k) z (l .inv .0))), (m .kept .0 ∙ l .inv .1 .0, λ j. rw r (flaged a s (l .k) z (l .inv .0) e (λ n. eqb (word16 a (labelEntryAt n + 4)) j) (bitAt (m .last .0) j) (bitAt (l .out) j) (m .ensures j) ∙ l .inv .1 .1 j)))
 
 same-length : tie.Need-same-length Inv-loop μ-loop
 same-length c = c .before .loop .inv .1 .0
@@ -99,8 +99,8 @@ returns c = let b = c .before .before .before .before .before .before in
     let l = c .before .loop in
     λ j. sym (or-none (bitAt (l .out) j) (λ n. eqb (word16 a (labelEntryAt n + 4)) j)) ∙ ap (λ (x : List ℕ). bitAt (l .out) j || any (λ n. eqb (word16 a (labelEntryAt n + 4)) j) x) (sym (chain-none maxLabels a e) ∙ ap (chainFrom maxLabels a e) (sym (c .loop-test .left))) ∙ l .inv .1 .1 j
 
-pub mark-labels-spec : {M : Type 1} → statement M
-mark-labels-spec =
+pub flag-labels-spec : {M : Type 1} → statement M
+flag-labels-spec =
     tie.close
     (tie.spec
     Inv-loop
@@ -109,8 +109,8 @@ mark-labels-spec =
     add-word
     word-requires
     loop-holds
-    sub-mark-label
-    mark-label-requires
+    sub-flag-label
+    flag-label-requires
     sub-word
     mul-word-2
     add-word-2

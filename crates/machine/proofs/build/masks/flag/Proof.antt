@@ -1,9 +1,9 @@
-use Rattle.stored.specs.Code.Masks.{marked}
+use Rattle.stored.specs.Code.Masks.{flaged}
 use Rattle.stored.specs.Automaton.{maskSize, masksAt, automatonSize}
 use native.Mathlib.Omega.{arith}
 use borrow.Author.Needs.{needs}
-use Rattle.machine.proofs.build.masks.mark.Statement.{statement}
-use Rattle.machine.proofs.build.masks.mark.Tie as tie
+use Rattle.machine.proofs.build.masks.flag.Statement.{statement}
+use Rattle.machine.proofs.build.masks.flag.Tie as tie
 
 mul-j : tie.Need-mul-j
 mul-j c = search needs
@@ -37,15 +37,15 @@ same-length : tie.Need-same-length
 same-length c = search needs
 
 returns : tie.Need-returns
-unfolding marked maskSize masksAt
+unfolding flaged maskSize masksAt
 returns c = rw (c .before .before .before .if1 .taken, c .with-bit .ensures .0, c .before .wide .ensures .0)
 
 returns-2 : tie.Need-returns-2
-unfolding marked
+unfolding flaged
 returns-2 c = rw (c .if1 .left)
 
-pub mark-spec : {M : Type 1} → statement M
-mark-spec =
+pub flag-spec : {M : Type 1} → statement M
+flag-spec =
     tie.close
     (tie.spec
     mul-j

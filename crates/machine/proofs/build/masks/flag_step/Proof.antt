@@ -1,14 +1,14 @@
-use Rattle.stored.specs.Code.Masks.{markStep}
+use Rattle.stored.specs.Code.Masks.{flagStep}
 use Rattle.stored.specs.Automaton.{maskSize}
 use borrow.Author.Tests.{le-ltb, lt-ltb}
 use native.Mathlib.Omega.{arith}
 use mathlib.Core.Path.{sym, _∙_}
 use borrow.Author.Needs.{needs}
-use Rattle.machine.proofs.build.masks.mark_step.Statement.{statement}
-use Rattle.machine.proofs.build.masks.mark_step.Tie as tie
+use Rattle.machine.proofs.build.masks.flag_step.Statement.{statement}
+use Rattle.machine.proofs.build.masks.flag_step.Tie as tie
 
 returns : tie.Need-returns
-unfolding markStep maskSize
+unfolding flagStep maskSize
 returns c = rw (le-ltb (c .before .before .args .i) 2048 (c .if1 .taken))
 
 step-at-requires : tie.Need-step-at-requires
@@ -17,9 +17,9 @@ step-at-requires c κs = search needs
 enum-known-descendant : tie.Need-enum-known-descendant
 enum-known-descendant c = search needs
 
-mark-role-requires : tie.Need-mark-role-requires
+flag-role-requires : tie.Need-flag-role-requires
 unfolding maskSize
-mark-role-requires c κs = omega arith
+flag-role-requires c κs = omega arith
 
 enum-told : tie.Need-enum-told
 enum-told c = search needs
@@ -28,24 +28,24 @@ same-length : tie.Need-same-length
 same-length c = search needs
 
 returns-2 : tie.Need-returns-2
-unfolding markStep maskSize
-returns-2 c = rw (lt-ltb (c .before .before .before .before .before .before .before .before .before .before .before .args .i) 2048 (c .before .before .before .before .before .before .before .before .before .if1 .left), sym (c .before .before .before .before .before .before .before .step-at .ensures) ∙ c .before .before .before .before .before .descendant .given .1) (c .before .before .mark-role .ensures)
+unfolding flagStep maskSize
+returns-2 c = rw (lt-ltb (c .before .before .before .before .before .before .before .before .before .before .before .args .i) 2048 (c .before .before .before .before .before .before .before .before .before .if1 .left), sym (c .before .before .before .before .before .before .before .step-at .ensures) ∙ c .before .before .before .before .before .descendant .given .1) (c .before .before .flag-role .ensures)
 
 same-length-2 : tie.Need-same-length-2
 same-length-2 c = search needs
 
 returns-3 : tie.Need-returns-3
-unfolding markStep maskSize
+unfolding flagStep maskSize
 returns-3 c = rw (lt-ltb (c .before .before .before .before .before .before .args .i) 2048 (c .before .before .before .before .if1 .left), sym (c .before .before .step-at .ensures) ∙ c .enum-told .given .1)
 
-pub mark-step-spec : {M : Type 1} → statement M
-mark-step-spec =
+pub flag-step-spec : {M : Type 1} → statement M
+flag-step-spec =
     tie.close
     (tie.spec
     returns
     step-at-requires
     enum-known-descendant
-    mark-role-requires
+    flag-role-requires
     enum-told
     same-length
     returns-2
