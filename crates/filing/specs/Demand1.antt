@@ -34,7 +34,8 @@ use Rattle.stored.specs.declared.counters.Counters.{Counters}
 use Rattle.stored.specs.declared.answers.Opened.{Opened}
 use Rattle.stored.specs.declared.answers.Asked.{Asked}
 use Rattle.stored.specs.declared.answers.Length.{Length}
-use Rattle.filing.specs.ReportRefusals.{RefusedReport, TakenReport, Files}
+use Rattle.filing.specs.Filing.{refused, filed}
+use Rattle.filing.specs.ReportRefusals.{ReportGives, Files}
 use Rattle.filing.specs.Listed.{listingConditions, refusedConditions, ListingWritten, RefusedWritten}
 use Rattle.filing.specs.Filer.{tooSmall, Prints}
 
@@ -60,8 +61,8 @@ pub record SetJudged (size : ℕ) (text before : List ℕ) (answer : ℕ) (after
 
 -- what filing a report answers, and what a refused one leaves: all as it was where 1 or 14 is given, else a fresh run and zero counters
 pub record ReportJudged (a run : List ℕ) (c : Counters) (report : List ℕ) (answer : ℕ) (run' : List ℕ) (c' : Counters) : Type 0 where
-  pub refusals : (r : Refusal) → (answer ≡ numberOf r) ↔ RefusedReport a run report r
-  pub accepted : (answer ≡ 0) ↔ ((t : Left) × TakenReport a run report t)
+  pub refusals : (r : Refusal) → (answer ≡ numberOf r) ↔ ReportGives a run report (refused r)
+  pub accepted : (answer ≡ 0) ↔ ((t : Left) × ReportGives a run report (filed t))
   pub either : (answer ≡ 0) ⊎ ((r : Refusal) × (answer ≡ numberOf r))
   pub untouched : (answer ≡ numberOf shortBuffer) ⊎ (answer ≡ numberOf badShape) → (run' ≡ run) × (c' ≡ c)
   pub fresh : (answer ≡ numberOf shortBuffer → ⊥) → (answer ≡ numberOf badShape → ⊥) → IfRefused answer ((run' ≡ startRun a run) × (c' ≡ noCounters))

@@ -6,14 +6,13 @@ use mathlib.Core.Logic.{_↔_}
 use mathlib.Core.List.{List, List·Memᴰ}
 use lib.Dec.{eqb}
 use Rattle.notation.specs.Sets.{Path, Folder, FolderSet, folderNumber}
-use Rattle.text.specs.Refusals.{Refusal}
 use Rattle.notation.specs.Accepted.{Accepted}
 use Rattle.theory.specs.Calls.{State, pathAt, fresh, run}
 use Rattle.theory.specs.Folders.{placesOf, folderMatched, HasFolders}
 use Rattle.documents.specs.Tree.{Node, element, text, comment, Nodes, none, _then_, Document, Place, kindAt}
 use Rattle.documents.specs.XPath.{IsElement, selected}
 use Rattle.documents.specs.Document.{eventsOf, elementsAmong, Report, documentIn}
-use Rattle.filing.specs.Filing.{refused, filed, callsIn, allAccepted, fileReport, Refused, FiledWith}
+use Rattle.filing.specs.Filing.{Outcome, callsIn, allAccepted, FilingGives, FiledWith}
 
 -- how many elements there are in a document
 unfoldable mutual
@@ -64,15 +63,15 @@ pub record OfDocument (set : FolderSet) (bytes : List ℕ) (m : State) : Type 0 
 -- a larger set files the report too, and matches the same of the smaller's folders
 pub record Added (smaller larger : FolderSet) (bytes : List ℕ) (m : State) : Type 0 where
   pub machine : State
-  pub isFiled : fileReport larger bytes ≡ filed machine
+  pub isFiled : FiledWith larger bytes machine
   pub same : (f : Folder) → List·Memᴰ f smaller → folderMatched smaller m (folderNumber f) ≡ folderMatched larger machine (folderNumber f)
 
 -- all of demand 2, of a set and any bytes
 pub record Demand2 (set : FolderSet) (bytes : List ℕ) : Type 0 where
-  -- refused with a number exactly when its condition holds and no earlier one does, filed exactly when none does
-  pub refusals : (r : Refusal) → (fileReport set bytes ≡ refused r) ↔ Refused set bytes r
-  pub filings : (m : State) → (fileReport set bytes ≡ filed m) ↔ FiledWith set bytes m
-  pub document : (m : State) → fileReport set bytes ≡ filed m → OfDocument set bytes m
+  -- refused with one number, or filed with one machine
+  pub gives : (o : Outcome State) × FilingGives set bytes o
+  pub only : (o p : Outcome State) → FilingGives set bytes o → FilingGives set bytes p → o ≡ p
+  pub document : (m : State) → FiledWith set bytes m → OfDocument set bytes m
   -- adding folders changes no other folder's matches while the larger set is accepted
   pub adding : (setText : List ℕ) (larger : FolderSet) → Accepted setText larger → HasFolders larger set
-      → (m : State) → fileReport set bytes ≡ filed m → Added set larger bytes m
+      → (m : State) → FiledWith set bytes m → Added set larger bytes m

@@ -1,65 +1,127 @@
--- Filing a report with a set (paper 01: Reports, Service codes): its tokens in order, on a fresh machine. 1 and 14 are of the lent buffers
--- and stand apart.
-use Prim.Native.Nat.{ℕ, _≤_, _<_}
+-- Filing a report (paper 01: Reports, Service codes): its tokens in order, on a machine over any kind of state. The shared machine is one
+-- such, and what is stored of it is another (ReportRefusals).
+use Prim.Native.Nat.{ℕ, _<_}
 use mathlib.Core.Path.{_≡_}
-use mathlib.Core.Bool.{Bool, true, false, not, _&&_, _||_, cond}
+use mathlib.Core.Bool.{Bool, true, false, not, _&&_, _||_}
+use mathlib.Core.Logic.{_⊎_}
 use mathlib.Core.Option.{Option, none, some}
 use mathlib.Core.List.{List, [], _∷_, _++_}
-use lib.Dec.{eqb, ltb}
+use lib.Dec.{eqb}
 use lib.ListN.{length}
+use Rattle.text.specs.Names.{Name}
 use Rattle.notation.specs.Sets.{FolderSet}
-use Rattle.text.specs.Lists.{every, nonEmpty}
+use Rattle.text.specs.Lists.{every}
 use Rattle.text.specs.Refusals.{Refusal, tooLarge, invalidByte, syntaxError, notOneRoot, numberOf}
-use Rattle.text.specs.Order.{FirstOf}
-use Rattle.theory.specs.Calls.{asLeft, Call, openCall, closeCall, State, nothingOpen, openOrder, closeOrder, fresh, refusal, accepted, step}
+use Rattle.text.specs.Order.{Condition, gives, first}
+use Rattle.theory.specs.Calls.{asLeft, Call, openCall, closeCall, State, fresh, accepted, step}
+use Rattle.theory.specs.Calls as calls
 use Rattle.filing.specs.Limits.{maxReportBytes}
-use Rattle.documents.specs.Tokens.{Token, declaration, comment, startTag, emptyTag, endTag, text, printParts, blank, listed, RunOfTokens}
-use Rattle.text.specs.Read.{Read, fail, got}
-use Rattle.documents.specs.Reading.{readReport}
-use Rattle.documents.specs.Document.{Event, opening, closing, textHere, commentHere, eventsOfToken}
+use Rattle.documents.specs.Tokens.{Token, blank, listed, RunOfTokens}
+use Rattle.documents.specs.Document.{Event, opening, closing, textHere, commentHere, eventsOf}
 
--- refused, or filed with the machine as it is at the end
-pub data Filed : Type 0 where
-  refused : Refusal → Filed
-  filed : State → Filed
+-- refused, or filed with the state at the end
+pub data Outcome (S : Type 0) : Type 0 where
+  refused : Refusal → Outcome S
+  filed : S → Outcome S
 
 -- the number that is returned, 0 for a filed report
-abbrev pub numberGiven : Filed → ℕ
+abbrev pub numberGiven : {S : Type 0} → Outcome S → ℕ
 numberGiven (refused r) = numberOf r
-numberGiven (filed m) = 0
+numberGiven (filed s) = 0
 
 -- go on where nothing was refused
-abbrev pub thenFile : Filed → (State → Filed) → Filed
-thenFile (refused r) k = refused r
-thenFile (filed m) k = k m
+abbrev pub andThen : {S : Type 0} → Outcome S → (S → Outcome S) → Outcome S
+andThen (refused r) k = refused r
+andThen (filed s) k = k s
 
--- a refusal, if there is one, else the machine
-abbrev pub unless : Option Refusal → State → Filed
-unless none m = filed m
-unless (some r) m = refused r
+-- a refusal, if there is one, else the state
+abbrev pub unless : {S : Type 0} → Option Refusal → S → Outcome S
+unless none s = filed s
+unless (some r) s = refused r
 
--- an open or a close, with the machine's own refusals
-abbrev pub fileCall : FolderSet → State → Call → Filed
-fileCall set m call = unless (refusal m call) (step set m call)
+-- a machine over states S: the conditions of an open and of a close in their order, what one leaves that none of them refuses, and whether
+-- no element is open, or none was opened yet
+pub record Machine (S : Type 0) : Type 0 where
+  pub openOrder : S → Name → List Condition
+  pub closeOrder : S → Name → List Condition
+  pub opened : S → Name → S
+  pub closed : S → S
+  pub nothingOpen : S → Bool
+  pub noRoot : S → Bool
 
--- text that is not blank, outside the root: no element is open
-abbrev pub textOutside : State → List ℕ → Bool
-textOutside m b = nothingOpen m && not (every blank b)
+module _ {S : Type 0} (k : Machine S) where
+  -- an event's conditions: text outside the root is blank
+  abbrev pub eventOrder : S → Event → List Condition
+  eventOrder s (opening n) = k .openOrder s n
+  eventOrder s (closing n) = k .closeOrder s n
+  eventOrder s (textHere b) = gives (k .nothingOpen s && not (every blank b)) notOneRoot ∷ []
+  eventOrder s (commentHere b) = []
 
-abbrev pub fileEvent : FolderSet → State → Event → Filed
-fileEvent set m (opening n) = fileCall set m (openCall asLeft n)
-fileEvent set m (closing n) = fileCall set m (closeCall asLeft n)
-fileEvent set m (textHere b) = cond (textOutside m b) (refused notOneRoot) (filed m)
-fileEvent set m (commentHere b) = filed m
+  -- what an event leaves that is not refused
+  abbrev pub eventLeaves : S → Event → S
+  eventLeaves s (opening n) = k .opened s n
+  eventLeaves s (closing n) = k .closed s
+  eventLeaves s (textHere b) = s
+  eventLeaves s (commentHere b) = s
 
-unfoldable pub fileEvents : FolderSet → State → List Event → Filed
-fileEvents set m [] = filed m
-fileEvents set m (e ∷ es) = thenFile (fileEvent set m e) (λ m₂. fileEvents set m₂ es)
+  abbrev pub fileEvent : S → Event → Outcome S
+  fileEvent s e = unless (first (eventOrder s e)) (eventLeaves s e)
 
--- the tokens in order, each as what it is in the tree: an empty-element tag is an open and a close
-unfoldable pub fileTokens : FolderSet → State → List Token → Filed
-fileTokens set m [] = filed m
-fileTokens set m (t ∷ ts) = thenFile (fileEvents set m (eventsOfToken t)) (λ m₂. fileTokens set m₂ ts)
+  unfoldable pub fileEvents : S → List Event → Outcome S
+  fileEvents s [] = filed s
+  fileEvents s (e ∷ es) = andThen (fileEvent s e) (λ t. fileEvents t es)
+
+  -- at the end there was a root, and nothing is open
+  abbrev pub endOrder : S → List Condition
+  endOrder s = gives (k .noRoot s || not (k .nothingOpen s)) notOneRoot ∷ []
+
+  abbrev pub fileEnd : S → Outcome S
+  fileEnd s = unless (first (endOrder s)) s
+
+  -- the tokens in order, each as what it is in the tree, and the end
+  abbrev pub fileTokens : S → List Token → Outcome S
+  fileTokens s ts = andThen (fileEvents s (eventsOf ts)) fileEnd
+
+-- a refusal of a report as a whole, with its condition, which need not be a test
+pub data Reason : Type 1 where
+  reason : Type 0 → Refusal → Reason
+
+abbrev pub reportOrder : List ℕ → List Reason
+reportOrder report =
+    reason (maxReportBytes < length report) tooLarge
+    ∷ reason (every listed report ≡ false) invalidByte
+    ∷ reason (RunOfTokens report → ⊥) syntaxError
+    ∷ []
+
+-- refused with the first whose condition holds; where none does, as the rest says
+unfoldable pub Decided : {S : Type 0} → List Reason → (Outcome S → Type 0) → Outcome S → Type 0
+Decided [] rest o = rest o
+Decided (reason holds r ∷ later) rest o = (holds × (o ≡ refused r)) ⊎ ((holds → ⊥) × Decided later rest o)
+
+-- what filing a report from a state on gives: by the reasons before all others (1 and 14, of what is lent), by the report's, or by its tokens
+abbrev pub OutcomeOf : {S : Type 0} → Machine S → S → List Reason → List ℕ → Outcome S → Type 0
+OutcomeOf k s before report = Decided (before ++ reportOrder report) (λ o. (run : RunOfTokens report) × (fileTokens k s (run .tokens) ≡ o))
+
+-- the shared machine of a set (paper 01: The shared machine)
+abbrev pub sharedMachine : FolderSet → Machine State
+sharedMachine set = record {
+  openOrder = calls.openOrder;
+  closeOrder = calls.closeOrder;
+  opened = calls.opened set;
+  closed = calls.closed;
+  nothingOpen = calls.nothingOpen;
+  noRoot = λ m. eqb (m .opens) 0;
+}
+
+abbrev pub FilingGives : FolderSet → List ℕ → Outcome State → Type 0
+FilingGives set report = OutcomeOf (sharedMachine set) (fresh set) [] report
+
+-- a report is refused so; and it is filed, with this machine at the end
+abbrev pub Refused : FolderSet → List ℕ → Refusal → Type 0
+Refused set report r = FilingGives set report (refused r)
+
+abbrev pub FiledWith : FolderSet → List ℕ → State → Type 0
+FiledWith set report m = FilingGives set report (filed m)
 
 -- the opens and closes of events, in order; and whether the machine accepts a list of calls to the last
 unfoldable pub callsIn : List Event → List Call
@@ -72,57 +134,3 @@ callsIn (commentHere b ∷ es) = callsIn es
 unfoldable pub allAccepted : FolderSet → State → List Call → Bool
 allAccepted set m [] = true
 allAccepted set m (call ∷ calls) = accepted m call && allAccepted set (step set m call) calls
-
--- a report that ends so has no root, or an element is open
-abbrev pub unfinished : State → Bool
-unfinished m = eqb (m .opens) 0 || nonEmpty (m .levels)
-
-unfoldable pub fileEnd : State → Filed
-fileEnd m = cond (unfinished m) (refused notOneRoot) (filed m)
-
--- the whole report, computed: 2, 8, 9, the tokens, the end
-abbrev pub fileRun : FolderSet → Read (List Token) → Filed
-fileRun set fail = refused syntaxError
-fileRun set (got ts r) = thenFile (fileTokens set (fresh set) ts) fileEnd
-
-unfoldable pub fileReport : FolderSet → List ℕ → Filed
-fileReport set bytes =
-    cond (ltb maxReportBytes (length bytes)) (refused tooLarge) (cond (not (every listed bytes)) (refused invalidByte) (fileRun set (readReport bytes)))
-
--- The same, plainly.
-
--- what stops a token, by its kind: an open or a close is refused with the first of its order whose condition holds. The close of an
--- empty-element tag never is: it is that of the element just opened
-abbrev pub Stops : State → Token → Refusal → Type 0
-Stops m declaration r = ⊥
-Stops m (comment c) r = ⊥
-Stops m (startTag n attributes b) r = FirstOf (openOrder m n) r
-Stops m (emptyTag n attributes b) r = FirstOf (openOrder m n) r
-Stops m (endTag n b) r = FirstOf (closeOrder m n) r
-Stops m (text parts) r = (r ≡ notOneRoot) × (textOutside m (printParts parts) ≡ true)
-
--- the first token that is stopped: those before it are all taken
-pub record StopsAt (set : FolderSet) (ts : List Token) (r : Refusal) : Type 0 where
-  pub before : List Token
-  pub token : Token
-  pub later : List Token
-  pub joined : before ++ (token ∷ later) ≡ ts
-  pub state : State
-  pub taken : fileTokens set (fresh set) before ≡ filed state
-  pub stops : Stops state token r
-
--- when a report is refused, and with which refusal: the conditions in their order, each with none of those before it
-pub data Refused (set : FolderSet) (bytes : List ℕ) (r : Refusal) : Type 0 where
-  tooMany : r ≡ tooLarge → maxReportBytes < length bytes → Refused set bytes r
-  notListed : r ≡ invalidByte → length bytes ≤ maxReportBytes → every listed bytes ≡ false → Refused set bytes r
-  noRun : r ≡ syntaxError → length bytes ≤ maxReportBytes → every listed bytes ≡ true → (RunOfTokens bytes → ⊥) → Refused set bytes r
-  atToken : length bytes ≤ maxReportBytes → every listed bytes ≡ true → (run : RunOfTokens bytes) → StopsAt set (run .tokens) r → Refused set bytes r
-  atEnd : r ≡ notOneRoot → length bytes ≤ maxReportBytes → every listed bytes ≡ true → (run : RunOfTokens bytes) → (m : State)
-      → fileTokens set (fresh set) (run .tokens) ≡ filed m → unfinished m ≡ true → Refused set bytes r
-
--- when it is filed, and with which machine
-pub record FiledWith (set : FolderSet) (bytes : List ℕ) (m : State) : Type 0 where
-  pub short : length bytes ≤ maxReportBytes
-  pub run : RunOfTokens bytes
-  pub taken : fileTokens set (fresh set) (run .tokens) ≡ filed m
-  pub finished : unfinished m ≡ false

@@ -7,7 +7,6 @@ pub mod Printed
 pub mod Filer
 pub mod Filing
 pub mod ReportRefusals
-pub mod FileCall
 pub mod Listing
 pub mod Listed
 pub mod NamePart

@@ -50,8 +50,8 @@ pub record PrintedFor (s : FolderSet) (report bytes : List ℕ) : Type 0 where
 
 -- of any report: what is filed, or the refusal's number alone
 pub data PrintedOf (s : FolderSet) (report : List ℕ) : List ℕ → Type 0 where
-  itsNumber : {r : Refusal} → Refused s report r → PrintedOf s report (refusedLine (numberOf r))
-  itsListing : {m : State} {bytes : List ℕ} → FiledWith s report m → PrintedFor s report bytes → PrintedOf s report bytes
+  itsNumber : (r : Refusal) → Refused s report r → PrintedOf s report (refusedLine (numberOf r))
+  itsListing : {bytes : List ℕ} (m : State) → FiledWith s report m → PrintedFor s report bytes → PrintedOf s report bytes
 
 -- of any text: the number of the set's refusal, or what filing the report with the set prints. There is exactly one such
 pub data PrintedText (text report : List ℕ) : List ℕ → Type 0 where

@@ -18,6 +18,7 @@ use text::refusals::NOT_ONE_ROOT;
 use text::refusals::SYNTAX_ERROR;
 use text::refusals::TOO_LARGE;
 ghost use mathlib.Core.Path.{_≡_};
+ghost use mathlib.Core.List.{[]};
 ghost use Prim.Native.Nat.{_≤_, _<_};
 ghost use lib.ListN.{length, drop};
 ghost use Rattle.text.specs.Answers.{numberSaid};
@@ -25,14 +26,14 @@ ghost use Rattle.stored.specs.Answers.{openedSays};
 ghost use Rattle.stored.specs.Run.{runSize};
 ghost use Rattle.stored.specs.RunCalls.{startRun, noCounters};
 ghost use Rattle.stored.specs.Openable.{Usable};
-ghost use Rattle.stored.specs.Demand3.{started};
+ghost use Rattle.stored.specs.Demand3.{Left, started};
 ghost use Rattle.documents.specs.Reading.{readToken, readReport};
 ghost use Rattle.filing.specs.Seen.{foundOf};
 ghost use Rattle.filing.specs.Code.Seen.{tagName};
-ghost use Rattle.filing.specs.FileCall.{thenGo, openOutcome, closeOutcome, textOutcome};
-ghost use Rattle.filing.specs.ReportRefusals.{Files};
-ghost use Rattle.filing.specs.Code.FileCall.{endOutcome, runOutcome, reportOutcome};
-ghost use Rattle.filing.specs.Code.Taking.{so, Takes, Leaves, foundOutcome, noTokenAt, runFrom};
+ghost use Rattle.filing.specs.Filing.{Outcome, filed, andThen};
+ghost use Rattle.filing.specs.ReportRefusals.{storedMachine, Files};
+ghost use Rattle.filing.specs.Code.Filing.{fileReport};
+ghost use Rattle.filing.specs.Code.Taking.{Told, Takes, Leaves, fileOpen, fileClose, fileText, fileFound, fileLast, noTokenAt, runFrom};
 
 // What calls answer: the refusal, 0 for none, and the counters after them.
 pub struct Taken {
@@ -70,7 +71,7 @@ fn of_open(answer: Opened, c: Counters) -> Taken
 
 fn take_open(a: &[u8], run: &mut [u8], c: Counters, e: &[u8]) -> Taken
     requires { ⌜ Usable (now a) (now run) c ⌝ }
-    ensures { λ r. ⌜ Takes (now (a .entry)) (now (run .entry)) (openOutcome (now (a .entry)) (record { bytes = now (run .entry); counters = c }) (now (e .entry))) (r .refusal) (now (run .exit)) (r .counters) ⌝ }
+    ensures { λ r. ⌜ Takes (now (a .entry)) (now (run .entry)) (fileOpen (now (a .entry)) (record { bytes = now (run .entry); counters = c }) (now (e .entry))) (r .refusal) (now (run .exit)) (r .counters) ⌝ }
 {
     let done = open_usable(a, run, c, e);
     let answer = done.answer;
@@ -80,7 +81,7 @@ fn take_open(a: &[u8], run: &mut [u8], c: Counters, e: &[u8]) -> Taken
 
 fn take_close(a: &[u8], run: &mut [u8], c: Counters, e: &[u8]) -> Taken
     requires { ⌜ Usable (now a) (now run) c ⌝ }
-    ensures { λ r. ⌜ Takes (now (a .entry)) (now (run .entry)) (closeOutcome (now (a .entry)) (record { bytes = now (run .entry); counters = c }) (now (e .entry))) (r .refusal) (now (run .exit)) (r .counters) ⌝ }
+    ensures { λ r. ⌜ Takes (now (a .entry)) (now (run .entry)) (fileClose (now (a .entry)) (record { bytes = now (run .entry); counters = c }) (now (e .entry))) (r .refusal) (now (run .exit)) (r .counters) ⌝ }
 {
     let done = close_usable(a, run, c, e);
     let counters = done.counters;
@@ -93,7 +94,7 @@ fn take_close(a: &[u8], run: &mut [u8], c: Counters, e: &[u8]) -> Taken
 // An empty-element tag: an open and a close.
 fn take_empty(a: &[u8], run: &mut [u8], c: Counters, e: &[u8]) -> Taken
     requires { ⌜ Usable (now a) (now run) c ⌝ }
-    ensures { λ r. ⌜ Takes (now (a .entry)) (now (run .entry)) (thenGo (openOutcome (now (a .entry)) (record { bytes = now (run .entry); counters = c }) (now (e .entry))) (λ t. closeOutcome (now (a .entry)) t (now (e .entry)))) (r .refusal) (now (run .exit)) (r .counters) ⌝ }
+    ensures { λ r. ⌜ Takes (now (a .entry)) (now (run .entry)) (andThen (fileOpen (now (a .entry)) (record { bytes = now (run .entry); counters = c }) (now (e .entry))) (λ t. fileClose (now (a .entry)) t (now (e .entry)))) (r .refusal) (now (run .exit)) (r .counters) ⌝ }
 {
     let opened = take_open(a, run, c, e);
     if opened.refusal != 0 {
@@ -105,7 +106,7 @@ fn take_empty(a: &[u8], run: &mut [u8], c: Counters, e: &[u8]) -> Taken
 
 // Text outside the root is blank.
 fn take_text(run: &[u8], c: Counters, all: bool) -> Taken
-    ensures { λ r. ⌜ so (r .refusal) (now (run .entry)) (r .counters) ≡ textOutcome (record { bytes = now (run .entry); counters = c }) all ⌝ }
+    ensures { λ r. ⌜ Told (fileText (record { bytes = now (run .entry); counters = c }) all) (r .refusal) (now (run .entry)) (r .counters) ⌝ }
 {
     if all {
         return Taken {
@@ -125,7 +126,7 @@ fn take_text(run: &[u8], c: Counters, all: bool) -> Taken
 // One token, by what it is; e is its tag's name.
 fn take_token(a: &[u8], run: &mut [u8], c: Counters, f: Found, e: &[u8]) -> Taken
     requires { ⌜ Usable (now a) (now run) c ⌝ }
-    ensures { λ r. ⌜ Takes (now (a .entry)) (now (run .entry)) (foundOutcome (now (a .entry)) (record { bytes = now (run .entry); counters = c }) f (now (e .entry))) (r .refusal) (now (run .exit)) (r .counters) ⌝ }
+    ensures { λ r. ⌜ Takes (now (a .entry)) (now (run .entry)) (fileFound (now (a .entry)) (record { bytes = now (run .entry); counters = c }) f (now (e .entry))) (r .refusal) (now (run .exit)) (r .counters) ⌝ }
 {
     match f {
         Found::Start(_, _, _) => take_open(a, run, c, e),
@@ -150,7 +151,7 @@ fn take_token(a: &[u8], run: &mut [u8], c: Counters, f: Found, e: &[u8]) -> Take
 // Nothing more is taken once a token was refused.
 fn take_next(a: &[u8], run: &mut [u8], before: Taken, f: Found, e: &[u8]) -> Taken
     requires { ⌜ (before .refusal ≡ 0 → Usable (now a) (now run) (before .counters)) ⌝ }
-    ensures { λ r. ⌜ Takes (now (a .entry)) (now (run .entry)) (thenGo (so (before .refusal) (now (run .entry)) (before .counters)) (λ t. foundOutcome (now (a .entry)) t f (now (e .entry)))) (r .refusal) (now (run .exit)) (r .counters) ⌝ }
+    ensures { λ r. ⌜ ((o : Outcome Left) → Told o (before .refusal) (now (run .entry)) (before .counters) → Takes (now (a .entry)) (now (run .entry)) (andThen o (λ t. fileFound (now (a .entry)) t f (now (e .entry)))) (r .refusal) (now (run .exit)) (r .counters)) ⌝ }
 {
     if before.refusal != 0 {
         return before;
@@ -162,7 +163,7 @@ fn take_next(a: &[u8], run: &mut [u8], before: Taken, f: Found, e: &[u8]) -> Tak
 // The same of the token at an offset, which has its name there.
 fn take_at(a: &[u8], run: &mut [u8], before: Taken, s: &[u8], at: usize, f: Found) -> Taken
     requires { ⌜ (f ≡ foundOf (length (now s)) at (readToken (drop at (now s)))) × (before .refusal ≡ 0 → Usable (now a) (now run) (before .counters)) ⌝ }
-    ensures { λ r. ⌜ Takes (now (a .entry)) (now (run .entry)) (thenGo (so (before .refusal) (now (run .entry)) (before .counters)) (λ t. foundOutcome (now (a .entry)) t f (tagName (readToken (drop at (now (s .entry))))))) (r .refusal) (now (run .exit)) (r .counters) ⌝ }
+    ensures { λ r. ⌜ ((o : Outcome Left) → Told o (before .refusal) (now (run .entry)) (before .counters) → Takes (now (a .entry)) (now (run .entry)) (andThen o (λ t. fileFound (now (a .entry)) t f (tagName (readToken (drop at (now (s .entry))))))) (r .refusal) (now (run .exit)) (r .counters)) ⌝ }
 {
     let p = name_span(f);
     let from = p.from;
@@ -186,7 +187,7 @@ fn no_token_at(f: Found, at: usize) -> bool
 // The tokens in order from a fresh run: the first refusal of a token is kept, and the rest is only read, for 9.
 fn take_tokens(a: &[u8], run: &mut [u8], s: &[u8]) -> Taken
     requires { ⌜ Usable (now a) (now run) noCounters ⌝ }
-    ensures { λ r. ⌜ Takes (now (a .entry)) (now (run .entry)) (runFrom (now (a .entry)) (so 0 (now (run .entry)) noCounters) (readReport (now (s .entry)))) (r .refusal) (now (run .exit)) (r .counters) ⌝ }
+    ensures { λ r. ⌜ Takes (now (a .entry)) (now (run .entry)) (runFrom (now (a .entry)) (filed (record { bytes = now (run .entry); counters = noCounters })) (readReport (now (s .entry)))) (r .refusal) (now (run .exit)) (r .counters) ⌝ }
 {
     let mut taken = with_none(0);
     let mut i = 0;
@@ -203,7 +204,7 @@ fn take_tokens(a: &[u8], run: &mut [u8], s: &[u8]) -> Taken
 
 // The report's end: there was a root, and nothing is open.
 fn take_end(run: &[u8], before: Taken) -> Taken
-    ensures { λ r. ⌜ so (r .refusal) (now (run .entry)) (r .counters) ≡ thenGo (so (before .refusal) (now (run .entry)) (before .counters)) endOutcome ⌝ }
+    ensures { λ r. ⌜ ((o : Outcome Left) → Told o (before .refusal) (now (run .entry)) (before .counters) → Told (andThen o fileLast) (r .refusal) (now (run .entry)) (r .counters)) ⌝ }
 {
     if before.refusal != 0 {
         return before;
@@ -221,7 +222,7 @@ fn take_end(run: &[u8], before: Taken) -> Taken
 // A refused report leaves a fresh run.
 fn fresh_after(a: &[u8], run: &mut [u8], done: Taken) -> Taken
     requires { ⌜ runSize ≤ length (now run) ⌝ }
-    ensures { λ r. ⌜ Leaves (started (now (a .entry)) (now (run .entry))) (so (done .refusal) (now (run .entry)) (done .counters)) (r .refusal) (now (run .exit)) (r .counters) ⌝ }
+    ensures { λ r. ⌜ ((o : Outcome Left) → Told o (done .refusal) (now (run .entry)) (done .counters) → Leaves (started (now (a .entry)) (now (run .entry))) o (r .refusal) (now (run .exit)) (r .counters)) ⌝ }
 {
     if done.refusal == 0 {
         return done;
@@ -233,7 +234,7 @@ fn fresh_after(a: &[u8], run: &mut [u8], done: Taken) -> Taken
 // The tokens and the end, from a fresh run.
 fn take_run(a: &[u8], run: &mut [u8], s: &[u8]) -> Taken
     requires { ⌜ (Usable (now a) (now run) noCounters) × (startRun (now a) (now run) ≡ now run) ⌝ }
-    ensures { λ r. ⌜ Leaves (record { bytes = now (run .entry); counters = noCounters }) (runOutcome (now (a .entry)) (record { bytes = now (run .entry); counters = noCounters }) (readReport (now (s .entry)))) (r .refusal) (now (run .exit)) (r .counters) ⌝ }
+    ensures { λ r. ⌜ Leaves (record { bytes = now (run .entry); counters = noCounters }) (andThen (runFrom (now (a .entry)) (filed (record { bytes = now (run .entry); counters = noCounters })) (readReport (now (s .entry)))) fileLast) (r .refusal) (now (run .exit)) (r .counters) ⌝ }
 {
     let taken = take_tokens(a, run, s);
     let ended = take_end(run, taken);
@@ -243,7 +244,7 @@ fn take_run(a: &[u8], run: &mut [u8], s: &[u8]) -> Taken
 // 2 and 8 come before the tokens.
 fn file_fresh(a: &[u8], run: &mut [u8], s: &[u8]) -> Taken
     requires { ⌜ (Usable (now a) (now run) noCounters) × (startRun (now a) (now run) ≡ now run) ⌝ }
-    ensures { λ r. ⌜ Leaves (record { bytes = now (run .entry); counters = noCounters }) (reportOutcome (now (a .entry)) (record { bytes = now (run .entry); counters = noCounters }) (now (s .entry))) (r .refusal) (now (run .exit)) (r .counters) ⌝ }
+    ensures { λ r. ⌜ Leaves (record { bytes = now (run .entry); counters = noCounters }) (fileReport (storedMachine (now (a .entry))) (record { bytes = now (run .entry); counters = noCounters }) [] (now (s .entry))) (r .refusal) (now (run .exit)) (r .counters) ⌝ }
 {
     if s.len() > MAX_REPORT {
         return with_none(TOO_LARGE);

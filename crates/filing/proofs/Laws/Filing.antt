@@ -1,5 +1,4 @@
 pub mod FilingParts
-pub mod FilingTokens
 pub mod FilingOrder
 pub mod FilingRun
 pub mod FilingAdded
@@ -9,7 +8,6 @@ pub mod Demand2
 pub mod Taking
 pub mod FilingStored
 pub mod FilingAlike
-pub mod FilingNumbers
 pub mod FilingOpens
 pub mod BuiltSet
 pub mod FromBytes

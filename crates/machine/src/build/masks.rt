@@ -15,7 +15,7 @@ ghost use mathlib.Core.Bool.{true};
 ghost use Prim.Native.Nat.{_+_, _*_, _≤_, _<_};
 ghost use lib.ListN.{length};
 ghost use Rattle.stored.specs.Automaton.{automatonSize, maskSize, bit};
-ghost use Rattle.stored.specs.Code.Masks.{flaged, axisMask, flagRole, flagStep, flagSteps, flagPath, withMasks, childAt, rooted, anyRooted, withStart};
+ghost use Rattle.stored.specs.Code.Masks.{flagged, axisMask, flagRole, flagStep, flagSteps, flagPath, withMasks, childAt, rooted, anyRooted, withStart};
 ghost use Rattle.notation.specs.Reads.{stepAt, pathCount};
 
 const STEP_BITS: usize = 8 * MASK_SIZE;
@@ -23,7 +23,7 @@ const STEP_BITS: usize = 8 * MASK_SIZE;
 // Bit i of mask m.
 fn flag(part: &mut [u8], on: bool, m: usize, i: usize)
     requires { ⌜ (m < 6) × (i < 8 * maskSize) × (automatonSize ≤ length (now part)) ⌝ }
-    ensures { λ _. ⌜ now (part .exit) ≡ flaged on m i (now (part .entry)) ⌝ }
+    ensures { λ _. ⌜ now (part .exit) ≡ flagged on m i (now (part .entry)) ⌝ }
 {
     if on {
         let j = STEP_BITS * m + i;

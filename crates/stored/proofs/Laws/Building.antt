@@ -6,7 +6,7 @@ pub mod Parents
 pub mod Growing
 pub mod Staged
 pub mod Fails
-pub mod Flaging
+pub mod Flagging
 pub mod Masked
 pub mod Started
 pub mod Finished

@@ -9,7 +9,7 @@ pub mod OpenBits
 pub mod Opening
 pub mod Starting
 pub mod Written
-pub mod Flaged
+pub mod Flagged
 pub mod Answered
 pub mod OpenName
 pub mod Asking

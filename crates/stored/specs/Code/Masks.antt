@@ -14,8 +14,8 @@ use Rattle.stored.specs.Bits.{withBit}
 use Rattle.stored.specs.Automaton.{maskSize, masksAt, startAt, bit}
 
 -- bit i of mask m is set if `on`
-unfoldable pub flaged : Bool → ℕ → ℕ → List ℕ → List ℕ
-flaged on m i part =
+unfoldable pub flagged : Bool → ℕ → ℕ → List ℕ → List ℕ
+flagged on m i part =
     let at = masksAt + (8 * maskSize * m + i) / 8 in
     cond on (set part at (withBit (getD part at 0) ((8 * maskSize * m + i) % 8))) part
 
@@ -28,7 +28,7 @@ axisMask false false = 1
 
 -- a step in the masks
 unfoldable pub flagRole : ℕ → Bool → Bool → Bool → Bool → List ℕ → List ℕ
-flagRole i deep star first last part = flaged last 5 i (flaged true (axisMask first deep) i (flaged star 0 i part))
+flagRole i deep star first last part = flagged last 5 i (flagged true (axisMask first deep) i (flagged star 0 i part))
 
 abbrev pub flagStepAt : StepAt → ℕ → Bool → Bool → List ℕ → List ℕ
 flagStepAt (StepAt.Step deep star) i first last part = flagRole i deep star first last part

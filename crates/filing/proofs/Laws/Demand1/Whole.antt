@@ -13,7 +13,7 @@ use Rattle.notation.specs.Layout.{setSize}
 use Rattle.notation.specs.Reads.{textOf, pathAt, folderOf}
 use Rattle.notation.specs.ReadSet.{readInto}
 use Rattle.notation.specs.WriteText.{textConditions}
-use Rattle.text.proofs.Laws.Numbers.{one-refusal, number-within, some-number}
+use Rattle.text.proofs.Laws.Numbers.{one-refusal, number-within}
 use Rattle.text.specs.Order.{gives, given, AnswersBy}
 use Rattle.text.proofs.Laws.Tests.{cases}
 use Rattle.text.proofs.Laws.Order.{answers-by, given-none, given-cons}
@@ -27,13 +27,14 @@ use Rattle.stored.specs.Demand3.{Left, started}
 use Rattle.stored.proofs.Laws.Running.OpenName.{no-name}
 use Rattle.stored.specs.declared.counters.Counters.{Counters}
 use Rattle.text.specs.declared.written.Written.{Written}
-use Rattle.filing.specs.ReportRefusals.{RefusedReport, TakenReport, refusedLeft, Files}
+use Rattle.filing.specs.Filing.{Outcome, refused, filed, numberGiven}
+use Rattle.filing.specs.ReportRefusals.{ReportGives, ofLent, leftBy, Files}
 use Rattle.filing.specs.Listing.{refusedLine}
 use Rattle.filing.specs.Listed.{listingConditions, listingIn, refusedConditions}
 use Rattle.filing.specs.Filer.{tooSmall, Prints}
 use Rattle.filing.specs.Demand1.{ReportJudged, Demand1}
-use Rattle.filing.proofs.Laws.Demand1.ReportRefused.{file-decided}
-use Rattle.filing.proofs.Laws.Demand1.ReportFiles.{left-is}
+use Rattle.filing.proofs.Laws.Filing.FilingParts.{given-refused, given-filed}
+use Rattle.filing.proofs.Laws.Filing.FilingOrder.{report-only}
 use Rattle.filing.proofs.Laws.Listing.PrintedText.{printed-text-some}
 use Rattle.filing.proofs.Laws.Demand1.Sets.{set-judged}
 use Rattle.filing.proofs.Laws.Demand1.Calls.{given-is, kept, some-given, some-said, written-by}
@@ -44,50 +45,42 @@ alone b r = given-cons b r [] ∙ rw given-none
 
 -- a report
 module _ (a run : List ℕ) (c : Counters) (report : List ℕ) (answer : ℕ) (run' : List ℕ) (c' : Counters) (f : Files a run c report answer run' c') where
-  -- it is filed, or refused for a reason
-  data Outcome : Type 0 where
-    isTaken : (t : Left) → TakenReport a run report t → Outcome
-    isRefused : (r : Refusal) → RefusedReport a run report r → Outcome
+  why : (r : Refusal) → answer ≡ numberOf r → f .outcome ≡ refused r
+  why r e = given-refused (f .outcome) r (sym (f .answers) ∙ e)
 
-  outcome : Outcome
-  outcome = elim (file-decided a run report) [
-    | inl (z, (t, w)) ↦ isTaken t w
-    | inr (r, n, w) ↦ isRefused r w
-  ]
+  number : (o : Outcome Left) → ReportGives a run report o → answer ≡ numberGiven o
+  number o w = f .answers ∙ ap numberGiven (report-only a run report (f .outcome) o (f .given) w)
 
-  why : (r : Refusal) → answer ≡ numberOf r → Outcome → RefusedReport a run report r
-  why r e (isTaken t w) = absurd (some-number r (sym e ∙ f .takes t w .0))
-  why r e (isRefused q w) = subst (RefusedReport a run report) (one-refusal q r (sym (f .refuses q w .0) ∙ e)) w
+  taken : answer ≡ 0 → (t : Left) × ReportGives a run report (filed t)
+  taken e = let (t, is) = given-filed (f .outcome) (sym (f .answers) ∙ e) in (t, subst (ReportGives a run report) is (f .given))
 
-  taken : answer ≡ 0 → Outcome → (t : Left) × TakenReport a run report t
-  taken e (isTaken t w) = (t, w)
-  taken e (isRefused r w) = absurd (some-number r (sym (f .refuses r w .0) ∙ e))
-
-  either-of : Outcome → (answer ≡ 0) ⊎ ((r : Refusal) × (answer ≡ numberOf r))
-  either-of (isTaken t w) = inl (f .takes t w .0)
-  either-of (isRefused r w) = inr (r, f .refuses r w .0)
+  left-by : (r : Refusal) (t : Left) → f .outcome ≡ refused r → cond (ofLent r) (record { bytes = run; counters = c }) (started a run) ≡ t → (run' ≡ t .bytes) × (c' ≡ t .counters)
+  left-by r t e h =
+      let all : leftBy a run c (f .outcome) ≡ t = ap (leftBy a run c) e ∙ h in
+      (f .runAfter ∙ ap (λ (t : Left). t .bytes) all, f .countersAfter ∙ ap (λ (t : Left). t .counters) all)
 
   left-untouched : (answer ≡ numberOf shortBuffer) ⊎ (answer ≡ numberOf badShape) → (run' ≡ run) × (c' ≡ c)
-  left-untouched (inl e) = f .refuses shortBuffer (why shortBuffer e outcome) .1
-  left-untouched (inr e) = f .refuses badShape (why badShape e outcome) .1
+  left-untouched (inl e) = left-by shortBuffer (record { bytes = run; counters = c }) (why shortBuffer e) refl
+  left-untouched (inr e) = left-by badShape (record { bytes = run; counters = c }) (why badShape e) refl
 
-  left-own : (r : Refusal) → (numberOf r ≡ numberOf shortBuffer → ⊥) → (numberOf r ≡ numberOf badShape → ⊥) → refusedLeft a run c r ≡ started a run
-  left-own r h k = left-is a run c r ∙ rw (ne-eqb (numberOf r) (numberOf shortBuffer) h, ne-eqb (numberOf r) (numberOf badShape) k)
+  -- it is filed, or refused
+  either-of : (o : Outcome Left) → f .outcome ≡ o → (answer ≡ 0) ⊎ ((r : Refusal) × (answer ≡ numberOf r) × (f .outcome ≡ refused r))
+  either-of (refused r) e = inr (r, f .answers ∙ ap numberGiven e, e)
+  either-of (filed t) e = inl (f .answers ∙ ap numberGiven e)
 
-  left-fresh : (answer ≡ numberOf shortBuffer → ⊥) → (answer ≡ numberOf badShape → ⊥) → (answer ≡ 0 → ⊥) → Outcome → (run' ≡ startRun a run) × (c' ≡ noCounters)
-  left-fresh h k n (isTaken t w) = absurd (n (f .takes t w .0))
-  left-fresh h k n (isRefused r w) =
-      let (is, (p, q)) = f .refuses r w in
-      let l = left-own r (λ x. h (is ∙ x)) (λ x. k (is ∙ x)) in
-      (p ∙ ap (λ (t : Left). t .bytes) l, q ∙ ap (λ (t : Left). t .counters) l)
+  left-fresh : (answer ≡ numberOf shortBuffer → ⊥) → (answer ≡ numberOf badShape → ⊥) → (answer ≡ 0 → ⊥) → (run' ≡ startRun a run) × (c' ≡ noCounters)
+  left-fresh h k n = elim (either-of (f .outcome) refl) [
+    | inl e ↦ absurd (n e)
+    | inr (r, is, e) ↦ left-by r (started a run) e (rw (ne-eqb (numberOf r) (numberOf shortBuffer) (λ x. h (is ∙ x)), ne-eqb (numberOf r) (numberOf badShape) (λ x. k (is ∙ x))))
+  ]
 
   report-judged : ReportJudged a run c report answer run' c'
   report-judged = record {
-    refusals = λ r. (λ e. why r e outcome, λ w. f .refuses r w .0);
-    accepted = (λ e. taken e outcome, λ t. f .takes (t .0) (t .1) .0);
-    either = either-of outcome;
+    refusals = λ r. (λ e. subst (ReportGives a run report) (why r e) (f .given), number (refused r));
+    accepted = (taken, λ t. number (filed (t .0)) (t .1));
+    either = elim (either-of (f .outcome) refl) [ inl e ↦ inl e | inr (r, is, e) ↦ inr (r, is) ];
     untouched = left-untouched;
-    fresh = λ h k n. left-fresh h k n outcome;
+    fresh = left-fresh;
   }
 
 -- the program's one call

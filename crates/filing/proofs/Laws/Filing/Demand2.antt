@@ -2,7 +2,8 @@
 use Prim.Native.Nat.{ℕ, _≤_}
 use mathlib.Core.Path.{_≡_, refl, sym, ap, _∙_, subst}
 use mathlib.Core.Logic.{_↔_}
-use mathlib.Core.Bool.{true, false, _||_, true≢false}
+use mathlib.Core.Bool.{true, false, not, _||_, true≢false}
+use mathlib.Core.Option.{none}
 use mathlib.Core.List.{List, [], _∷_}
 use lib.Dec.{eqb}
 use lib.ListN.{length}
@@ -12,6 +13,8 @@ use Rattle.text.specs.Lists.{nonEmpty, any}
 use Rattle.notation.specs.Sets.{FolderSet}
 use Rattle.notation.specs.Activity.{fits}
 use Rattle.notation.proofs.Laws.Meaning.Fit.{fits-is}
+use Rattle.text.specs.Refusals.{notOneRoot}
+use Rattle.text.specs.Order.{first}
 use Rattle.theory.specs.Calls.{Call, Level, State, openNames, pathAt, fresh, run}
 use Rattle.theory.specs.Folders.{folderMatched}
 use Rattle.theory.specs.Elements.{elementsOf, childlessDepths}
@@ -20,17 +23,20 @@ use Rattle.text.proofs.Laws.Lists.{any-is, is-any}
 use Rattle.theory.proofs.Laws.Machine.Folders.{folder-matched}
 use Rattle.theory.proofs.Laws.Machine.Sound.{Sound, sound}
 use Rattle.theory.proofs.Laws.Machine.Whole.{whole}
+use Rattle.documents.specs.Tokens.{RunOfTokens}
 use Rattle.documents.specs.Document.{Event, eventsOf, TreeOf, Report, documentIn}
 use Rattle.documents.specs.Code.Events.{passed, passedIn}
 use Rattle.documents.specs.NameList.{nameLists}
-use Rattle.filing.specs.Filing.{filed, fileEvents, callsIn, allAccepted, FiledWith}
+use Rattle.filing.specs.Filing.{filed, endOrder, fileEvents, fileEnd, sharedMachine, FiledWith, callsIn, allAccepted}
+use Rattle.filing.specs.Code.Filing.{fileWith}
 use Rattle.filing.specs.Demand2.{countIn, childlessIn, SelectsElement, FolderSelects, OfDocument, Demand2}
 use Rattle.text.proofs.Laws.Tests.{neither}
 use Rattle.documents.proofs.Laws.Trees.Balance.{balanced-is}
 use Rattle.documents.proofs.Laws.Trees.Passed.{passed-is}
 use Rattle.documents.proofs.Laws.Trees.OneDocument.{one-document, report-selects}
-use Rattle.filing.proofs.Laws.Filing.FilingOrder.{refused-is, filed-is}
-use Rattle.filing.proofs.Laws.Filing.FilingRun.{tokens-events, taken-after, taken-accepted, fresh-balanced, taken-matched, taken-opens}
+use Rattle.filing.proofs.Laws.Filing.FilingParts.{unmet, unless-filed, both-filed}
+use Rattle.filing.proofs.Laws.Filing.FilingOrder.{filed-run, filing-is, filing-only}
+use Rattle.filing.proofs.Laws.Filing.FilingRun.{taken-after, taken-accepted, fresh-balanced, taken-matched, taken-opens}
 use Rattle.filing.proofs.Laws.Filing.FilingChildless.{count-in, calls-childless}
 use Rattle.filing.proofs.Laws.Filing.FilingAdded.{added}
 
@@ -46,32 +52,45 @@ fresh-opens : (set : FolderSet) → fresh set .opens ≡ 0
 unfolding fresh
 fresh-opens set = refl
 
-none-open : (l : List Level) → nonEmpty l ≡ false → length l ≡ 0
+none-open : (l : List Level) → not (not (nonEmpty l)) ≡ false → length l ≡ 0
 none-open [] h = refl
 none-open (x ∷ l) h = absurd (true≢false h)
 
 module _ (set : FolderSet) (bytes : List ℕ) (m : State) (f : FiledWith set bytes m) where
-  filed-events : fileEvents set (fresh set) (eventsOf (f .run .tokens)) ≡ filed m
-  filed-events = sym (tokens-events set (f .run .tokens) (fresh set)) ∙ f .taken
+  tokens-run : RunOfTokens bytes
+  tokens-run = filed-run set bytes m f .0
 
-  tree : TreeOf (f .run .tokens)
-  tree = balanced-is (f .run .tokens) .0 (fresh-balanced set (eventsOf (f .run .tokens)) m filed-events (f .finished))
+  abbrev events : List Event
+  events = eventsOf (tokens-run .tokens)
+
+  ended : (fileEvents (sharedMachine set) (fresh set) events ≡ filed m) × (first (endOrder (sharedMachine set) m) ≡ none)
+  unfolding tokens-run
+  ended =
+      let (n, k, g) = both-filed (fileEvents (sharedMachine set) (fresh set) events) (fileEnd (sharedMachine set)) m (filed-run set bytes m f .1) in
+      let (u, is) = unless-filed (first (endOrder (sharedMachine set) n)) n m g in
+      (k ∙ ap filed is, ap (λ (x : State). first (endOrder (sharedMachine set) x)) (sym is) ∙ u)
+
+  filed-events : fileEvents (sharedMachine set) (fresh set) events ≡ filed m
+  filed-events = ended .0
+
+  tree : TreeOf (tokens-run .tokens)
+  tree = balanced-is (tokens-run .tokens) .0 (fresh-balanced set events m filed-events (ended .1))
 
   abbrev report : Report bytes
-  report = record { run = f .run; tree = tree }
+  report = record { run = tokens-run; tree = tree }
 
-  after-calls : run set (callsIn (eventsOf (f .run .tokens))) ≡ m
-  after-calls = taken-after set (eventsOf (f .run .tokens)) (fresh set) m filed-events
+  after-calls : run set (callsIn events) ≡ m
+  after-calls = taken-after set events (fresh set) m filed-events
 
-  all-taken : allAccepted set (fresh set) (callsIn (eventsOf (f .run .tokens))) ≡ true
-  all-taken = taken-accepted set (eventsOf (f .run .tokens)) (fresh set) m filed-events
+  all-taken : allAccepted set (fresh set) (callsIn events) ≡ true
+  all-taken = taken-accepted set events (fresh set) m filed-events
 
   -- matched: some passed list fits
   matched-passed : (place : ℕ) → m .matched place ≡ any (fits (pathAt set place)) (passedIn report)
   matched-passed place =
-      taken-matched set place (eventsOf (f .run .tokens)) (fresh set) m filed-events
-      ∙ fresh-matched set place (passed (openNames (fresh set)) (eventsOf (f .run .tokens)))
-      ∙ ap (λ (l : List Name). any (fits (pathAt set place)) (passed l (eventsOf (f .run .tokens)))) (fresh-names set)
+      taken-matched set place events (fresh set) m filed-events
+      ∙ fresh-matched set place (passed (openNames (fresh set)) events)
+      ∙ ap (λ (l : List Name). any (fits (pathAt set place)) (passed l events)) (fresh-names set)
 
   paths : (place : ℕ) → (m .matched place ≡ true) ↔ SelectsElement (documentIn report) (pathAt set place)
   paths place = (
@@ -95,19 +114,19 @@ module _ (set : FolderSet) (bytes : List ℕ) (m : State) (f : FiledWith set byt
 
   opens : m .opens ≡ countIn (documentIn report)
   opens =
-      let lists : passed (openNames (fresh set)) (eventsOf (f .run .tokens)) ≡ nameLists (documentIn report) =
-      ap (λ (l : List Name). passed l (eventsOf (f .run .tokens))) (fresh-names set) ∙ ap (passed []) (sym (tree .same)) ∙ passed-is (tree .nodes) in
-      omega (arith, taken-opens set (eventsOf (f .run .tokens)) (fresh set) m filed-events, fresh-opens set, ap length lists, count-in (documentIn report) [])
+      let lists : passed (openNames (fresh set)) events ≡ nameLists (documentIn report) =
+      ap (λ (l : List Name). passed l events) (fresh-names set) ∙ ap (passed []) (sym (tree .same)) ∙ passed-is (tree .nodes) in
+      omega (arith, taken-opens set events (fresh set) m filed-events, fresh-opens set, ap length lists, count-in (documentIn report) [])
 
   closes : m .closes ≡ countIn (documentIn report)
   closes =
-      let g : Sound set m = subst (Sound set) after-calls (sound set (callsIn (eventsOf (f .run .tokens)))) in
-      let shut : length (m .levels) ≡ 0 = none-open (m .levels) (neither (eqb (m .opens) 0) (nonEmpty (m .levels)) (f .finished) .1) in
+      let g : Sound set m = subst (Sound set) after-calls (sound set (callsIn events)) in
+      let shut : length (m .levels) ≡ 0 = none-open (m .levels) (neither (eqb (m .opens) 0) (not (not (nonEmpty (m .levels)))) (unmet _ notOneRoot [] (ended .1)) .1) in
       omega (arith, g .balance, shut, opens)
 
   moves : m .moves ≤ childlessIn 0 (documentIn report)
   moves =
-      let calls : List Call = callsIn (eventsOf (f .run .tokens)) in
+      let calls : List Call = callsIn events in
       let most : m .moves ≤ childlessDepths (elementsOf (acceptedCalls set calls)) =
       subst (λ (x : State). x .moves ≤ childlessDepths (elementsOf (acceptedCalls set calls))) after-calls (whole set calls .moves) in
       let same : childlessDepths (elementsOf (acceptedCalls set calls)) ≡ childlessIn 0 (documentIn report) =
@@ -130,8 +149,8 @@ module _ (set : FolderSet) (bytes : List ℕ) (m : State) (f : FiledWith set byt
 
 pub demand2 : (set : FolderSet) (bytes : List ℕ) → Demand2 set bytes
 demand2 set bytes = record {
-  refusals = refused-is set bytes;
-  filings = filed-is set bytes;
-  document = λ m h. of-document set bytes m (filed-is set bytes m .0 h);
-  adding = λ text larger acc has m h. added set larger text bytes acc has m h;
+  gives = (fileWith set bytes, filing-is set bytes (fileWith set bytes) .1 refl);
+  only = filing-only set bytes;
+  document = of-document set bytes;
+  adding = λ text larger acc has m f. added set larger text acc has bytes m f;
 }

@@ -1,113 +1,109 @@
--- Whether a report is filed hangs on no set: what one files, each files.
+-- Whether a report is refused, and with which number, hangs on no set: two sets' machines are after the same calls throughout.
 use Prim.Native.Nat.{ℕ}
 use mathlib.Core.Path.{_≡_, refl, sym, ap, _∙_}
-use mathlib.Core.Bool.{Bool, true, false, not, _&&_}
+use mathlib.Core.Bool.{Bool, true, false}
 use mathlib.Core.Option.{none}
-use mathlib.Core.List.{List, [], _∷_, _++_, map}
-use Rattle.text.specs.Names.{Name}
-use Rattle.text.specs.Lists.{every, nonEmpty}
-use Rattle.notation.specs.Sets.{FolderSet, folderNumber}
+use mathlib.Core.List.{List, [], _∷_, _++_, map, List·Memᴰ}
+use lib.ListN.{length, length-map}
+use Rattle.text.specs.Names.{Name, sameName}
+use Rattle.text.specs.Lists.{nonEmpty, any}
+use Rattle.notation.specs.Sets.{Folder, FolderSet, folderNumber}
 use Rattle.notation.specs.Accepted.{Accepted}
 use Rattle.notation.proofs.Laws.Refused.AcceptedSet.{accepted-faultless}
-use Rattle.theory.specs.Calls.{asLeft, Call, openCall, closeCall, Level, nameOf, State, fresh, refusal, accepted, step, after, run}
-use Rattle.theory.specs.Folders.{folderMatched, HasFolders}
-use Rattle.theory.proofs.Laws.Machine.Steps.{open-accepted-is, close-accepted-is, one-more}
+use Rattle.text.specs.Order.{first}
+use Rattle.theory.specs.Calls.{asLeft, Call, openCall, closeCall, Level, level, nameOf, State, fresh, isInnermost, refusal, accepted, done, after, run}
+use Rattle.theory.specs.Folders.{placesOf, folderMatched, HasFolders}
+use Rattle.theory.proofs.Laws.Machine.Steps.{open-accepted-is, close-accepted-is, step-accepted, one-more}
 use Rattle.theory.proofs.Laws.Machine.Alike.{run-alike, same-accepted}
 use Rattle.theory.proofs.Laws.Machine.Adding.{adding-folders}
-use Rattle.documents.specs.Tokens.{Token, blank}
-use Rattle.documents.specs.Document.{Event, opening, closing, textHere, commentHere, eventsOf}
-use Rattle.filing.specs.Filing.{filed, thenFile, fileCall, textOutside, fileEvents, fileTokens, callsIn, unfinished, fileReport, FiledWith}
+use Rattle.documents.specs.Document.{Event, opening, closing, textHere, commentHere}
+use Rattle.filing.specs.Filing.{Outcome, refused, filed, eventOrder, endOrder, eventLeaves, sharedMachine, FiledWith}
+use Rattle.filing.specs.Code.Filing.{fileWith}
 use Rattle.filing.specs.Demand2.{Added}
-use Rattle.filing.proofs.Laws.Filing.FilingOrder.{filed-is}
-use Rattle.filing.proofs.Laws.Filing.FilingRun.{tokens-events, taken, taken-after}
+use Rattle.filing.proofs.Laws.Filing.FilingOrder.{filing-is}
+use Rattle.filing.proofs.Laws.Filing.FilingAlike.{Alike, bothRefused, bothFiled, alike-filed, Similar, report-alike}
 
 some-names : (l : List Level) → nonEmpty (map nameOf l) ≡ nonEmpty l
 some-names [] = refl
 some-names (x ∷ l) = refl
 
+abbrev innermost : List Name → Name → Bool
+innermost [] e = false
+innermost (n ∷ outer) e = sameName n e
+
+innermost-names : (l : List Level) (e : Name) → isInnermost l e ≡ innermost (map nameOf l) e
+innermost-names [] e = refl
+innermost-names (level n w ∷ l) e = refl
+
 module _ (a b : FolderSet) where
-  pub same-open : (calls : List Call) → nonEmpty (run a calls .levels) ≡ nonEmpty (run b calls .levels)
-  same-open calls = sym (some-names (run a calls .levels)) ∙ ap nonEmpty (run-alike a b calls .names) ∙ some-names (run b calls .levels)
+  abbrev pub SameCalls : State → State → Type 0
+  SameCalls m n = (calls : List Call) × (m ≡ run a calls) × (n ≡ run b calls)
 
-  pub same-finished : (calls : List Call) → unfinished (run a calls) ≡ unfinished (run b calls)
-  same-finished calls = rw (run-alike a b calls .opens, same-open calls)
+  module _ (calls : List Call) where
+    same-open : nonEmpty (run a calls .levels) ≡ nonEmpty (run b calls .levels)
+    same-open = sym (some-names (run a calls .levels)) ∙ ap nonEmpty (run-alike a b calls .names) ∙ some-names (run b calls .levels)
 
-  abbrev Files : State → List Event → State → Type 0
-  Files m es n = (calls : List Call) → m ≡ run a calls → (n₂ : State) × (fileEvents b (run b calls) es ≡ filed n₂)
+    same-depth : length (run a calls .levels) ≡ length (run b calls .levels)
+    same-depth = sym (length-map (run a calls .levels) nameOf) ∙ ap length (run-alike a b calls .names) ∙ length-map (run b calls .levels) nameOf
 
-  -- one more call that both accept
-  more : (call : Call) (calls : List Call) (es : List Event) (n₂ : State) → refusal (run b calls) call ≡ none → fileEvents b (run b (calls ++ (call ∷ []))) es ≡ filed n₂
-      → thenFile (fileCall b (run b calls) call) (λ m₂. fileEvents b m₂ es) ≡ filed n₂
-  more call calls es n₂ ok f = rw ok (ap (λ (m : State). fileEvents b m es) (sym (one-more b calls call)) ∙ f)
+    same-innermost : (e : Name) → isInnermost (run a calls .levels) e ≡ isInnermost (run b calls .levels) e
+    same-innermost e =
+        innermost-names (run a calls .levels) e ∙ ap (λ (l : List Name). innermost l e) (run-alike a b calls .names) ∙ sym (innermost-names (run b calls .levels) e)
 
-  files-open : (m n : State) (e : Name) (es : List Event) → accepted m (openCall asLeft e) ≡ true → Files (step a m (openCall asLeft e)) es n → Files m (opening e ∷ es) n
-  unfolding fileEvents
-  files-open m n e es ok p calls is =
-      let call = openCall asLeft e in
-      let (n₂, f) = p (calls ++ (call ∷ [])) (ap (λ (x : State). step a x call) is ∙ sym (one-more a calls call)) in
-      let here : accepted (run b calls) call ≡ true = same-accepted b a calls call ∙ ap (λ (x : State). accepted x call) (sym is) ∙ ok in
-      (n₂, more call calls es n₂ (open-accepted-is (run b calls) e .0 here) f)
+    same-order : (e : Event) → first (eventOrder (sharedMachine a) (run a calls) e) ≡ first (eventOrder (sharedMachine b) (run b calls) e)
+    same-order (opening e) = rw (run-alike a b calls .root, run-alike a b calls .opens, same-depth)
+    same-order (closing e) = rw (same-open, same-innermost e)
+    same-order (textHere t) = rw same-open
+    same-order (commentHere t) = refl
 
-  files-close : (m n : State) (e : Name) (es : List Event) → accepted m (closeCall asLeft e) ≡ true → Files (step a m (closeCall asLeft e)) es n → Files m (closing e ∷ es) n
-  unfolding fileEvents
-  files-close m n e es ok p calls is =
-      let call = closeCall asLeft e in
-      let (n₂, f) = p (calls ++ (call ∷ [])) (ap (λ (x : State). step a x call) is ∙ sym (one-more a calls call)) in
-      let here : accepted (run b calls) call ≡ true = same-accepted b a calls call ∙ ap (λ (x : State). accepted x call) (sym is) ∙ ok in
-      (n₂, more call calls es n₂ (close-accepted-is (run b calls) e .0 here) f)
+    same-end : first (endOrder (sharedMachine a) (run a calls)) ≡ first (endOrder (sharedMachine b) (run b calls))
+    same-end = rw (run-alike a b calls .opens, same-open)
 
-  files-text : (m n : State) (t : List ℕ) (es : List Event) → textOutside m t ≡ false → Files m es n → Files m (textHere t ∷ es) n
-  unfolding fileEvents
-  files-text m n t es ok p calls is =
-      let (n₂, f) = p calls is in
-      let here : textOutside (run b calls) t ≡ false =
-      ap (λ (x : Bool). not x && not (every blank t)) (sym (same-open calls)) ∙ ap (λ (x : State). textOutside x t) (sym is) ∙ ok in
-      (n₂, rw here f)
+    -- one more call that both accept
+    more : (call : Call) → accepted (run a calls) call ≡ true → SameCalls (done a (run a calls) call) (done b (run b calls) call)
+    more call ok = (
+      calls ++ (call ∷ []),
+      sym (one-more a calls call ∙ step-accepted a (run a calls) call ok),
+      sym (one-more b calls call ∙ step-accepted b (run b calls) call (sym (same-accepted a b calls call) ∙ ok)),
+    )
 
-  files-comment : (m n : State) (t : List ℕ) (es : List Event) → Files m es n → Files m (commentHere t ∷ es) n
-  unfolding fileEvents
-  files-comment m n t es p = p
+    same-left : (e : Event) → first (eventOrder (sharedMachine a) (run a calls) e) ≡ none
+        → SameCalls (eventLeaves (sharedMachine a) (run a calls) e) (eventLeaves (sharedMachine b) (run b calls) e)
+    unfolding refusal
+    same-left (opening e) ok = more (openCall asLeft e) (open-accepted-is (run a calls) e .1 ok)
+    same-left (closing e) ok = more (closeCall asLeft e) (close-accepted-is (run a calls) e .1 ok)
+    same-left (textHere t) ok = (calls, refl, refl)
+    same-left (commentHere t) ok = (calls, refl, refl)
 
-  files-end : (n : State) → Files n [] n
-  unfolding fileEvents
-  files-end n calls is = (run b calls, refl)
+  similar : Similar (sharedMachine a) (sharedMachine b) SameCalls
+  similar = record {
+    refusals = λ m n x e. rw (x .1, x .2) (same-order (x .0) e);
+    leaves = λ m n x e ok. rw (x .1, x .2) (same-left (x .0) e (rw (x .1) at ok));
+    ends = λ m n x. rw (x .1, x .2) (same-end (x .0));
+  }
 
-  all-file : (es : List Event) (n : State) → fileEvents a (fresh a) es ≡ filed n → (n₂ : State) × (fileEvents b (fresh b) es ≡ filed n₂)
+  pub same-filing : (report : List ℕ) → Alike SameCalls (fileWith a report) (fileWith b report)
   unfolding after
-  all-file es n h = taken a Files files-end files-open files-close files-text files-comment es (fresh a) n h [] refl
+  same-filing report = report-alike _ _ similar [] report (fresh a) (fresh b) ([], refl, refl)
 
-  -- filed by one set, filed by the other, with the same tokens
-  pub filed-both : (bytes : List ℕ) (m : State) (f : FiledWith a bytes m) → (n : State) × (fileTokens b (fresh b) (f .run .tokens) ≡ filed n) × (fileReport b bytes ≡ filed n)
-  filed-both bytes m f =
-      let es = eventsOf (f .run .tokens) in
-      let one : fileEvents a (fresh a) es ≡ filed m = sym (tokens-events a (f .run .tokens) (fresh a)) ∙ f .taken in
-      let (n, other) = all-file es m one in
-      let same : fileTokens b (fresh b) (f .run .tokens) ≡ filed n = tokens-events b (f .run .tokens) (fresh b) ∙ other in (
-        n,
-        same,
-        filed-is b bytes n .1 (record {
-          short = f .short;
-          run = f .run;
-          taken = same;
-          finished =
-              ap unfinished (sym (taken-after b es (fresh b) n other)) ∙ sym (same-finished (callsIn es)) ∙ ap unfinished (taken-after a es (fresh a) m one) ∙ f .finished;
-        }),
-      )
+-- the machine at the end; a refused report leaves a fresh one
+abbrev pub endOf : FolderSet → Outcome State → State
+endOf s (refused r) = fresh s
+endOf s (filed m) = m
 
--- the machine at the end is that of the calls
-machine-after : (set : FolderSet) (ts : List Token) (m : State) → fileTokens set (fresh set) ts ≡ filed m → run set (callsIn (eventsOf ts)) ≡ m
-machine-after set ts m h = taken-after set (eventsOf ts) (fresh set) m (sym (tokens-events set ts (fresh set)) ∙ h)
+no-matches : (s : FolderSet) (l : List ℕ) → any (fresh s .matched) l ≡ false
+unfolding any fresh
+no-matches s [] = refl
+no-matches s (i ∷ l) = no-matches s l
 
-pub added : (set larger : FolderSet) (text bytes : List ℕ) → Accepted text larger → HasFolders larger set → (m : State) → fileReport set bytes ≡ filed m → Added set larger bytes m
-added set larger text bytes acc has m h =
-    let f = filed-is set bytes m .0 h in
-    let ts = f .run .tokens in
-    let (n, taken-too, is) = filed-both set larger bytes m f in
-    record {
-      machine = n;
-      isFiled = is;
-      same = λ x i.
-          ap (λ (s : State). folderMatched set s (folderNumber x)) (sym (machine-after set ts m (f .taken)))
-          ∙ adding-folders set larger has (accepted-faultless text larger acc) x i (callsIn (eventsOf ts))
-          ∙ ap (λ (s : State). folderMatched larger s (folderNumber x)) (machine-after larger ts n taken-too);
-    }
+-- adding folders
+module _ (set larger : FolderSet) (text : List ℕ) (acc : Accepted text larger) (has : HasFolders larger set) where
+  pub same-matched : (f : Folder) → List·Memᴰ f set → {o p : Outcome State} → Alike (SameCalls set larger) o p
+      → folderMatched set (endOf set o) (folderNumber f) ≡ folderMatched larger (endOf larger p) (folderNumber f)
+  same-matched f i (bothRefused r) = no-matches set (placesOf set (folderNumber f)) ∙ sym (no-matches larger (placesOf larger (folderNumber f)))
+  same-matched f i (bothFiled (calls, is, other)) = rw (is, other) (adding-folders set larger has (accepted-faultless text larger acc) f i calls)
+
+  pub added : (bytes : List ℕ) (m : State) → FiledWith set bytes m → Added set larger bytes m
+  added bytes m f =
+      let (n, h, c) = alike-filed (same-filing set larger bytes) m (filing-is set bytes (filed m) .0 f) in
+      record { machine = n; isFiled = filing-is larger bytes (filed n) .1 h; same = λ x i. same-matched x i (bothFiled c) }

@@ -1,28 +1,35 @@
 -- A report is too short for 65,535 elements: opens are left at each of its tokens, so it is never refused with 7; and which numbers it is
 -- refused with.
-use Prim.Native.Nat.{ℕ, _+_, _*_, _≤_}
-use mathlib.Core.Path.{_≡_, refl, sym, ap, _∙_}
-use mathlib.Core.Bool.{true, false}
+use Prim.Native.Nat.{ℕ, _+_, _*_, _≤_, _<_}
+use mathlib.Core.Path.{_≡_, refl, sym, ap, _∙_, subst}
+use mathlib.Core.Bool.{Bool, true, false, not, _||_, or-false}
+use mathlib.Core.Logic.{inl, inr}
+use mathlib.Core.Option.{none, some}
 use mathlib.Core.List.{List, [], _∷_, _++_, dropLast, List·Memᴰ}
+use lib.Dec.{eqb}
 use lib.ListN.{length, length-append}
-use borrow.Author.Tests.{lt-leb}
+use borrow.Author.Tests.{lt-leb, eqb-true}
 use native.Mathlib.Omega.{arith}
 use Rattle.text.specs.Names.{Name}
 use Rattle.notation.specs.Sets.{FolderSet}
-use Rattle.text.specs.Refusals.{Refusal, overCapacity, numberOf}
-use Rattle.text.specs.Lists.{any}
+use Rattle.text.specs.Refusals.{Refusal, tooLarge, invalidByte, syntaxError, overCapacity, numberOf}
+use Rattle.text.specs.Lists.{every, any}
 use Rattle.theory.specs.Limits.{maxOpens}
-use Rattle.theory.specs.Calls.{State, openNames, opensSpent, fresh}
+use Rattle.text.specs.Order.{Condition, holds, refusalOf, first}
+use Rattle.theory.specs.Calls.{State, openNames, opensSpent, fresh, refusal}
 use Rattle.text.proofs.Laws.Tests.{clash}
+use Rattle.text.proofs.Laws.Lists.{any-is}
+use Rattle.theory.proofs.Laws.Machine.Steps.{close-accepted-is, names-opened}
 use Rattle.documents.specs.Tokens.{Token, declaration, comment, startTag, emptyTag, endTag, text, printAttributes, printToken, printTokens, RunOfTokens}
-use Rattle.documents.specs.Document.{eventsOf}
+use Rattle.documents.specs.Document.{Event, opening, closing, textHere, commentHere, eventsOf}
 use Rattle.documents.specs.Code.Events.{passed}
 use Rattle.filing.specs.Limits.{maxReportBytes}
-use Rattle.filing.specs.Filing.{Filed, refused, filed, numberGiven, fileTokens, fileReport, Refused, tooMany, notListed, noRun, atToken, atEnd}
+use Rattle.filing.specs.Filing.{Outcome, refused, filed, numberGiven, eventOrder, endOrder, eventLeaves, fileEvents, fileEnd, fileTokens, Decided, sharedMachine, Refused}
 use Rattle.filing.specs.FiledReport.{reportNumbers}
-use Rattle.filing.proofs.Laws.Filing.FilingOrder.{refused-is}
-use Rattle.filing.proofs.Laws.Filing.FilingRun.{tokens-events, taken-opens}
-use Rattle.filing.proofs.Laws.Filing.FilingNumbers.{among, is-among, token-among}
+use Rattle.filing.specs.Code.Filing.{fileWith}
+use Rattle.filing.proofs.Laws.Filing.FilingParts.{first-has, unless-refused, either-refused, events-refused}
+use Rattle.filing.proofs.Laws.Filing.FilingOrder.{filing-is}
+use Rattle.filing.proofs.Laws.Filing.FilingRun.{close-names, opened-opens, closed-opens}
 
 -- what follows a tag's `<` is no shorter than the tag's end
 tag-length : (n a s end : List ℕ) → length end ≤ length (n ++ (a ++ (s ++ end)))
@@ -41,50 +48,84 @@ passed-short (emptyTag n l s ∷ ts) names =
 passed-short (endTag n s ∷ ts) names = omega (arith, passed-short ts (dropLast names), length-append (printToken (endTag n s)) (printTokens ts))
 passed-short (text ps ∷ ts) names = omega (arith, passed-short ts names, length-append (printToken (text ps)) (printTokens ts))
 
--- opens over tokens that are all taken
-pub tokens-open : (set : FolderSet) (ts : List Token) (m m₂ : State) → fileTokens set m ts ≡ filed m₂ → 2 * m₂ .opens ≤ 2 * m .opens + length (printTokens ts)
-tokens-open set ts m m₂ h = omega (arith, passed-short ts (openNames m), taken-opens set (eventsOf ts) m m₂ (sym (tokens-events set ts m) ∙ h))
+abbrev among : ℕ → Bool
+among n = any (λ k. eqb k n) reportNumbers
 
-front-length : (before later : List Token) → length (printTokens before) ≤ length (printTokens (before ++ later))
-unfolding printTokens
-front-length [] later = omega arith
-front-length (t ∷ before) later =
-    omega (arith, front-length before later, length-append (printToken t) (printTokens before), length-append (printToken t) (printTokens (before ++ later)))
+is-among : (n : ℕ) → among n ≡ true → List·Memᴰ n reportNumbers
+is-among n h =
+    let (k, i, e) = any-is (λ k. eqb k n) reportNumbers h in
+    subst (λ (x : ℕ). List·Memᴰ x reportNumbers) (eqb-true k n e) i
 
-module _ (set : FolderSet) (bytes : List ℕ) where
-  -- after any of a report's tokens: opens are at most half its bytes, and so are not spent
-  pub report-open : (run : RunOfTokens bytes) (before later : List Token) (m : State) → before ++ later ≡ run .tokens → fileTokens set (fresh set) before ≡ filed m
-      → 2 * m .opens ≤ length bytes
-  unfolding fresh
-  report-open run before later m e h =
-      omega (arith, tokens-open set before (fresh set) m h, front-length before later, ap (λ (ts : List Token). length (printTokens ts)) e, ap length (run .prints))
+-- opens are left while few enough are to come
+abbrev Few : State → List Event → Type 0
+Few m es = m .opens + length (passed (openNames m) es) < maxOpens
 
-  pub opens-left : length bytes ≤ maxReportBytes → (run : RunOfTokens bytes) (before later : List Token) (m : State) → before ++ later ≡ run .tokens
-      → fileTokens set (fresh set) before ≡ filed m → opensSpent m ≡ false
-  unfolding maxOpens maxReportBytes
-  opens-left short run before later m e h = lt-leb maxOpens (m .opens) (omega (arith, report-open run before later m e h))
+module _ (set : FolderSet) where
+  few-kept : (m : State) (e : Event) (es : List Event) → Few m (e ∷ es) → first (eventOrder (sharedMachine set) m e) ≡ none → Few (eventLeaves (sharedMachine set) m e) es
+  unfolding passed refusal
+  few-kept m (opening e) es p ok = omega (arith, opened-opens set m e, ap (λ (l : List Name). length (passed l es)) (names-opened set m e))
+  few-kept m (closing e) es p ok =
+      omega (arith, closed-opens (m .levels) m, ap (λ (l : List Name). length (passed l es)) (close-names set m e (close-accepted-is m e .1 ok)))
+  few-kept m (textHere b) es p ok = p
+  few-kept m (commentHere b) es p ok = p
 
-  refused-among : (r : Refusal) → Refused set bytes r → among (numberOf r) ≡ true
-  unfolding any
-  refused-among r (tooMany e h) = ap (λ (x : Refusal). among (numberOf x)) e
-  refused-among r (notListed e h l) = ap (λ (x : Refusal). among (numberOf x)) e
-  refused-among r (noRun e h l n) = ap (λ (x : Refusal). among (numberOf x)) e
-  refused-among r (atToken h l run stop) =
-      token-among (stop .token) (stop .state) r (opens-left h run (stop .before) (stop .token ∷ stop .later) (stop .state) (stop .joined) (stop .taken)) (stop .stops)
-  refused-among r (atEnd e h l run m taken u) = ap (λ (x : Refusal). among (numberOf x)) e
+  -- a condition whose number is among them, or that does not hold
+  abbrev allowed : Condition → Bool
+  allowed c = among (numberOf (refusalOf c)) || not (holds c)
 
-  pub never-full : Refused set bytes overCapacity → ⊥
-  unfolding any
-  never-full h = clash (refused-among overCapacity h) refl
+  order-among : (order : List Condition) (r : Refusal) → every allowed order ≡ true → first order ≡ some r → among (numberOf r) ≡ true
+  order-among order r h e = sym (or-false (among (numberOf r))) ∙ first-has allowed order r h e
 
-  pub full-never-given : fileReport set bytes ≡ refused overCapacity → ⊥
-  full-never-given e = never-full (refused-is set bytes overCapacity .0 e)
+  event-allowed : (m : State) (e : Event) → opensSpent m ≡ false → every allowed (eventOrder (sharedMachine set) m e) ≡ true
+  unfolding every any
+  event-allowed m (opening e) left = rw left
+  event-allowed m (closing e) left = refl
+  event-allowed m (textHere b) left = refl
+  event-allowed m (commentHere b) left = refl
 
-  -- the number given is 0 or one with which a report is refused
-  pub given-among : List·Memᴰ (numberGiven (fileReport set bytes)) reportNumbers
-  unfolding any
-  given-among = is-among (numberGiven (fileReport set bytes)) (go (fileReport set bytes) refl)
-    where
-      go : (x : Filed) → fileReport set bytes ≡ x → among (numberGiven x) ≡ true
-      go (refused r) e = refused-among r (refused-is set bytes r .0 e)
-      go (filed m) e = refl
+  event-among : (m : State) (e : Event) (es : List Event) (r : Refusal) → Few m (e ∷ es) → first (eventOrder (sharedMachine set) m e) ≡ some r → among (numberOf r) ≡ true
+  event-among m e es r p h = order-among (eventOrder (sharedMachine set) m e) r (event-allowed m e (lt-leb maxOpens (m .opens) (omega arith))) h
+
+  end-among : (m : State) (r : Refusal) → fileEnd (sharedMachine set) m ≡ refused r → among (numberOf r) ≡ true
+  unfolding every any
+  end-among m r h = order-among (endOrder (sharedMachine set) m) r refl (unless-refused _ m r h)
+
+  module _ (bytes : List ℕ) where
+    fresh-few : length bytes ≤ maxReportBytes → (run : RunOfTokens bytes) → Few (fresh set) (eventsOf (run .tokens))
+    unfolding fresh maxOpens maxReportBytes
+    fresh-few short run = omega (arith, passed-short (run .tokens) [], ap length (run .prints))
+
+    tokens-among : (r : Refusal) → length bytes ≤ maxReportBytes → (run : RunOfTokens bytes) → fileTokens (sharedMachine set) (fresh set) (run .tokens) ≡ refused r → among (numberOf r) ≡ true
+    tokens-among r short run h =
+        let es = eventsOf (run .tokens) in
+        either-refused (fileEvents (sharedMachine set) (fresh set) es) (fileEnd (sharedMachine set)) r h
+        (λ e. events-refused (sharedMachine set) Few (λ q. among (numberOf q)) event-among few-kept es (fresh set) r (fresh-few short run) e)
+        (λ m e. end-among m r e)
+
+    refused-among : (r : Refusal) → Refused set bytes r → among (numberOf r) ≡ true
+    unfolding any Decided
+    refused-among r h =
+        let is : (q : Refusal) → among (numberOf q) ≡ true → _≡_ {A = Outcome State} (refused r) (refused q) → among (numberOf r) ≡ true = λ q k e. let same : r ≡ q = cc in ap (λ (x : Refusal). among (numberOf x)) same ∙ k in
+        elim h [
+          | inl (l, e) ↦ is tooLarge refl e
+          | inr (short, d) ↦ elim d [
+            | inl (l, e) ↦ is invalidByte refl e
+            | inr (l, d) ↦ elim d [
+              | inl (l, e) ↦ is syntaxError refl e
+              | inr (l, (run, f)) ↦ tokens-among r (omega arith) run f
+            ]
+          ]
+        ]
+
+    pub never-full : Refused set bytes overCapacity → ⊥
+    unfolding any
+    never-full h = clash (refused-among overCapacity h) refl
+
+    -- the number given is 0 or one with which a report is refused
+    pub given-among : List·Memᴰ (numberGiven (fileWith set bytes)) reportNumbers
+    unfolding any
+    given-among = is-among (numberGiven (fileWith set bytes)) (go (fileWith set bytes) refl)
+      where
+        go : (x : Outcome State) → fileWith set bytes ≡ x → among (numberGiven x) ≡ true
+        go (refused r) e = refused-among r (filing-is set bytes (refused r) .1 e)
+        go (filed m) e = refl

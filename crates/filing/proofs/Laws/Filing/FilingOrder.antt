@@ -1,173 +1,146 @@
--- A report is refused with a number exactly when that number's condition holds and none before it in the order does; and is else filed.
-use Prim.Native.Nat.{ℕ, _≤_, _<_}
+-- What filing a report gives is what is computed: so every report has one outcome, and no other.
+use Prim.Native.Nat.{ℕ}
 use mathlib.Core.Path.{_≡_, refl, sym, ap, _∙_}
-use mathlib.Core.Logic.{_↔_}
-use mathlib.Core.Bool.{true, false}
-use mathlib.Core.List.{List, [], _∷_, _++_}
-use lib.Dec.{ltb}
+use mathlib.Core.Logic.{_↔_, inl, inr}
+use mathlib.Core.Bool.{Bool, true, false, not}
+use mathlib.Core.Option.{Option, none, some}
+use mathlib.Core.List.{List, [], _∷_, _++_, map}
 use lib.ListN.{length}
-use borrow.Author.Tests.{ltb-true, ltb-false, lt-ltb, le-ltb}
+use borrow.Author.Tests.{ltb-true, lt-ltb, not-true}
 use Rattle.text.specs.Lists.{every}
 use Rattle.notation.specs.Sets.{FolderSet}
-use Rattle.text.specs.Refusals.{Refusal, tooLarge, invalidByte, syntaxError, notOneRoot}
+use Rattle.text.specs.Refusals.{Refusal, syntaxError}
+use Rattle.text.specs.Order.{Condition, gives, refusalOf, FirstOf, first, given}
 use Rattle.theory.specs.Calls.{State, fresh}
-use Rattle.text.proofs.Laws.Tests.{cases}
+use Rattle.text.proofs.Laws.Tests.{clash}
+use Rattle.text.proofs.Laws.Order.{first-is, number-zero}
+use Rattle.stored.specs.RunCalls.{startConditions, startRefusal}
+use Rattle.stored.specs.Demand3.{Left, started}
 use Rattle.filing.specs.Limits.{maxReportBytes}
 use Rattle.documents.specs.Tokens.{Token, listed, RunOfTokens}
 use Rattle.text.specs.Read.{Read, fail, got}
 use Rattle.documents.specs.Reading.{readReport}
-use Rattle.documents.specs.Document.{eventsOfToken}
-use Rattle.filing.specs.Filing.{Filed, refused, filed, thenFile, fileEvents, fileTokens, unfinished, fileEnd, fileRun, fileReport, StopsAt, Refused, tooMany, notListed, noRun, atToken, atEnd, FiledWith}
-use Rattle.filing.proofs.Laws.Filing.FilingParts.{clash, first-refused, both-filed}
-use Rattle.filing.proofs.Laws.Filing.FilingTokens.{token-stops}
+use Rattle.documents.specs.Document.{Event, opening, closing, textHere, commentHere, eventsOf}
 use Rattle.documents.proofs.Laws.Read.ReadSound.{found-run, run-found, none-found}
-use Rattle.documents.proofs.Laws.Printed.AllListed.{run-listed}
+use Rattle.filing.specs.Filing.{Outcome, refused, filed, andThen, unless, Machine, eventOrder, endOrder, fileEvents, fileTokens, Reason, reason, reportOrder, Decided, OutcomeOf, sharedMachine, FilingGives, FiledWith}
+use Rattle.filing.specs.ReportRefusals.{storedMachine, tested, ReportGives, ofLent}
+use Rattle.filing.specs.Code.Filing.{isTorn, tokensIn, reportTests, fileReport, fileWith}
+use Rattle.filing.proofs.Laws.Filing.FilingParts.{clash as clash₀, unmet, later-unmet, first-then, first-before, first-has, unless-refused, either-refused, events-refused}
 
--- the first token that is refused, from any state
-record StopsFrom (set : FolderSet) (s : State) (ts : List Token) (r : Refusal) : Type 0 where
-  pub before : List Token
-  pub token : Token
-  pub later : List Token
-  pub joined : before ++ (token ∷ later) ≡ ts
-  pub state : State
-  pub taken : fileTokens set s before ≡ filed state
-  pub stops : fileEvents set state (eventsOfToken token) ≡ refused r
+-- an event, and the end, is refused with the first of its order whose condition holds
+pub refused-first : {S : Type 0} (order : List Condition) (s : S) (r : Refusal) → (unless (first order) s ≡ refused r) ↔ FirstOf order r
+refused-first order s r = (λ e. first-is order r .0 (unless-refused (first order) s r e), λ f. ap (λ (o : Option Refusal). unless o s) (first-is order r .1 f))
 
-find-stop : (set : FolderSet) (ts : List Token) (s : State) (r : Refusal) → fileTokens set s ts ≡ refused r → StopsFrom set s ts r
-unfolding fileTokens
-find-stop set [] s r e = clash (cc)
-find-stop set (t ∷ ts) s r e =
-    first-refused (fileEvents set s (eventsOfToken t)) (λ m. fileTokens set m ts) r (StopsFrom set s (t ∷ ts) r) e
-    (λ h. record { before = []; token = t; later = ts; joined = refl; state = s; taken = refl; stops = h })
-    (λ m h k.
-    let f = find-stop set ts m r k in
-    record {
-      before = t ∷ f .before;
-      token = f .token;
-      later = f .later;
-      joined = ap (_∷_ t) (f .joined);
-      state = f .state;
-      taken = ap (λ (x : Filed). thenFile x (λ m₂. fileTokens set m₂ (f .before))) h ∙ f .taken;
-      stops = f .stops;
-    })
+-- reasons, each with its test
+data Tests : List Reason → List Condition → Type 1 where
+  noTests : Tests [] []
+  test : {holds : Type 0} {b : Bool} {r : Refusal} {later : List Reason} {tests : List Condition} → (b ≡ true) ↔ holds → Tests later tests
+      → Tests (reason holds r ∷ later) (gives b r ∷ tests)
 
-stopped : (set : FolderSet) (before : List Token) (t : Token) (later : List Token) (s state : State) (r : Refusal)
-    → fileTokens set s before ≡ filed state → fileEvents set state (eventsOfToken t) ≡ refused r → fileTokens set s (before ++ (t ∷ later)) ≡ refused r
-unfolding fileTokens
-stopped set [] t later s state r e k =
-    let same : s ≡ state = cc in
-    rw (same, k)
-stopped set (u ∷ before) t later s state r e k =
-    let (m, h, g) = both-filed (fileEvents set s (eventsOfToken u)) (λ m. fileTokens set m before) state e in
-    rw h (stopped set before t later m state r g k)
+module _ {S : Type 0} (s : S) (k : S → Outcome S) (rest : Outcome S → Type 0) (o : Outcome S) where
+  decided : {order : List Reason} {tests : List Condition} → Tests order tests → (first tests ≡ none → rest o ↔ (k s ≡ o)) → Decided order rest o ↔ (andThen (unless (first tests) s) k ≡ o)
+  unfolding Decided first
+  decided noTests h = h refl
+  decided (test {b = true} i t) h = (
+    λ d. elim d [ inl (y, e) ↦ sym e | inr (n, e) ↦ absurd (n (i .0 refl)) ],
+    λ e. inl (i .0 refl, sym e),
+  )
+  decided (test {b = false} i t) h =
+      let later = decided t h in (
+        λ d. elim d [ inl (y, e) ↦ clash (i .1 y) refl | inr (n, e) ↦ later .0 e ],
+        λ e. inr (λ y. clash (i .1 y) refl, later .1 e),
+      )
 
--- the tokens are refused exactly where a first token is
-pub stops-is : (set : FolderSet) (ts : List Token) (r : Refusal) → (fileTokens set (fresh set) ts ≡ refused r) ↔ StopsAt set ts r
-stops-is set ts r = (
-  λ h.
-      let f = find-stop set ts (fresh set) r h in
-      record { before = f .before; token = f .token; later = f .later; joined = f .joined; state = f .state; taken = f .taken; stops = token-stops set (f .token) (f .state) r .0 (f .stops) },
-  λ f. ap (fileTokens set (fresh set)) (sym (f .joined)) ∙ stopped set (f .before) (f .token) (f .later) (fresh set) (f .state) r (f .taken) (token-stops set (f .token) (f .state) r .1 (f .stops)),
-)
+-- a filed report is a run of tokens that are all taken
+decided-filed : {S : Type 0} (rest : Outcome S → Type 0) (t : S) (order : List Reason) → Decided order rest (filed t) → rest (filed t)
+unfolding Decided
+decided-filed rest t [] d = d
+decided-filed rest t (reason holds r ∷ order) (inl (y, e)) = clash₀ (cc)
+decided-filed rest t (reason holds r ∷ order) (inr (n, d)) = decided-filed rest t order d
 
--- the end
-end-refused : (m : State) (r : Refusal) → fileEnd m ≡ refused r → (r ≡ notOneRoot) × (unfinished m ≡ true)
-unfolding fileEnd
-end-refused m r e = cases (unfinished m)
-    (λ u. let h : refused notOneRoot ≡ refused r = rw u at e in (cc, u))
-    (λ u. let h : filed m ≡ refused r = rw u at e in clash (cc))
+pub filed-run : (set : FolderSet) (report : List ℕ) (m : State) → FiledWith set report m → (run : RunOfTokens report) × (fileTokens (sharedMachine set) (fresh set) (run .tokens) ≡ filed m)
+filed-run set report m f = decided-filed _ m (reportOrder report) f
 
-end-filed : (m n : State) → fileEnd m ≡ filed n → (m ≡ n) × (unfinished m ≡ false)
-unfolding fileEnd
-end-filed m n e = cases (unfinished m)
-    (λ u. let h : refused notOneRoot ≡ filed n = rw u at e in clash (cc))
-    (λ u. let h : filed m ≡ filed n = rw u at e in (cc, u))
+both-tests : {order later : List Reason} {tests more : List Condition} → Tests order tests → Tests later more → Tests (order ++ later) (tests ++ more)
+both-tests noTests u = u
+both-tests (test i t) u = test i (both-tests t u)
 
-end-loose : (m : State) → unfinished m ≡ true → fileEnd m ≡ refused notOneRoot
-unfolding fileEnd
-end-loose m u = rw u
+tested-tests : (tests : List Condition) → Tests (map tested tests) tests
+tested-tests [] = noTests
+tested-tests (gives b r ∷ tests) = test (λ e. e, λ e. e) (tested-tests tests)
 
-end-whole : (m : State) → unfinished m ≡ false → fileEnd m ≡ filed m
-unfolding fileEnd
-end-whole m u = rw u
+no-run : (report : List ℕ) (x : Read (List Token)) → readReport report ≡ x → (isTorn x ≡ true) ↔ (RunOfTokens report → ⊥)
+no-run report fail e = (λ h. none-found report e, λ h. refl)
+no-run report (got ts r) e = (λ h. clash h refl, λ h. absurd (h (found-run report ts r e)))
 
-module _ (set : FolderSet) (bytes : List ℕ) where
-  -- a report that is short, of listed bytes, and a run of tokens
-  over-is : maxReportBytes < length bytes → fileReport set bytes ≡ refused tooLarge
-  unfolding fileReport
-  over-is h = rw (lt-ltb maxReportBytes (length bytes) h)
+report-tests : (report : List ℕ) → Tests (reportOrder report) (reportTests report)
+report-tests report =
+    test (ltb-true maxReportBytes (length report), lt-ltb maxReportBytes (length report))
+    (test (not-true (every listed report), λ h. ap not h)
+    (test (no-run report (readReport report) refl) noTests))
 
-  foreign-is : length bytes ≤ maxReportBytes → every listed bytes ≡ false → fileReport set bytes ≡ refused invalidByte
-  unfolding fileReport
-  foreign-is h l = rw (le-ltb maxReportBytes (length bytes) h, l)
+tokens-found : {S : Type 0} (k : Machine S) (s : S) (report : List ℕ) (o : Outcome S) (x : Read (List Token)) → readReport report ≡ x → isTorn x ≡ false
+    → ((run : RunOfTokens report) × (fileTokens k s (run .tokens) ≡ o)) ↔ (fileTokens k s (tokensIn x) ≡ o)
+tokens-found k s report o fail e h = clash refl h
+tokens-found k s report o (got ts r) e h =
+    let same : (run : RunOfTokens report) → ts ≡ run .tokens = λ run. let again = sym e ∙ run-found report run in cc in (
+      λ (run, f). ap (fileTokens k s) (same run) ∙ f,
+      λ f. let run = found-run report ts r e in (run, ap (fileTokens k s) (sym (same run)) ∙ f),
+    )
 
-  read-is : length bytes ≤ maxReportBytes → every listed bytes ≡ true → fileReport set bytes ≡ fileRun set (readReport bytes)
-  unfolding fileReport
-  read-is h l = rw (le-ltb maxReportBytes (length bytes) h, l)
+outcome-is : {S : Type 0} (k : Machine S) (s : S) {before : List Reason} (tests : List Condition) → Tests before tests → (report : List ℕ) (o : Outcome S)
+    → OutcomeOf k s before report o ↔ (fileReport k s tests report ≡ o)
+unfolding fileReport
+outcome-is k s tests t report o =
+    decided s (λ t. fileTokens k t (tokensIn (readReport report))) _ o (both-tests t (report-tests report))
+    (λ n. tokens-found k s report o (readReport report) refl (unmet _ syntaxError _ (later-unmet (_ ∷ _ ∷ []) _ (later-unmet tests (reportTests report) n))))
 
-  tokens-are : length bytes ≤ maxReportBytes → (run : RunOfTokens bytes) → fileReport set bytes ≡ thenFile (fileTokens set (fresh set) (run .tokens)) fileEnd
-  tokens-are h run = read-is h (run-listed bytes run) ∙ ap (fileRun set) (run-found bytes run)
+-- with the shared machine of a set, and on what is stored
+pub filing-is : (set : FolderSet) (report : List ℕ) (o : Outcome State) → FilingGives set report o ↔ (fileWith set report ≡ o)
+filing-is set report o = outcome-is _ (fresh set) [] noTests report o
 
-  none-is : length bytes ≤ maxReportBytes → every listed bytes ≡ true → (RunOfTokens bytes → ⊥) → (x : Read (List Token)) → readReport bytes ≡ x → fileReport set bytes ≡ refused syntaxError
-  none-is h l not-run fail e = read-is h l ∙ ap (fileRun set) e
-  none-is h l not-run (got ts r) e = absurd (not-run (found-run bytes ts r e))
+pub filing-only : (set : FolderSet) (report : List ℕ) (o p : Outcome State) → FilingGives set report o → FilingGives set report p → o ≡ p
+filing-only set report o p f g = sym (filing-is set report o .0 f) ∙ filing-is set report p .0 g
 
-  refused-by : (r : Refusal) → Refused set bytes r → fileReport set bytes ≡ refused r
-  refused-by r (tooMany e h) = over-is h ∙ ap refused (sym e)
-  refused-by r (notListed e h l) = foreign-is h l ∙ ap refused (sym e)
-  refused-by r (noRun e h l not-run) = none-is h l not-run (readReport bytes) refl ∙ ap refused (sym e)
-  refused-by r (atToken h l run stop) = tokens-are h run ∙ ap (λ (x : Filed). thenFile x fileEnd) (stops-is set (run .tokens) r .1 stop)
-  refused-by r (atEnd e h l run m taken u) = tokens-are h run ∙ ap (λ (x : Filed). thenFile x fileEnd) taken ∙ end-loose m u ∙ ap refused (sym e)
+pub report-is : (a run report : List ℕ) (o : Outcome Left) → ReportGives a run report o ↔ (fileReport (storedMachine a) (started a run) (startConditions a run) report ≡ o)
+report-is a run report o = outcome-is (storedMachine a) (started a run) (startConditions a run) (tested-tests (startConditions a run)) report o
 
-  read-refused : (r : Refusal) → length bytes ≤ maxReportBytes → every listed bytes ≡ true → (x : Read (List Token)) → readReport bytes ≡ x → fileRun set x ≡ refused r → Refused set bytes r
-  read-refused r h l fail e f = noRun (cc) h l (none-found bytes e)
-  read-refused r h l (got ts rest) e f =
-      let run = found-run bytes ts rest e in
-      let again : got ts rest ≡ got (run .tokens) [] = sym e ∙ run-found bytes run in
-      let same : ts ≡ run .tokens = cc in
-      first-refused (fileTokens set (fresh set) ts) fileEnd r (Refused set bytes r) f
-      (λ k. atToken h l run (stops-is set (run .tokens) r .0 (ap (fileTokens set (fresh set)) (sym same) ∙ k)))
-      (λ m k g. let (is, u) = end-refused m r g in atEnd is h l run m (ap (fileTokens set (fresh set)) (sym same) ∙ k) u)
+pub report-only : (a run report : List ℕ) (o p : Outcome Left) → ReportGives a run report o → ReportGives a run report p → o ≡ p
+report-only a run report o p f g = sym (report-is a run report o .0 f) ∙ report-is a run report p .0 g
 
-  why-refused : (r : Refusal) → fileReport set bytes ≡ refused r → Refused set bytes r
-  why-refused r f = cases (ltb maxReportBytes (length bytes))
-      (λ t. let h = ltb-true maxReportBytes (length bytes) t in
-      let e : refused tooLarge ≡ refused r = sym (over-is h) ∙ f in tooMany (cc) h)
-      (λ t. let h = ltb-false maxReportBytes (length bytes) t in
-      cases (every listed bytes)
-      (λ l. read-refused r h l (readReport bytes) refl (sym (read-is h l) ∙ f))
-      (λ l. let e : refused invalidByte ≡ refused r = sym (foreign-is h l) ∙ f in notListed (cc) h l))
+-- where the start is refused, so is the report; else its own conditions are all that is left
+pub start-refused : (a run report : List ℕ) (r : Refusal) → first (startConditions a run) ≡ some r → ReportGives a run report (refused r)
+unfolding fileReport
+start-refused a run report r h = report-is a run report (refused r) .1 (rw (first-before (startConditions a run) (reportTests report) r h))
 
-  -- refused by a number exactly when its condition holds and no earlier one does
-  pub refused-is : (r : Refusal) → (fileReport set bytes ≡ refused r) ↔ Refused set bytes r
-  refused-is r = (why-refused r, refused-by r)
+pub once-started : (a run report : List ℕ) → startRefusal a run ≡ 0
+    → fileReport (storedMachine a) (started a run) (startConditions a run) report ≡ fileReport (storedMachine a) (started a run) [] report
+unfolding fileReport startRefusal given
+once-started a run report z = rw (first-then (startConditions a run) (reportTests report) (number-zero (first (startConditions a run)) .0 z))
 
-  filed-so : (m : State) → FiledWith set bytes m → fileReport set bytes ≡ filed m
-  filed-so m f = tokens-are (f .short) (f .run) ∙ ap (λ (x : Filed). thenFile x fileEnd) (f .taken) ∙ end-whole m (f .finished)
+-- 1 and 14 are the start's refusals, and none of the report's own
+pub start-lent : (a run : List ℕ) (r : Refusal) → first (startConditions a run) ≡ some r → ofLent r ≡ true
+unfolding every
+start-lent a run r h = first-has (λ c. ofLent (refusalOf c)) (startConditions a run) r refl h
 
-  read-filed : (m : State) → length bytes ≤ maxReportBytes → (x : Read (List Token)) → readReport bytes ≡ x → fileRun set x ≡ filed m → FiledWith set bytes m
-  read-filed m h fail e f = clash (cc)
-  read-filed m h (got ts rest) e f =
-      let run = found-run bytes ts rest e in
-      let again : got ts rest ≡ got (run .tokens) [] = sym e ∙ run-found bytes run in
-      let same : ts ≡ run .tokens = cc in
-      let (n, k, g) = both-filed (fileTokens set (fresh set) ts) fileEnd m f in
-      let (is, u) = end-filed n m g in
-      record {
-        short = h;
-        run = run;
-        taken = ap (fileTokens set (fresh set)) (sym same) ∙ k ∙ ap filed is;
-        finished = ap unfinished (sym is) ∙ u;
-      }
+abbrev own : Condition → Bool
+own c = not (ofLent (refusalOf c))
 
-  so-filed : (m : State) → fileReport set bytes ≡ filed m → FiledWith set bytes m
-  so-filed m f = cases (ltb maxReportBytes (length bytes))
-      (λ t. let e : refused tooLarge ≡ filed m = sym (over-is (ltb-true maxReportBytes (length bytes) t)) ∙ f in clash (cc))
-      (λ t. let h = ltb-false maxReportBytes (length bytes) t in
-      cases (every listed bytes)
-      (λ l. read-filed m h (readReport bytes) refl (sym (read-is h l) ∙ f))
-      (λ l. let e : refused invalidByte ≡ filed m = sym (foreign-is h l) ∙ f in clash (cc)))
+event-own : (a : List ℕ) (t : Left) (e : Event) → every own (eventOrder (storedMachine a) t e) ≡ true
+unfolding every
+event-own a t (opening n) = refl
+event-own a t (closing n) = refl
+event-own a t (textHere b) = refl
+event-own a t (commentHere b) = refl
 
-  -- filed exactly when no condition holds: it is short, a run of tokens that are all taken, and finished
-  pub filed-is : (m : State) → (fileReport set bytes ≡ filed m) ↔ FiledWith set bytes m
-  filed-is m = (so-filed m, filed-so m)
+pub report-own : (a : List ℕ) (t : Left) (report : List ℕ) (r : Refusal) → fileReport (storedMachine a) t [] report ≡ refused r → ofLent r ≡ false
+unfolding fileReport every
+report-own a t report r h = not-true (ofLent r) (
+    either-refused (unless (first (reportTests report)) t) _ r h (λ e. first-has own (reportTests report) r refl (unless-refused _ t r e)) (λ u e.
+    either-refused (fileEvents (storedMachine a) u es) _ r e
+    (λ g. events-refused (storedMachine a) (λ x l. Unit {0}) (λ q. not (ofLent q)) (λ x f l q p k. first-has own _ q (event-own a x f) k) (λ x f l p k. tt) es u r tt g)
+    (λ v g. first-has own (endOrder (storedMachine a) v) r refl (unless-refused _ v r g)))
+    )
+  where
+    es : List Event
+    es = eventsOf (tokensIn (readReport report))

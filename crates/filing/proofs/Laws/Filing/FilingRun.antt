@@ -1,8 +1,8 @@
 -- A report that is taken: its calls are all accepted, they are its document's opens and closes in order, and these are balanced with one root.
 use Prim.Native.Nat.{ℕ, suc, _+_, _≤_}
 use mathlib.Core.Path.{_≡_, refl, sym, ap, _∙_, subst}
-use mathlib.Core.Bool.{Bool, true, false, not, _&&_, _||_, cond, and-true, or-false, or-assoc}
-use mathlib.Core.Option.{Option, none, some}
+use mathlib.Core.Bool.{Bool, true, false, not, _&&_, _||_, and-true, or-false, or-assoc}
+use mathlib.Core.Option.{none}
 use mathlib.Core.List.{List, [], _∷_, _++_, map, dropLast}
 use lib.Dec.{eqb, ltb}
 use lib.ListN.{length}
@@ -11,94 +11,71 @@ use native.Mathlib.Omega.{arith}
 use Rattle.text.specs.Names.{Name}
 use Rattle.text.specs.Lists.{every, nonEmpty, any}
 use Rattle.notation.specs.Sets.{FolderSet}
-use Rattle.text.specs.Refusals.{Refusal, notOneRoot}
+use Rattle.text.specs.Refusals.{notOneRoot}
 use Rattle.notation.specs.Activity.{fits}
 use Rattle.text.proofs.Laws.Bytes.SameName.{sameName-is}
-use Rattle.theory.specs.Calls.{asLeft, openCall, closeCall, Level, level, nameOf, State, openNames, pathAt, fresh, opened, closedFrom, refusal, accepted, step, after}
+use Rattle.text.specs.Order.{first}
+use Rattle.theory.specs.Calls.{asLeft, openCall, closeCall, Level, level, nameOf, State, openNames, pathAt, nothingOpen, fresh, opened, closedFrom, closed, refusal, accepted, step, after}
 use Rattle.theory.proofs.Laws.Machine.Calls.{open-accepted, Closable, close-accepted}
-use Rattle.theory.proofs.Laws.Machine.Steps.{open-accepted-is, close-accepted-is, step-accepted, step-open-names, step-close-names}
+use Rattle.theory.proofs.Laws.Machine.Steps.{open-accepted-is, close-accepted-is, step-accepted, names-opened, step-close-names}
 use Rattle.theory.proofs.Laws.Machine.Sound.{Sound, fresh-sound, open-sound, close-sound}
-use Rattle.documents.specs.Tokens.{Token, blank}
-use Rattle.documents.specs.Document.{Event, opening, closing, textHere, commentHere, eventsOfToken, eventsOf}
+use Rattle.documents.specs.Tokens.{blank}
+use Rattle.documents.specs.Document.{Event, opening, closing, textHere, commentHere}
 use Rattle.documents.specs.Code.Events.{balanced, passed}
-use Rattle.filing.specs.Filing.{Filed, refused, filed, thenFile, unless, fileCall, textOutside, fileEvent, fileEvents, fileTokens, callsIn, allAccepted, unfinished}
+use Rattle.filing.specs.Filing.{filed, eventOrder, endOrder, eventLeaves, fileEvent, fileEvents, sharedMachine, callsIn, allAccepted}
 use Rattle.text.proofs.Laws.Tests.{both-true, neither}
 use Rattle.documents.proofs.Laws.Trees.Passed.{last-off}
-use Rattle.filing.proofs.Laws.Filing.FilingParts.{clash, both-filed}
-
-then-more : (f : Filed) (k k₂ g : State → Filed) → ((m : State) → k m ≡ thenFile (k₂ m) g) → thenFile f k ≡ thenFile (thenFile f k₂) g
-then-more (refused r) k k₂ g h = refl
-then-more (filed m) k k₂ g h = h m
-
-events-append : (set : FolderSet) (xs ys : List Event) (m : State) → fileEvents set m (xs ++ ys) ≡ thenFile (fileEvents set m xs) (λ m₂. fileEvents set m₂ ys)
-unfolding fileEvents
-events-append set [] ys m = refl
-events-append set (e ∷ xs) ys m =
-    then-more (fileEvent set m e) (λ m₂. fileEvents set m₂ (xs ++ ys)) (λ m₂. fileEvents set m₂ xs) (λ m₂. fileEvents set m₂ ys) (events-append set xs ys)
-
-then-same : (f : Filed) (k g : State → Filed) → ((m : State) → k m ≡ g m) → thenFile f k ≡ thenFile f g
-then-same (refused r) k g h = refl
-then-same (filed m) k g h = h m
-
--- the tokens in order are their events in order
-pub tokens-events : (set : FolderSet) (ts : List Token) (m : State) → fileTokens set m ts ≡ fileEvents set m (eventsOf ts)
-unfolding fileTokens fileEvents eventsOf
-tokens-events set [] m = refl
-tokens-events set (t ∷ ts) m =
-    then-same (fileEvents set m (eventsOfToken t)) (λ m₂. fileTokens set m₂ ts) (λ m₂. fileEvents set m₂ (eventsOf ts)) (tokens-events set ts)
-    ∙ sym (events-append set (eventsOfToken t) (eventsOf ts) m)
-
-pub unless-filed : (o : Option Refusal) (s n : State) → unless o s ≡ filed n → (o ≡ none) × (s ≡ n)
-unless-filed none s n e = (refl, cc)
-unless-filed (some r) s n e = clash (cc)
-
-text-filed : (b : Bool) (m n : State) → cond b (refused notOneRoot) (filed m) ≡ filed n → (b ≡ false) × (m ≡ n)
-text-filed true m n e = clash (cc)
-text-filed false m n e = (refl, cc)
+use Rattle.filing.proofs.Laws.Filing.FilingParts.{clash, unmet, unless-filed, both-filed}
 
 -- what holds at the end, and of each event if of those after it, holds of all events that are taken
 module _ (set : FolderSet) (P : State → List Event → State → Type 0)
     (at-end : (n : State) → P n [] n)
-    (at-open : (m n : State) (e : Name) (es : List Event) → accepted m (openCall asLeft e) ≡ true → P (step set m (openCall asLeft e)) es n → P m (opening e ∷ es) n)
-    (at-close : (m n : State) (e : Name) (es : List Event) → accepted m (closeCall asLeft e) ≡ true → P (step set m (closeCall asLeft e)) es n → P m (closing e ∷ es) n)
-    (at-text : (m n : State) (b : List ℕ) (es : List Event) → textOutside m b ≡ false → P m es n → P m (textHere b ∷ es) n)
+    (at-open : (m n : State) (e : Name) (es : List Event) → accepted m (openCall asLeft e) ≡ true → P (opened set m e) es n → P m (opening e ∷ es) n)
+    (at-close : (m n : State) (e : Name) (es : List Event) → accepted m (closeCall asLeft e) ≡ true → P (closed m) es n → P m (closing e ∷ es) n)
+    (at-text : (m n : State) (b : List ℕ) (es : List Event) → (nothingOpen m && not (every blank b)) ≡ false → P m es n → P m (textHere b ∷ es) n)
     (at-comment : (m n : State) (b : List ℕ) (es : List Event) → P m es n → P m (commentHere b ∷ es) n) where
-  pub taken : (es : List Event) (m n : State) → fileEvents set m es ≡ filed n → P m es n
+  at-event : (e : Event) (es : List Event) (m n : State) → first (eventOrder (sharedMachine set) m e) ≡ none → P (eventLeaves (sharedMachine set) m e) es n → P m (e ∷ es) n
+  unfolding refusal
+  at-event (opening e) es m n ok p = at-open m n e es (open-accepted-is m e .1 ok) p
+  at-event (closing e) es m n ok p = at-close m n e es (close-accepted-is m e .1 ok) p
+  at-event (textHere b) es m n ok p = at-text m n b es (unmet (nothingOpen m && not (every blank b)) notOneRoot [] ok) p
+  at-event (commentHere b) es m n ok p = at-comment m n b es p
+
+  pub taken : (es : List Event) (m n : State) → fileEvents (sharedMachine set) m es ≡ filed n → P m es n
   unfolding fileEvents
   taken [] m n h =
       let same : m ≡ n = cc in
       subst (λ (x : State). P x [] n) (sym same) (at-end n)
-  taken (opening e ∷ es) m n h =
-      let (m₂, f, g) = both-filed (fileCall set m (openCall asLeft e)) (λ m₂. fileEvents set m₂ es) n h in
-      let (ok, is) = unless-filed (refusal m (openCall asLeft e)) (step set m (openCall asLeft e)) m₂ f in
-      at-open m n e es (open-accepted-is m e .1 ok) (subst (λ (x : State). P x es n) (sym is) (taken es m₂ n g))
-  taken (closing e ∷ es) m n h =
-      let (m₂, f, g) = both-filed (fileCall set m (closeCall asLeft e)) (λ m₂. fileEvents set m₂ es) n h in
-      let (ok, is) = unless-filed (refusal m (closeCall asLeft e)) (step set m (closeCall asLeft e)) m₂ f in
-      at-close m n e es (close-accepted-is m e .1 ok) (subst (λ (x : State). P x es n) (sym is) (taken es m₂ n g))
-  taken (textHere b ∷ es) m n h =
-      let (m₂, f, g) = both-filed (cond (textOutside m b) (refused notOneRoot) (filed m)) (λ m₂. fileEvents set m₂ es) n h in
-      let (ok, is) = text-filed (textOutside m b) m m₂ f in
-      at-text m n b es ok (subst (λ (x : State). P x es n) (sym is) (taken es m₂ n g))
-  taken (commentHere b ∷ es) m n h = at-comment m n b es (taken es m n h)
+  taken (e ∷ es) m n h =
+      let (m₂, f, g) = both-filed (fileEvent (sharedMachine set) m e) (λ m₂. fileEvents (sharedMachine set) m₂ es) n h in
+      let (ok, is) = unless-filed (first (eventOrder (sharedMachine set) m e)) (eventLeaves (sharedMachine set) m e) m₂ f in
+      at-event e es m n ok (subst (λ (x : State). P x es n) (sym is) (taken es m₂ n g))
 
 -- the machine at the end is the machine after the calls, and these are all accepted
-pub taken-after : (set : FolderSet) (es : List Event) (m n : State) → fileEvents set m es ≡ filed n → after set m (callsIn es) ≡ n
+pub taken-after : (set : FolderSet) (es : List Event) (m n : State) → fileEvents (sharedMachine set) m es ≡ filed n → after set m (callsIn es) ≡ n
 unfolding after callsIn
 taken-after set =
-    taken set (λ m es n. after set m (callsIn es) ≡ n) (λ n. refl) (λ m n e es a p. p) (λ m n e es a p. p) (λ m n b es l p. p) (λ m n b es p. p)
+    taken set (λ m es n. after set m (callsIn es) ≡ n) (λ n. refl)
+    (λ m n e es a p. ap (λ (x : State). after set x (callsIn es)) (step-accepted set m (openCall asLeft e) a) ∙ p)
+    (λ m n e es a p. ap (λ (x : State). after set x (callsIn es)) (step-accepted set m (closeCall asLeft e) a) ∙ p)
+    (λ m n b es l p. p)
+    (λ m n b es p. p)
 
-pub taken-accepted : (set : FolderSet) (es : List Event) (m n : State) → fileEvents set m es ≡ filed n → allAccepted set m (callsIn es) ≡ true
+pub taken-accepted : (set : FolderSet) (es : List Event) (m n : State) → fileEvents (sharedMachine set) m es ≡ filed n → allAccepted set m (callsIn es) ≡ true
 unfolding allAccepted callsIn
 taken-accepted set =
-    taken set (λ m es n. allAccepted set m (callsIn es) ≡ true) (λ n. refl) (λ m n e es a p. both-true a p) (λ m n e es a p. both-true a p) (λ m n b es l p. p) (λ m n b es p. p)
+    taken set (λ m es n. allAccepted set m (callsIn es) ≡ true) (λ n. refl)
+    (λ m n e es a p. both-true a (ap (λ (x : State). allAccepted set x (callsIn es)) (step-accepted set m (openCall asLeft e) a) ∙ p))
+    (λ m n e es a p. both-true a (ap (λ (x : State). allAccepted set x (callsIn es)) (step-accepted set m (closeCall asLeft e) a) ∙ p))
+    (λ m n b es l p. p)
+    (λ m n b es p. p)
 
 -- Balance: the open names and whether there was an open are those of the machine
 
 abbrev at : State → List Event → Bool
 at m es = balanced (map nameOf (m .levels)) (ltb 0 (m .opens)) es
 
-end-balanced : (levels : List Level) (opens : ℕ) → (eqb opens 0 || nonEmpty levels) ≡ false → balanced (map nameOf levels) (ltb 0 opens) [] ≡ true
+end-balanced : (levels : List Level) (opens : ℕ) → (eqb opens 0 || not (not (nonEmpty levels))) ≡ false → balanced (map nameOf levels) (ltb 0 opens) [] ≡ true
 unfolding balanced
 end-balanced [] opens h =
     let some-open : eqb opens 0 ≡ false = neither (eqb opens 0) false h .0 in
@@ -128,53 +105,50 @@ comment-balanced [] seen b es p = p
 comment-balanced (level n w ∷ levels) seen b es p = p
 
 abbrev Balances : FolderSet → State → List Event → State → Type 0
-Balances set m es n = Sound set m → unfinished n ≡ false → at m es ≡ true
+Balances set m es n = Sound set m → first (endOrder (sharedMachine set) n) ≡ none → at m es ≡ true
 
 balance-open : (set : FolderSet) (m n : State) (e : Name) (es : List Event) → accepted m (openCall asLeft e) ≡ true
-    → Balances set (step set m (openCall asLeft e)) es n → Balances set m (opening e ∷ es) n
+    → Balances set (opened set m e) es n → Balances set m (opening e ∷ es) n
 unfolding opened
 balance-open set m n e es a p g u =
     let o = open-accepted m e a in
-    let is : step set m (openCall asLeft e) ≡ opened set m e = step-accepted set m (openCall asLeft e) a in
-    let q : at (opened set m e) es ≡ true =
-    subst (λ (x : State). at x es ≡ true) is (p (subst (Sound set) (sym is) (open-sound set m e o g)) u) in
     open-balanced (m .levels) (m .opens) e es (sym (g .root) ∙ o .root) (omega (arith, g .balance))
-    (ap (λ (b : Bool). balanced (e ∷ map nameOf (m .levels)) b es) (sym (lt-ltb 0 (suc (m .opens)) (omega arith))) ∙ q)
+    (ap (λ (b : Bool). balanced (e ∷ map nameOf (m .levels)) b es) (sym (lt-ltb 0 (suc (m .opens)) (omega arith))) ∙ p (open-sound set m e o g) u)
 
 close-at : (m : State) (e : Name) (c : Closable m e) (es : List Event) → at (closedFrom (level e (c .before) ∷ c .outer) m) es ≡ true → at m (closing e ∷ es) ≡ true
 unfolding closedFrom balanced
 close-at m e c es q = rw (c .innermost, sameName-is e e .1 refl) q
 
 balance-close : (set : FolderSet) (m n : State) (e : Name) (es : List Event) → accepted m (closeCall asLeft e) ≡ true
-    → Balances set (step set m (closeCall asLeft e)) es n → Balances set m (closing e ∷ es) n
+    → Balances set (closed m) es n → Balances set m (closing e ∷ es) n
 balance-close set m n e es a p g u =
     let c = close-accepted m e a in
-    let is : step set m (closeCall asLeft e) ≡ closedFrom (level e (c .before) ∷ c .outer) m =
-    step-accepted set m (closeCall asLeft e) a ∙ ap (λ (l : List Level). closedFrom l m) (c .innermost) in
+    let is : closed m ≡ closedFrom (level e (c .before) ∷ c .outer) m = ap (λ (l : List Level). closedFrom l m) (c .innermost) in
     close-at m e c es (subst (λ (x : State). at x es ≡ true) is (p (subst (Sound set) (sym is) (close-sound set m e c g)) u))
 
-taken-balanced : (set : FolderSet) (es : List Event) (m n : State) → fileEvents set m es ≡ filed n → Balances set m es n
+taken-balanced : (set : FolderSet) (es : List Event) (m n : State) → fileEvents (sharedMachine set) m es ≡ filed n → Balances set m es n
 taken-balanced set =
-    taken set (Balances set) (λ n g u. end-balanced (n .levels) (n .opens) u) (balance-open set) (balance-close set)
+    taken set (Balances set) (λ n g u. end-balanced (n .levels) (n .opens) (unmet _ notOneRoot [] u)) (balance-open set) (balance-close set)
     (λ m n b es l p g u. text-balanced (m .levels) (ltb 0 (m .opens)) b es l (p g u))
     (λ m n b es p g u. comment-balanced (m .levels) (ltb 0 (m .opens)) b es (p g u))
 
 -- from a fresh machine
-pub fresh-balanced : (set : FolderSet) (es : List Event) (n : State) → fileEvents set (fresh set) es ≡ filed n → unfinished n ≡ false → balanced [] false es ≡ true
+pub fresh-balanced : (set : FolderSet) (es : List Event) (n : State) → fileEvents (sharedMachine set) (fresh set) es ≡ filed n → first (endOrder (sharedMachine set) n) ≡ none → balanced [] false es ≡ true
 unfolding fresh
 fresh-balanced set es n h u = taken-balanced set es (fresh set) n h (fresh-sound set) u
 
 -- Matches and opens: the open names right after each open are those passed
 
-close-names : (set : FolderSet) (m : State) (e : Name) → accepted m (closeCall asLeft e) ≡ true → dropLast (openNames m) ≡ openNames (step set m (closeCall asLeft e))
-close-names set m e a = ap dropLast (step-close-names set m e a) ∙ last-off (openNames (step set m (closeCall asLeft e))) e
+pub close-names : (set : FolderSet) (m : State) (e : Name) → accepted m (closeCall asLeft e) ≡ true → dropLast (openNames m) ≡ openNames (closed m)
+close-names set m e a =
+    ap dropLast (step-close-names set m e a) ∙ last-off (openNames (step set m (closeCall asLeft e))) e ∙ ap openNames (step-accepted set m (closeCall asLeft e) a)
 
 -- what an open and a close do to matches and opens
 opened-matched : (set : FolderSet) (m : State) (e : Name) (place : ℕ) → opened set m e .matched place ≡ (m .matched place || fits (pathAt set place) (openNames (opened set m e)))
 unfolding opened
 opened-matched set m e place = refl
 
-opened-opens : (set : FolderSet) (m : State) (e : Name) → opened set m e .opens ≡ suc (m .opens)
+pub opened-opens : (set : FolderSet) (m : State) (e : Name) → opened set m e .opens ≡ suc (m .opens)
 unfolding opened
 opened-opens set m e = refl
 
@@ -183,46 +157,33 @@ unfolding closedFrom
 closed-matched [] m place = refl
 closed-matched (level n w ∷ outer) m place = refl
 
-closed-opens : (levels : List Level) (m : State) → closedFrom levels m .opens ≡ m .opens
+pub closed-opens : (levels : List Level) (m : State) → closedFrom levels m .opens ≡ m .opens
 unfolding closedFrom
 closed-opens [] m = refl
 closed-opens (level n w ∷ outer) m = refl
 
-pub taken-matched : (set : FolderSet) (place : ℕ) (es : List Event) (m n : State) → fileEvents set m es ≡ filed n
+pub taken-matched : (set : FolderSet) (place : ℕ) (es : List Event) (m n : State) → fileEvents (sharedMachine set) m es ≡ filed n
     → n .matched place ≡ (m .matched place || any (fits (pathAt set place)) (passed (openNames m) es))
 unfolding any passed
 taken-matched set place =
     taken set (λ m es n. n .matched place ≡ (m .matched place || any (fits (pathAt set place)) (passed (openNames m) es)))
     (λ n. sym (or-false (n .matched place)))
     (λ m n e es a p.
-    let is : step set m (openCall asLeft e) ≡ opened set m e = step-accepted set m (openCall asLeft e) a in
-    let now : step set m (openCall asLeft e) .matched place ≡ (m .matched place || fits (pathAt set place) (openNames (step set m (openCall asLeft e)))) =
-    subst (λ (x : State). x .matched place ≡ (m .matched place || fits (pathAt set place) (openNames x))) (sym is) (opened-matched set m e place) in
-    p ∙ ap (λ (b : Bool). b || any (fits (pathAt set place)) (passed (openNames (step set m (openCall asLeft e))) es)) now
-    ∙ ap (λ (l : List Name). (m .matched place || fits (pathAt set place) l) || any (fits (pathAt set place)) (passed l es)) (step-open-names set m e a)
+    p ∙ ap (λ (b : Bool). b || any (fits (pathAt set place)) (passed (openNames (opened set m e)) es)) (opened-matched set m e place)
+    ∙ ap (λ (l : List Name). (m .matched place || fits (pathAt set place) l) || any (fits (pathAt set place)) (passed l es)) (names-opened set m e)
     ∙ or-assoc (m .matched place) (fits (pathAt set place) (openNames m ++ (e ∷ []))) (any (fits (pathAt set place)) (passed (openNames m ++ (e ∷ [])) es)))
     (λ m n e es a p.
-    let now : step set m (closeCall asLeft e) .matched place ≡ m .matched place =
-    ap (λ (x : State). x .matched place) (step-accepted set m (closeCall asLeft e) a) ∙ closed-matched (m .levels) m place in
-    p ∙ ap (λ (b : Bool). b || any (fits (pathAt set place)) (passed (openNames (step set m (closeCall asLeft e))) es)) now
+    p ∙ ap (λ (b : Bool). b || any (fits (pathAt set place)) (passed (openNames (closed m)) es)) (closed-matched (m .levels) m place)
     ∙ ap (λ (l : List Name). m .matched place || any (fits (pathAt set place)) (passed l es)) (sym (close-names set m e a)))
     (λ m n b es l p. p)
     (λ m n b es p. p)
 
-pub taken-opens : (set : FolderSet) (es : List Event) (m n : State) → fileEvents set m es ≡ filed n → n .opens ≡ m .opens + length (passed (openNames m) es)
+pub taken-opens : (set : FolderSet) (es : List Event) (m n : State) → fileEvents (sharedMachine set) m es ≡ filed n → n .opens ≡ m .opens + length (passed (openNames m) es)
 unfolding passed
 taken-opens set =
     taken set (λ m es n. n .opens ≡ m .opens + length (passed (openNames m) es))
     (λ n. omega arith)
-    (λ m n e es a p.
-    let now : step set m (openCall asLeft e) .opens ≡ suc (m .opens) = ap (λ (x : State). x .opens) (step-accepted set m (openCall asLeft e) a) ∙ opened-opens set m e in
-    let q : length (passed (openNames (step set m (openCall asLeft e))) es) ≡ length (passed (openNames m ++ (e ∷ [])) es) =
-    ap (λ (l : List Name). length (passed l es)) (step-open-names set m e a) in
-    omega (arith, p, now, q))
-    (λ m n e es a p.
-    let now : step set m (closeCall asLeft e) .opens ≡ m .opens = ap (λ (x : State). x .opens) (step-accepted set m (closeCall asLeft e) a) ∙ closed-opens (m .levels) m in
-    let q : length (passed (openNames (step set m (closeCall asLeft e))) es) ≡ length (passed (dropLast (openNames m)) es) =
-    ap (λ (l : List Name). length (passed l es)) (sym (close-names set m e a)) in
-    omega (arith, p, now, q))
+    (λ m n e es a p. omega (arith, p, opened-opens set m e, ap (λ (l : List Name). length (passed l es)) (names-opened set m e)))
+    (λ m n e es a p. omega (arith, p, closed-opens (m .levels) m, ap (λ (l : List Name). length (passed l es)) (close-names set m e a)))
     (λ m n b es l p. p)
     (λ m n b es p. p)

@@ -1,26 +1,23 @@
 -- Demand 2 of the call itself: what it answers and leaves, and what is then asked, by the report's document.
 use Prim.Native.Nat.{ℕ, _≤_, _<_}
 use mathlib.Core.Path.{_≡_, refl, sym, ap, _∙_, subst}
-use mathlib.Core.Bool.{Bool, true, false}
+use mathlib.Core.Bool.{Bool, true}
 use mathlib.Core.Logic.{_↔_}
-use mathlib.Core.List.{List, [], _∷_, _++_, List·Memᴰ}
+use mathlib.Core.List.{List, [], _++_, List·Memᴰ}
 use lib.Dec.{eqb}
 use lib.ListN.{length, drop}
 use borrow.Author.Tests.{eq-eqb}
 use Rattle.notation.specs.Sets.{Folder, FolderSet, folderNumber}
 use Rattle.notation.specs.Form.{pathsOf}
-use Rattle.text.specs.Lists.{any}
-use Rattle.text.specs.Refusals.{Refusal, numberOf}
+use Rattle.text.specs.Refusals.{Refusal}
 use Rattle.text.specs.Answers.{Answer, value}
-use Rattle.notation.specs.Accepted.{Accepted}
-use Rattle.text.proofs.Laws.Numbers.{one-refusal, some-number}
 use Rattle.notation.specs.declared.PathPlace.{PathPlace}
 use Rattle.notation.specs.declared.FolderNumber.{FolderNumber}
-use Rattle.theory.specs.Calls.{Call, State, pathAt, fresh, run}
+use Rattle.theory.specs.Calls.{Call, State, pathAt}
 use Rattle.theory.specs.History.{FittedAfterOpen}
-use Rattle.theory.specs.Folders.{placesOf, folderMatched, HasFolders}
+use Rattle.theory.specs.Folders.{folderMatched}
 use Rattle.stored.specs.Run.{runSize, runOf}
-use Rattle.stored.specs.RunCalls.{startRefusal, startRun, noCounters}
+use Rattle.stored.specs.RunCalls.{startRun, noCounters}
 use Rattle.stored.specs.Asking.{askPath, askFolder}
 use Rattle.stored.specs.Demand3.{Left, started, Answers, HasFolder, HasMatchedPath}
 use Rattle.stored.specs.declared.counters.Counters.{Counters}
@@ -30,34 +27,22 @@ use Rattle.theory.proofs.Laws.Machine.Moves.{Few, fresh-few}
 use Rattle.stored.proofs.Laws.Running.Means.{Means}
 use Rattle.stored.proofs.Laws.Running.FolderPlaces.{hasNumber}
 use Rattle.stored.proofs.Laws.Running.Asking.{ask-folder}
-use Rattle.stored.proofs.Laws.Running.Following.{leftOf, few-run, start-left}
+use Rattle.stored.proofs.Laws.Running.Following.{leftOf, start-left}
 use Rattle.stored.proofs.Laws.Running.Demand3.{path-answers, folder-answers, start-accepted}
 use Rattle.documents.specs.Document.{eventsOf, documentIn}
-use Rattle.filing.specs.Filing.{Filed, refused, filed, numberGiven, callsIn, fileReport}
+use Rattle.filing.specs.Filing.{Outcome, refused, filed, numberGiven, callsIn}
 use Rattle.filing.specs.Demand2.{childlessIn, SelectsElement, FolderSelects, OfDocument}
-use Rattle.filing.specs.ReportRefusals.{Files}
-use Rattle.filing.specs.Code.FileCall.{numberLeft, leftIn, fileLeft, FilesBy}
+use Rattle.filing.specs.ReportRefusals.{storedMachine, leftBy, Files}
+use Rattle.filing.specs.Code.Filing.{fileReport, fileWith}
 use Rattle.filing.specs.FiledReport.{FiledReport, reportNumbers, Demand2Bytes}
 use Rattle.filing.proofs.Laws.Filing.BuiltSet.{built-means}
-use Rattle.filing.proofs.Laws.Filing.FilingOrder.{refused-is, filed-is}
-use Rattle.filing.proofs.Laws.Filing.FilingAdded.{added}
-use Rattle.filing.proofs.Laws.Filing.FilingAlike.{same-number}
+use Rattle.filing.proofs.Laws.Filing.FilingParts.{given-refused, given-filed}
+use Rattle.filing.proofs.Laws.Filing.FilingOrder.{filing-is, report-is, once-started, report-own}
+use Rattle.filing.proofs.Laws.Filing.FilingAlike.{Alike, same-number, alike-refused, alike-filed}
+use Rattle.filing.proofs.Laws.Filing.FilingAdded.{same-filing, endOf, same-matched}
 use Rattle.filing.proofs.Laws.Filing.FilingOpens.{given-among}
-use Rattle.filing.proofs.Laws.Filing.FilingStored.{storedOf, report-stored}
+use Rattle.filing.proofs.Laws.Filing.FilingStored.{Stores, report-stored}
 use Rattle.filing.proofs.Laws.Filing.Demand2.{of-document}
-use Rattle.filing.proofs.Laws.Demand1.ReportFiles.{by-equations}
-
-given-refused : (x : Filed) (r : Refusal) → numberGiven x ≡ numberOf r → x ≡ refused r
-given-refused (refused q) r e = ap refused (one-refusal q r e)
-given-refused (filed m) r e = absurd (some-number r (sym e))
-
-given-filed : (x : Filed) → numberGiven x ≡ 0 → (m : State) × (x ≡ filed m)
-given-filed (refused q) e = absurd (some-number q e)
-given-filed (filed m) e = (m, refl)
-
-stored-number : (s : FolderSet) (rest : List ℕ) (x : Filed) → numberLeft (storedOf s rest x) ≡ numberGiven x
-stored-number s rest (refused r) = refl
-stored-number s rest (filed m) = refl
 
 -- where one holds exactly if the other does, the answer is to both
 same-answers : {there one other : Type 0} {answer : Answer Bool} → one ↔ other → Answers there one answer → Answers there other answer
@@ -96,48 +81,47 @@ module _ (s : FolderSet) (a : List ℕ) (w : Means s a) (rest report : List ℕ)
       (subst (λ (x : State). Answers (HasFolder s (number .0)) (HasMatchedPath s a (runOf s x ++ rest) (number .0)) (askFolder a (runOf s x ++ rest) number)) (d .machine)
       (folder-answers s a w rest calls number))
 
--- the machine at the end; a refused report leaves a fresh one
-abbrev endOf : FolderSet → Filed → State
-endOf s (refused r) = fresh s
-endOf s (filed m) = m
-
 -- what the call answers and leaves
 module _ (s : FolderSet) (a : List ℕ) (w : Means s a) (lent : List ℕ) (long : runSize ≤ length lent) (c : Counters) (report : List ℕ)
-    (answer : ℕ) (run' : List ℕ) (c' : Counters) (f : FilesBy a lent c report answer run' c') where
+    (answer : ℕ) (run' : List ℕ) (c' : Counters) (f : Files a lent c report answer run' c') where
   abbrev rest : List ℕ
   rest = drop runSize lent
 
-  starts : startRefusal a lent ≡ 0
-  starts = start-accepted s a w lent long
+  outcome-is : fileReport (storedMachine a) (started a lent) [] report ≡ f .outcome
+  outcome-is = sym (once-started a lent report (start-accepted s a w lent long)) ∙ report-is a lent report (f .outcome) .0 (f .given)
 
-  pub answer-is : answer ≡ numberGiven (fileReport s report)
-  answer-is = f .answers ∙ rw (starts, report-stored s a w lent report) (stored-number s rest (fileReport s report))
+  -- the outcome is what is stored of the machine's
+  outcomes : Alike (Stores s rest) (fileWith s report) (f .outcome)
+  outcomes = rw outcome-is at (report-stored s a w lent report)
 
-  left-is : fileLeft a lent c report ≡ leftIn (started a lent) (storedOf s rest (fileReport s report))
-  left-is = rw (starts, report-stored s a w lent report)
+  pub answer-is : answer ≡ numberGiven (fileWith s report)
+  answer-is = f .answers ∙ sym (same-number outcomes)
 
-  left-refused : (r : Refusal) → fileReport s report ≡ refused r → fileLeft a lent c report ≡ started a lent
-  left-refused r e = left-is ∙ ap (λ (x : Filed). leftIn (started a lent) (storedOf s rest x)) e
+  left-is : (o : Outcome Left) (t : Left) → f .outcome ≡ o → leftBy a lent c o ≡ t → (run' ≡ t .bytes) × (c' ≡ t .counters)
+  left-is o t e h =
+      let all : leftBy a lent c (f .outcome) ≡ t = ap (leftBy a lent c) e ∙ h in
+      (f .runAfter ∙ ap (λ (x : Left). x .bytes) all, f .countersAfter ∙ ap (λ (x : Left). x .counters) all)
 
-  pub left-filed : (m : State) → fileReport s report ≡ filed m → fileLeft a lent c report ≡ leftOf s rest m
-  left-filed m e = left-is ∙ ap (λ (x : Filed). leftIn (started a lent) (storedOf s rest x)) e
+  left-refused : (r : Refusal) → fileWith s report ≡ refused r → (run' ≡ startRun a lent) × (c' ≡ noCounters)
+  left-refused r e =
+      let is = alike-refused outcomes r e in
+      left-is (refused r) (started a lent) is (rw (report-own a (started a lent) report r (outcome-is ∙ is)))
 
-  run-left : (t : Left) → fileLeft a lent c report ≡ t → run' ≡ t .bytes
-  run-left t e = f .runAfter ∙ ap (λ (x : Left). x .bytes) e
+  pub left-filed : (m : State) → fileWith s report ≡ filed m → Few s m [] × (run' ≡ leftOf s rest m .bytes) × (c' ≡ leftOf s rest m .counters)
+  left-filed m e =
+      let (t, is, (few, stored)) = alike-filed outcomes m e in
+      let (r, k) = left-is (filed t) (leftOf s rest m) is stored in
+      (few, r, k)
 
-  counters-left : (t : Left) → fileLeft a lent c report ≡ t → c' ≡ t .counters
-  counters-left t e = f .countersAfter ∙ ap (λ (x : Left). x .counters) e
-
-  refused-leaves : (x : Filed) → fileReport s report ≡ x → (answer ≡ 0 → ⊥) → (run' ≡ startRun a lent) × (c' ≡ noCounters)
-  refused-leaves (refused r) e h = (run-left (started a lent) (left-refused r e), counters-left (started a lent) (left-refused r e))
+  refused-leaves : (x : Outcome State) → fileWith s report ≡ x → (answer ≡ 0 → ⊥) → (run' ≡ startRun a lent) × (c' ≡ noCounters)
+  refused-leaves (refused r) e h = left-refused r e
   refused-leaves (filed m) e h = absurd (h (answer-is ∙ ap numberGiven e))
 
-  filed-leaves : (m : State) → fileReport s report ≡ filed m → FiledReport s a report lent run' c'
+  filed-leaves : (m : State) → fileWith s report ≡ filed m → FiledReport s a report lent run' c'
   filed-leaves m e =
-      let is = filed-is s report m .0 e in
+      let is = filing-is s report (filed m) .1 e in
       let d : OfDocument s report m = of-document s report m is in
-      let r : run' ≡ runOf s m ++ rest = run-left (leftOf s rest m) (left-filed m e) in
-      let k = counters-left (leftOf s rest m) (left-filed m e) in
+      let (few, r, k) = left-filed m e in
       record {
         machine = m;
         isFiled = is;
@@ -152,67 +136,45 @@ module _ (s : FolderSet) (a : List ℕ) (w : Means s a) (lent : List ℕ) (long 
       }
 
   -- the run left is that of the machine at the end
-  run-end : (x : Filed) → fileReport s report ≡ x → run' ≡ runOf s (endOf s x) ++ rest
-  run-end (refused r) e = run-left (leftOf s rest (fresh s)) (left-refused r e ∙ start-left s a w lent)
-  run-end (filed m) e = run-left (leftOf s rest m) (left-filed m e)
-
-  pub few-end : (x : Filed) → fileReport s report ≡ x → Few s (endOf s x) []
-  few-end (refused r) e = fresh-few s
-  few-end (filed m) e =
-      let d = of-document s report m (filed-is s report m .0 e) in
-      subst (λ (x : State). Few s x []) (d .machine) (few-run s (callsIn (eventsOf (d .report .run .tokens))))
+  run-end : (x : Outcome State) → fileWith s report ≡ x → Few s (endOf s x) [] × (run' ≡ runOf s (endOf s x) ++ rest)
+  run-end (refused r) e = (fresh-few s, left-refused r e .0 ∙ ap (λ (t : Left). t .bytes) (start-left s a w lent))
+  run-end (filed m) e = let (few, r, k) = left-filed m e in (few, r)
 
   -- a folder of the set is answered by its matches
-  folder-asked : (x : Folder) → List·Memᴰ x s → askFolder a run' (record { 0 = folderNumber x }) ≡ value (folderMatched s (endOf s (fileReport s report)) (folderNumber x))
+  folder-asked : (x : Folder) → List·Memᴰ x s → askFolder a run' (record { 0 = folderNumber x }) ≡ value (folderMatched s (endOf s (fileWith s report)) (folderNumber x))
   folder-asked x i =
       let n = folderNumber x in
       let there : hasNumber s n ≡ true = is-any (λ y. eqb (folderNumber y) n) s i (eq-eqb n n refl) in
-      rw (run-end (fileReport s report) refl)
-      (ask-folder s a w (endOf s (fileReport s report)) (few-end (fileReport s report) refl) rest (record { 0 = n }) ∙ rw there)
-
--- adding folders
-no-matches : (s : FolderSet) (l : List ℕ) → any (fresh s .matched) l ≡ false
-unfolding any fresh
-no-matches s [] = refl
-no-matches s (i ∷ l) = no-matches s l
-
-same-matched : (s larger : FolderSet) (text report : List ℕ) → Accepted text larger → HasFolders larger s → (f : Folder) → List·Memᴰ f s → (x : Filed) → fileReport s report ≡ x
-    → folderMatched larger (endOf larger (fileReport larger report)) (folderNumber f) ≡ folderMatched s (endOf s x) (folderNumber f)
-same-matched s larger text report acc has f i (refused r) e =
-    let other : fileReport larger report ≡ refused r = given-refused (fileReport larger report) r (same-number larger s report ∙ ap numberGiven e) in
-    rw other (no-matches larger (placesOf larger (folderNumber f)) ∙ sym (no-matches s (placesOf s (folderNumber f))))
-same-matched s larger text report acc has f i (filed m) e =
-    let d = added s larger text report acc has m e in
-    rw (d .isFiled) (sym (d .same f i))
+      let (few, is) = run-end (fileWith s report) refl in
+      rw is (ask-folder s a w (endOf s (fileWith s report)) few rest (record { 0 = n }) ∙ rw there)
 
 -- of every set and its automaton, every run lent of the size of a run or more, and every report
 pub demand2-bytes : (s : FolderSet) (a : List ℕ) → Means s a → (lent : List ℕ) → runSize ≤ length lent → (c : Counters) (report : List ℕ)
     (answer : ℕ) (run' : List ℕ) (c' : Counters) → Files a lent c report answer run' c' → Demand2Bytes s a report lent answer run' c'
-demand2-bytes s a w lent long c report answer run' c' files =
-    let f = by-equations a lent c report answer run' c' files in
+demand2-bytes s a w lent long c report answer run' c' f =
     let is = answer-is s a w lent long c report answer run' c' f in
     record {
       refusals = λ r. (
-        λ e. refused-is s report r .0 (given-refused (fileReport s report) r (sym is ∙ e)),
-        λ h. is ∙ ap numberGiven (refused-is s report r .1 h),
+        λ e. filing-is s report (refused r) .1 (given-refused (fileWith s report) r (sym is ∙ e)),
+        λ h. is ∙ ap numberGiven (filing-is s report (refused r) .0 h),
       );
       filings = (
-        λ e. let (m, h) = given-filed (fileReport s report) (sym is ∙ e) in (m, filed-is s report m .0 h),
-        λ h. is ∙ ap numberGiven (filed-is s report (h .0) .1 (h .1)),
+        λ e. let (m, h) = given-filed (fileWith s report) (sym is ∙ e) in (m, filing-is s report (filed m) .1 h),
+        λ h. is ∙ ap numberGiven (filing-is s report (filed (h .0)) .0 (h .1)),
       );
       numbers = subst (λ (n : ℕ). List·Memᴰ n reportNumbers) (sym is) (given-among s report);
-      refusedLeaves = refused-leaves s a w lent long c report answer run' c' f (fileReport s report) refl;
+      refusedLeaves = refused-leaves s a w lent long c report answer run' c' f (fileWith s report) refl;
       filedLeaves = λ e.
-          let (m, h) = given-filed (fileReport s report) (sym is ∙ e) in
+          let (m, h) = given-filed (fileWith s report) (sym is ∙ e) in
           filed-leaves s a w lent long c report answer run' c' f m h;
-      adding = λ text before b larger acc has built lent₂ long₂ c₂ other run₂ c₃ more.
-          let g = by-equations b lent₂ c₂ report other run₂ c₃ more in
+      adding = λ text before b larger acc has built lent₂ long₂ c₂ other run₂ c₃ g.
           let v = built-means text larger acc before b built in
+          let both = same-filing s larger report in
           record {
-            answers = answer-is larger b v lent₂ long₂ c₂ report other run₂ c₃ g ∙ same-number larger s report ∙ sym is;
+            answers = answer-is larger b v lent₂ long₂ c₂ report other run₂ c₃ g ∙ sym (same-number both) ∙ sym is;
             folders = λ x i.
                 folder-asked larger b v lent₂ long₂ c₂ report other run₂ c₃ g x (has x i)
-                ∙ ap value (same-matched s larger text report acc has x i (fileReport s report) refl)
+                ∙ ap value (sym (same-matched s larger text acc has x i both))
                 ∙ sym (folder-asked s a w lent long c report answer run' c' f x i);
           };
     }

@@ -10,7 +10,7 @@ use Rattle.documents.proofs.Laws.Trees.OneDocument.{one-document}
 use Rattle.filing.specs.Filing.{refused, filed}
 use Rattle.filing.specs.Listing.{refusedLine}
 use Rattle.filing.specs.Printed.{Selecting, noPaths, chosen, left, LinesFor, noFolders, line, noLine, PrintedFor, PrintedOf, itsNumber, itsListing}
-use Rattle.filing.proofs.Laws.Filing.FilingOrder.{refused-is, filed-is}
+use Rattle.filing.proofs.Laws.Filing.FilingOrder.{filing-only}
 use Rattle.filing.proofs.Laws.Filing.FilingParts.{clash}
 use Rattle.filing.proofs.Laws.Filing.FilingMoves.{moves-once}
 
@@ -39,12 +39,10 @@ module _ (s : FolderSet) (report : List ℕ) where
       p .printed ∙ rw (lines, moves, ← same) (sym (q .printed))
 
   pub printed-once : (x y : List ℕ) → PrintedOf s report x → PrintedOf s report y → x ≡ y
-  printed-once x y (itsNumber {r = r} h) (itsNumber {r = q} g) =
-      let e : refused r ≡ refused q = sym (refused-is s report r .1 h) ∙ refused-is s report q .1 g in
+  printed-once x y (itsNumber r h) (itsNumber q g) =
+      let e = filing-only s report (refused r) (refused q) h g in
       let same : r ≡ q = cc in
       ap (λ (z : Refusal). refusedLine (numberOf z)) same
-  printed-once x y (itsNumber {r = r} h) (itsListing {m = m} f p) =
-      let e : refused r ≡ filed m = sym (refused-is s report r .1 h) ∙ filed-is s report m .1 f in clash (cc)
-  printed-once x y (itsListing {m = m} f p) (itsNumber {r = r} h) =
-      let e : refused r ≡ filed m = sym (refused-is s report r .1 h) ∙ filed-is s report m .1 f in clash (cc)
-  printed-once x y (itsListing f p) (itsListing g q) = listing-once x y p q
+  printed-once x y (itsNumber r h) (itsListing m f p) = let e = filing-only s report (refused r) (filed m) h f in clash (cc)
+  printed-once x y (itsListing m f p) (itsNumber r h) = let e = filing-only s report (filed m) (refused r) f h in clash (cc)
+  printed-once x y (itsListing m f p) (itsListing n g q) = listing-once x y p q

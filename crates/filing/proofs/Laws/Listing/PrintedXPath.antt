@@ -17,13 +17,14 @@ use Rattle.text.proofs.Laws.Tests.{cases, clash}
 use Rattle.text.specs.declared.written.Written.{Written}
 use Rattle.documents.specs.Tree.{Document}
 use Rattle.documents.specs.Document.{Event, eventsIn, documentIn}
-use Rattle.filing.specs.Filing.{Filed, refused, filed, callsIn, allAccepted, fileReport, FiledWith}
+use Rattle.filing.specs.Filing.{Outcome, refused, filed, FiledWith, callsIn, allAccepted}
+use Rattle.filing.specs.Code.Filing.{fileWith}
 use Rattle.filing.specs.Demand2.{SelectsElement, OfDocument}
 use Rattle.filing.specs.Listing.{filedHeader, matchedPaths, lineOf, linesFrom, movesLine, listing}
 use Rattle.filing.specs.Filer.{tooSmall, PrintsText, Prints}
 use Rattle.filing.specs.Code.Filer.{printed, filerPrints}
 use Rattle.filing.specs.Printed.{Selecting, noPaths, chosen, left, LinesFor, noFolders, line, noLine, MovesIn, PrintedFor, PrintedOf, itsNumber, itsListing, ofSet}
-use Rattle.filing.proofs.Laws.Filing.FilingOrder.{refused-is, filed-is}
+use Rattle.filing.proofs.Laws.Filing.FilingOrder.{filing-is}
 use Rattle.filing.proofs.Laws.Filing.FilingMoves.{calls-moves}
 use Rattle.filing.proofs.Laws.Filing.Demand2.{of-document}
 
@@ -82,11 +83,11 @@ module _ (s : FolderSet) (report : List ℕ) (m : State) (f : FiledWith s report
       }
 
 pub report-printed : (s : FolderSet) (report : List ℕ) → PrintedOf s report (filerPrints s report)
-report-printed s report = go (fileReport s report) refl
+report-printed s report = go (fileWith s report) refl
   where
-    go : (x : Filed) → fileReport s report ≡ x → PrintedOf s report (printed s x)
-    go (refused r) e = itsNumber (refused-is s report r .0 e)
-    go (filed m) e = let f = filed-is s report m .0 e in itsListing f (listing-printed s report m f)
+    go : (x : Outcome State) → fileWith s report ≡ x → PrintedOf s report (printed s x)
+    go (refused r) e = itsNumber r (filing-is s report (refused r) .1 e)
+    go (filed m) e = let f = filing-is s report (filed m) .1 e in itsListing m f (listing-printed s report m f)
 
 -- what is printed of an accepted set and any report
 module _ (text report a run out : List ℕ) (answer : Written) (a' run' out' : List ℕ) (p : Prints text report a run out answer a' run' out')
@@ -100,4 +101,4 @@ module _ (text report a run out : List ℕ) (answer : Written) (a' run' out' : L
   pub prints-xpath : (m : State) → FiledWith s report m → (bytes : List ℕ) × PrintedFor s report bytes × PrintsText bytes out answer out'
   prints-xpath m f =
       let l = listing-printed s report m f in
-      (listing s m, l, p .printed room (listing s m) (ofSet acc (itsListing f l)))
+      (listing s m, l, p .printed room (listing s m) (ofSet acc (itsListing m f l)))

@@ -22,22 +22,20 @@ use Rattle.text.specs.Answers.{said}
 use Rattle.text.specs.Written.{writtenInto, TextWritten}
 use Rattle.stored.specs.RunCalls.{noCounters}
 use Rattle.stored.specs.Build.{Built, builtInto}
-use Rattle.stored.specs.Demand3.{Left}
 use Rattle.text.specs.declared.written.Written.{Written}
 use Rattle.stored.specs.declared.counters.Counters.{Counters}
 use Rattle.stored.proofs.Laws.Running.Means.{Means, means}
 use Rattle.filing.specs.Limits.{listingSize}
-use Rattle.filing.specs.Filing.{Filed, refused, filed, numberGiven, fileReport}
-use Rattle.filing.specs.ReportRefusals.{Files}
-use Rattle.filing.specs.Code.FileCall.{fileAnswer, fileLeft, FilesBy}
+use Rattle.theory.specs.Calls.{State}
+use Rattle.filing.specs.Filing.{Outcome, refused, filed, numberGiven}
+use Rattle.filing.specs.Code.Filing.{fileWith}
 use Rattle.filing.specs.FiledReport.{Demand2Bytes}
 use Rattle.filing.specs.Listing.{listing, refusedLine}
 use Rattle.filing.specs.Listed.{ListingWritten, refusedConditions, RefusedWritten}
 use Rattle.filing.specs.Printed.{PrintedText, ofRefusedSet, ofSet}
 use Rattle.filing.specs.Filer.{tooSmall, PrintsText, Prints}
 use Rattle.filing.specs.Code.Filer.{printed, filerPrints, OutcomeWritten, FiledAndListed}
-use Rattle.filing.proofs.Laws.Demand1.ReportFiles.{by-verdict, by-equations}
-use Rattle.filing.proofs.Laws.Filing.FromBytes.{answer-is, left-filed, few-end, demand2-bytes}
+use Rattle.filing.proofs.Laws.Filing.FromBytes.{answer-is, left-filed, demand2-bytes}
 use Rattle.filing.proofs.Laws.Listing.PrintedText.{printed-is, printed-text-some}
 use Rattle.filing.proofs.Laws.Listing.Whole.{listing-fits, not-refused, listing-written}
 use Rattle.filing.proofs.Laws.Listing.Written.{refused-short}
@@ -96,59 +94,29 @@ pub none-refused : (n : ℕ) (a run : List ℕ) (c : Counters) (out after : List
 none-refused zero a run c out after answer h w = w
 none-refused (suc n) a run c out after answer h w = absurd (omega arith)
 
--- `file_and_list`
-pub filed-listed : (a run report out run' after : List ℕ) (n : ℕ) (c' : Counters) (answer : Written)
-    → Files a run noCounters report n run' c' → OutcomeWritten n a run' c' out answer after → FiledAndListed a run report out answer run' after
-filed-listed a run report out run' after n c' answer files w =
-    let f = by-equations a run noCounters report n run' c' files in
-    record { runAfter = f .runAfter; written = rw (f .answers, f .countersAfter) at w }
-
-filed-run : (a run report out : List ℕ) (answer : Written) (run' after : List ℕ) → FiledAndListed a run report out answer run' after
-    → (n : ℕ) × (c' : Counters) × Files a run noCounters report n run' c'
-filed-run a run report out answer run' after f =
-    let n = fileAnswer a run report in
-    let c' = fileLeft a run noCounters report .counters in
-    (n, c', by-verdict a run noCounters report n run' c' (record { answers = refl; runAfter = f .runAfter; countersAfter = refl }))
-
 -- of an accepted set
 module _ (text : List ℕ) (s : FolderSet) (acc : Accepted text s) (behind run report : List ℕ) (long : runSize ≤ length run) where
   abbrev a : List ℕ
   a = automatonOf s ++ behind
 
-  abbrev left : Left
-  left = fileLeft a run noCounters report
-
   w : Means s a
   w = means text s acc behind
 
-  files : FilesBy a run noCounters report (fileAnswer a run report) (left .bytes) (left .counters)
-  files = record { answers = refl; runAfter = refl; countersAfter = refl }
+  module _ (out after : List ℕ) (answer : Written) (room : listingSize ≤ length out) (run' : List ℕ) (f : FiledAndListed a run report out answer run' after) where
+    outcome-printed : (x : Outcome State) → fileWith s report ≡ x → PrintsText (printed s x) out answer after
+    outcome-printed x e = go x e (answer-is s a w run long noCounters report (f .number) run' (f .counters) (f .files) ∙ ap numberGiven e)
+      where
+        go : (x : Outcome State) → fileWith s report ≡ x → f .number ≡ numberGiven x → PrintsText (printed s x) out answer after
+        go (refused r) e n =
+            line-printed r out after answer room
+            (outcome-line (numberOf r) a run' (f .counters) out after answer (some-number r) (rw n at (f .written)))
+        go (filed m) e n =
+            let (few, r, k) = left-filed s a w run long noCounters report (f .number) run' (f .counters) (f .files) m e in
+            text-printed (listing s m) out after answer (listing-fits s a w m few (drop runSize run)) room _ (not-refused s a w m few (drop runSize run) out room)
+            (listing-written s a w m few (drop runSize run) out after answer room (rw (n, r, k) at (f .written)))
 
-  number : fileAnswer a run report ≡ numberGiven (fileReport s report)
-  number = answer-is s a w run long noCounters report (fileAnswer a run report) (left .bytes) (left .counters) files
-
-  module _ (out after : List ℕ) (answer : Written) (room : listingSize ≤ length out) where
-    outcome-printed : (x : Filed) → fileReport s report ≡ x → OutcomeWritten (fileAnswer a run report) a (left .bytes) (left .counters) out answer after
-        → PrintsText (printed s x) out answer after
-    outcome-printed (refused r) e h =
-        let n : fileAnswer a run report ≡ numberOf r = number ∙ ap numberGiven e in
-        line-printed r out after answer room
-        (outcome-line (numberOf r) a (left .bytes) (left .counters) out after answer (some-number r)
-        (subst (λ (k : ℕ). OutcomeWritten k a (left .bytes) (left .counters) out answer after) n h))
-    outcome-printed (filed m) e h =
-        let n : fileAnswer a run report ≡ 0 = number ∙ ap numberGiven e in
-        let t = left-filed s a w run long noCounters report (fileAnswer a run report) (left .bytes) (left .counters) files m e in
-        let few = few-end s a w run long noCounters report (fileAnswer a run report) (left .bytes) (left .counters) files (filed m) e in
-        let v : OutcomeWritten 0 a (left .bytes) (left .counters) out answer after =
-        subst (λ (k : ℕ). OutcomeWritten k a (left .bytes) (left .counters) out answer after) n h in
-        text-printed (listing s m) out after answer (listing-fits s a w m few (drop runSize run)) room _ (not-refused s a w m few (drop runSize run) out room)
-        (listing-written s a w m few (drop runSize run) out after answer room
-        (subst (λ (x : Left). ListingWritten a (x .bytes) (x .counters) out answer after) t v))
-
-    filing-printed : (run' : List ℕ) → FiledAndListed a run report out answer run' after → PrintsText (filerPrints s report) out answer after
-    filing-printed run' f =
-        outcome-printed (fileReport s report) refl
-        (subst (λ (x : List ℕ). OutcomeWritten (fileAnswer a run report) a x (left .counters) out answer after) (f .runAfter) (f .written))
+    filing-printed : PrintsText (filerPrints s report) out answer after
+    filing-printed = outcome-printed (fileWith s report) refl
 
 -- `print_set`, and then `print_filing`
 module _ (text report a run out : List ℕ) where
@@ -197,7 +165,7 @@ module _ (text report a run out : List ℕ) where
         printed = λ _. set-printed;
         built = λ _ v j. built-by v j .1;
         kept = λ _ r j. absurd (none-of r j);
-        filed = λ _ s acc. filed-run a' run report out answer run' after f;
+        filed = λ _ s acc. (f .number, f .counters, f .files);
       }
 
   module _ (answer : Written) (a' run' out' : List ℕ) (p : Prints text report a run out answer a' run' out') (h : tooSmall a run out ≡ false) where

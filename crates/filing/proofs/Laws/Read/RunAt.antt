@@ -25,8 +25,8 @@ run-is bytes = (λ t. from (readReport bytes) refl t, λ run. ap isGot (run-foun
     from fail e t = absurd (false≢true t)
     from (got ts r) e t = found-run bytes ts r e
 
-pub run-is : (bytes : List ℕ) (b : Bool) → b ≡ isGot (readReport bytes) → (b ≡ true) ↔ RunOfTokens bytes
-run-is bytes b e = (λ t. run-is bytes .0 (sym e ∙ t), λ run. e ∙ run-is bytes .1 run)
+pub run-said : (bytes : List ℕ) (b : Bool) → b ≡ isGot (readReport bytes) → (b ≡ true) ↔ RunOfTokens bytes
+run-said bytes b e = (λ t. run-is bytes .0 (sym e ∙ t), λ run. e ∙ run-is bytes .1 run)
 
 pub shown-end : (t : Token) (at e : ℕ) → foundEnd (shown t at e) ≡ e
 shown-end declaration at e = refl

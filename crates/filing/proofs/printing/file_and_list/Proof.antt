@@ -1,5 +1,4 @@
 -- `printing::file_and_list`: what filing left is listed.
-use Rattle.filing.proofs.Laws.Listing.Printing.{filed-listed}
 use borrow.Author.Needs.{needs}
 use Rattle.filing.proofs.printing.file_and_list.Statement.{statement}
 use Rattle.filing.proofs.printing.file_and_list.Tie as tie
@@ -17,7 +16,7 @@ same-length-2 : tie.Need-same-length-2
 same-length-2 c = search needs
 
 returns : tie.Need-returns
-returns c = filed-listed _ _ _ _ _ _ _ _ _ (c .before .before .before .before .before .before .before .before .file-by .ensures) (c .before .before .list-filed .ensures)
+returns c = record { number = _; counters = _; files = c .before .before .before .before .before .before .before .before .file-by .ensures; written = c .before .before .list-filed .ensures }
 
 pub file-and-list-spec : {M : Type 1} → statement M
 file-and-list-spec =

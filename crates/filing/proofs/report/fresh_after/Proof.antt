@@ -4,7 +4,7 @@ use Rattle.filing.proofs.report.fresh_after.Statement.{statement}
 use Rattle.filing.proofs.report.fresh_after.Tie as tie
 
 returns : tie.Need-returns
-returns c = left-done _ _ _ _ (c .if1 .taken)
+returns c = λ o t. left-done _ o _ _ _ t (c .if1 .taken)
 
 start-on-requires : tie.Need-start-on-requires
 start-on-requires c κs = search needs
@@ -16,7 +16,7 @@ same-length : tie.Need-same-length
 same-length c = search needs
 
 returns-2 : tie.Need-returns-2
-returns-2 c = left-fresh _ _ _ _ _ _ _ (c .before .before .before .before .before .if1 .left) (c .with-none .ensures .0) (c .before .before .before .start-on .ensures) (c .with-none .ensures .1)
+returns-2 c = λ o t. left-fresh _ o _ _ _ _ _ _ t (c .before .before .before .before .before .if1 .left) (c .with-none .ensures .0) (c .before .before .before .start-on .ensures) (c .with-none .ensures .1)
 
 pub fresh-after-spec : {M : Type 1} → statement M
 fresh-after-spec =

@@ -1,6 +1,8 @@
 use native.Mathlib.Omega.{arith}
+use Rattle.stored.specs.RunCalls.{noCounters}
 use Rattle.documents.specs.Reading.{readReport}
-use Rattle.filing.proofs.Laws.Filing.Taking.{run-left}
+use Rattle.filing.specs.Filing.{filed, andThen}
+use Rattle.filing.specs.Code.Taking.{fileLast, runFrom}
 use borrow.Author.Needs.{needs}
 use Rattle.filing.proofs.report.take_run.Statement.{statement}
 use Rattle.filing.proofs.report.take_run.Tie as tie
@@ -23,7 +25,8 @@ returns c =
     let t = c .before .before .before .before .before .before .before .before .take-tokens in
     let d = c .before .before .before .before .take-end in
     let f = c .before .before .fresh-after in
-    run-left (b .args .a .now) (b .args .run .now) (readReport (b .args .s .now)) (t .result .refusal) (t .last .1 .0) (t .result .counters) (d .result .refusal) (d .result .counters) (f .result .refusal) (f .last .1 .0) (f .result .counters) (b .pre .1) (t .ensures) (d .ensures) (f .ensures)
+    let o = runFrom (b .args .a .now) (filed (record { bytes = b .args .run .now; counters = noCounters })) (readReport (b .args .s .now)) in
+    rw (t .ensures .restarts, b .pre .1) at (f .ensures (andThen o fileLast) (d .ensures o (t .ensures .told)))
 
 pub take-run-spec : {M : Type 1} → statement M
 take-run-spec =

@@ -62,13 +62,13 @@ returns-4 : tie.Need-returns-4
 returns-4 c = rw (c .before .before .before .f .given .1) (taken-here _ _ _ _ _ (c .take-text .ensures))
 
 returns-5 : tie.Need-returns-5
-returns-5 c = rw (c .enum-told4 .given .1) (taken-here _ _ _ _ _ refl)
+returns-5 c = rw (c .enum-told4 .given .1) (taken-here _ _ _ _ _ (refl, refl))
 
 returns-6 : tie.Need-returns-6
-returns-6 c = rw (c .enum-told5 .given .1) (taken-here _ _ _ _ _ refl)
+returns-6 c = rw (c .enum-told5 .given .1) (taken-here _ _ _ _ _ (refl, refl))
 
 returns-7 : tie.Need-returns-7
-returns-7 c = rw (c .enum-told6 .given .1) (taken-here _ _ _ _ _ refl)
+returns-7 c = rw (c .enum-told6 .given .1) (taken-here _ _ _ _ _ (refl, refl))
 
 pub take-token-spec : {M : Type 1} → statement M
 take-token-spec =

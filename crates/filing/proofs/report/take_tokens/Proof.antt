@@ -6,14 +6,15 @@ use lib.ListN.{length}
 use borrow.Author.Needs.{needs}
 use Rattle.stored.specs.RunCalls.{startRun, noCounters}
 use Rattle.documents.specs.Reading.{readReport}
-use Rattle.filing.specs.Code.Taking.{so, runFrom}
-use Rattle.filing.proofs.Laws.Filing.Taking.{RunAt, so-is, taken-none, taken-end, Fit, fit-so, turn-past, turn-taken}
+use Rattle.filing.specs.Filing.{filed}
+use Rattle.filing.specs.Code.Taking.{runFrom}
+use Rattle.filing.proofs.Laws.Filing.Taking.{taken-none, taken-end, fit-told, Turn, turn-past, turn-taken}
 use Rattle.filing.proofs.report.take_tokens.Statement.{statement}
 use Rattle.filing.proofs.report.take_tokens.Tie as tie
 
 abbrev Inv-loop : tie.InvT-loop
 Inv-loop a run₀ s taken₀ i₀ run taken i =
-    (i ≤ length s) × ((length run ≡ length run₀) × ((startRun a run ≡ startRun a run₀) × ((RunAt a (so (taken .refusal) run (taken .counters)) s i ≡ runFrom a (so 0 run₀ noCounters) (readReport s)) × Fit a (so (taken .refusal) run (taken .counters)))))
+    (i ≤ length s) × ((length run ≡ length run₀) × ((startRun a run ≡ startRun a run₀) × Turn a s i (taken .refusal) run (taken .counters) (runFrom a (filed (record { bytes = run₀; counters = noCounters })) (readReport s))))
 
 abbrev μ-loop : tie.MeasureT-loop
 μ-loop a run₀ s taken₀ i₀ run taken i = length s - i
@@ -22,7 +23,9 @@ with-none-requires : tie.Need-with-none-requires Inv-loop μ-loop
 with-none-requires c κs = search needs
 
 loop-holds : tie.Need-loop-holds Inv-loop μ-loop
-loop-holds c = (omega arith, (refl, (refl, (rw (c .with-none .ensures .0, c .with-none .ensures .1), rw (c .with-none .ensures .0, c .with-none .ensures .1) (c .before .before .before .before .pre)))))
+loop-holds c =
+    let turn : Turn (c .before .before .before .before .args .a .now) (c .before .before .before .before .args .s .now) 0 (c .with-none .result .refusal) (c .before .before .before .before .args .run .now) (c .with-none .result .counters) (runFrom (c .before .before .before .before .args .a .now) (filed (record { bytes = c .before .before .before .before .args .run .now; counters = noCounters })) (readReport (c .before .before .before .before .args .s .now))) = record { outcome = filed (record { bytes = c .before .before .before .before .args .run .now; counters = noCounters }); told = (c .with-none .ensures .0, rw (c .with-none .ensures .1)); same = refl; fit = c .before .before .before .before .pre } in
+    (omega arith, (refl, (refl, turn)))
 
 token-at-requires : tie.Need-token-at-requires Inv-loop μ-loop
 token-at-requires c κs = search needs
@@ -38,11 +41,12 @@ same-length c = c .before .before .before .before .before .loop .inv .1 .0
 
 returns : tie.Need-returns Inv-loop μ-loop
 returns c =
-    let syntaxError = taken-none _ _ _ _ (c .before .before .before .token-at .ensures) _ (c .before .before .before .before .loop-test .taken) (sym (c .before .before .no-token-at .ensures) ∙ c .before .if1 .taken) in
-    record { outcomes = so-is _ _ _ _ (c .with-none2 .ensures .0) ∙ sym syntaxError ∙ c .before .before .before .before .before .loop .inv .1 .1 .1 .0; restarts = c .before .before .before .before .before .loop .inv .1 .1 .0 }
+    let l = c .before .before .before .before .before .loop in
+    let syntaxError = taken-none _ _ _ _ (c .before .before .before .token-at .ensures) (l .inv .1 .1 .1 .outcome) (c .before .before .before .before .loop-test .taken) (sym (c .before .before .no-token-at .ensures) ∙ c .before .if1 .taken) in
+    record { told = rw (sym (l .inv .1 .1 .1 .same) ∙ syntaxError) (c .with-none2 .ensures .0); restarts = l .inv .1 .1 .0 }
 
 take-at-requires : tie.Need-take-at-requires Inv-loop μ-loop
-take-at-requires c κs = (c .before .before .before .token-at .ensures, fit-so _ _ _ _ (c .before .before .before .before .before .loop .inv .1 .1 .1 .1))
+take-at-requires c κs = (c .before .before .before .token-at .ensures, fit-told _ (c .before .before .before .before .before .loop .inv .1 .1 .1 .outcome) _ _ _ (c .before .before .before .before .before .loop .inv .1 .1 .1 .told) (c .before .before .before .before .before .loop .inv .1 .1 .1 .fit))
 
 end-of-requires : tie.Need-end-of-requires Inv-loop μ-loop
 end-of-requires c κs = search needs
@@ -57,15 +61,16 @@ loop-again c =
     let l = c .before .before .before .before .before .before .before .before .before .loop in
     let taken = c .before .before .before .take-at in
     let past = turn-past (c .before .before .before .before .before .before .before .before .before .before .before .before .before .before .args .a .now) (c .before .before .before .before .before .before .before .before .before .before .before .before .before .before .args .s .now) (c .before .before .before .before .before .before .before .before .before .loop .i) (c .before .before .before .before .before .before .before .token-at .result) (c .before .before .before .before .before .before .before .token-at .ensures) (c .before .before .before .before .before .before .before .before .loop-test .taken) (sym (c .before .before .before .before .before .before .no-token-at .ensures) ∙ c .before .before .before .before .before .if1 .left) (c .end-of .result) (c .end-of .ensures) in
-    let turn = turn-taken (c .before .before .before .before .before .before .before .before .before .before .before .before .before .before .args .a .now) (c .before .before .before .before .before .before .before .before .before .before .before .before .before .before .args .s .now) (c .before .before .before .before .before .before .before .before .before .loop .i) (c .before .before .before .before .before .before .before .token-at .result) (c .before .before .before .before .before .before .before .token-at .ensures) (c .before .before .before .before .before .before .before .before .loop-test .taken) (sym (c .before .before .before .before .before .before .no-token-at .ensures) ∙ c .before .before .before .before .before .if1 .left) (c .end-of .result) (c .end-of .ensures) (l .run) (l .taken .refusal) (l .taken .counters) (taken .result .refusal) (taken .last .1 .0) (taken .result .counters) _ (taken .ensures) (l .inv .1 .1 .1 .0) (l .inv .1 .1 .1 .1) in
-    (past .1, (taken .kept .1 .0 ∙ l .inv .1 .0, (taken .ensures .restarts ∙ l .inv .1 .1 .0, turn)))
+    let turn = turn-taken (c .before .before .before .before .before .before .before .before .before .before .before .before .before .before .args .a .now) (c .before .before .before .before .before .before .before .before .before .before .before .before .before .before .args .s .now) (c .before .before .before .before .before .before .before .before .before .loop .i) (c .before .before .before .before .before .before .before .token-at .result) (c .before .before .before .before .before .before .before .token-at .ensures) (c .before .before .before .before .before .before .before .before .loop-test .taken) (sym (c .before .before .before .before .before .before .no-token-at .ensures) ∙ c .before .before .before .before .before .if1 .left) (c .end-of .result) (c .end-of .ensures) (l .run) (l .taken .refusal) (l .taken .counters) (taken .result .refusal) (taken .last .1 .0) (taken .result .counters) _ (l .inv .1 .1 .1) (taken .ensures) in
+    (past .1, (taken .kept .1 .0 ∙ l .inv .1 .0, (taken .ensures (l .inv .1 .1 .1 .outcome) (l .inv .1 .1 .1 .told) .restarts ∙ l .inv .1 .1 .0, turn)))
 
 same-length-2 : tie.Need-same-length-2 Inv-loop μ-loop
 same-length-2 c = c .before .loop .inv .1 .0
 
 returns-2 : tie.Need-returns-2 Inv-loop μ-loop
 returns-2 c =
-    record { outcomes = sym (taken-end _ _ _ _ (c .loop-test .left)) ∙ c .before .loop .inv .1 .1 .1 .0; restarts = c .before .loop .inv .1 .1 .0 }
+    let t = c .before .loop .inv .1 .1 .1 in
+    record { told = rw (sym (t .same) ∙ taken-end _ _ _ _ (c .loop-test .left)) (t .told); restarts = c .before .loop .inv .1 .1 .0 }
 
 pub take-tokens-spec : {M : Type 1} → statement M
 take-tokens-spec =

@@ -5,7 +5,7 @@ use native.Mathlib.Omega.{arith}
 use lib.ListN.{length}
 use Rattle.documents.specs.Reading.{readReport}
 use Rattle.filing.specs.Code.Seen.{isGot}
-use Rattle.filing.proofs.Laws.Read.RunAt.{run-is, RunFrom, run-none, run-late, run-next, run-first, run-end}
+use Rattle.filing.proofs.Laws.Read.RunAt.{run-said, RunFrom, run-none, run-late, run-next, run-first, run-end}
 use borrow.Author.Needs.{needs}
 use Rattle.filing.proofs.tokens.is_run.Statement.{statement}
 use Rattle.filing.proofs.tokens.is_run.Tie as tie
@@ -26,13 +26,13 @@ end-of-requires : tie.Need-end-of-requires Inv-loop μ-loop
 end-of-requires c κs = search needs
 
 returns : tie.Need-returns Inv-loop μ-loop
-returns c = run-is _ _ (run-none _ _ _ (c .before .before .token-at .ensures) (c .before .before .before .loop-test .taken) (rw (c .before .end-of .ensures) at (c .if1 .taken)) ∙ sym (c .before .before .before .before .loop .inv .1))
+returns c = run-said _ _ (run-none _ _ _ (c .before .before .token-at .ensures) (c .before .before .before .loop-test .taken) (rw (c .before .end-of .ensures) at (c .if1 .taken)) ∙ sym (c .before .before .before .before .loop .inv .1))
 
 is-declaration-requires : tie.Need-is-declaration-requires Inv-loop μ-loop
 is-declaration-requires c κs = search needs
 
 returns-2 : tie.Need-returns-2 Inv-loop μ-loop
-returns-2 c = run-is _ _ (run-late _ _ _ (c .before .before .before .before .before .token-at .ensures) (c .before .before .before .before .before .before .loop-test .taken) (rw (c .before .before .before .before .end-of .ensures) at (c .before .before .before .if1 .left)) (c .before .before .if2 .taken) (sym (c .before .is-declaration .ensures) ∙ c .if3 .taken) ∙ sym (c .before .before .before .before .before .before .before .loop .inv .1))
+returns-2 c = run-said _ _ (run-late _ _ _ (c .before .before .before .before .before .token-at .ensures) (c .before .before .before .before .before .before .loop-test .taken) (rw (c .before .before .before .before .end-of .ensures) at (c .before .before .before .if1 .left)) (c .before .before .if2 .taken) (sym (c .before .is-declaration .ensures) ∙ c .if3 .taken) ∙ sym (c .before .before .before .before .before .before .before .loop .inv .1))
 
 loop-less : tie.Need-loop-less Inv-loop μ-loop
 loop-less c = omega arith
@@ -51,7 +51,7 @@ loop-again-2 c =
     rw (c .before .before .end-of .ensures) (on .0, c .before .before .before .before .before .loop .inv .1 ∙ on .1)
 
 returns-3 : tie.Need-returns-3 Inv-loop μ-loop
-returns-3 c = run-is _ _ (run-end _ _ (c .loop-test .left) ∙ sym (c .before .loop .inv .1))
+returns-3 c = run-said _ _ (run-end _ _ (c .loop-test .left) ∙ sym (c .before .loop .inv .1))
 
 pub is-run-spec : {M : Type 1} → statement M
 is-run-spec =

@@ -23,7 +23,7 @@ use Rattle.notation.proofs.Laws.Stored.ReadSteps.{step-read}
 use Rattle.notation.proofs.Laws.Stored.ReadPaths.{path-read}
 use Rattle.stored.specs.Automaton.{maskSize, allSteps, Link, Role, role, rolesFrom, rolesIn, roles, masks, bitBytes, byteOf, assembled}
 use Rattle.stored.specs.Bits.{withBit}
-use Rattle.stored.specs.Code.Masks.{flaged, axisMask, flagRole, flagStep, flagSteps, flagPath, flagPaths, withMasks}
+use Rattle.stored.specs.Code.Masks.{flagged, axisMask, flagRole, flagStep, flagSteps, flagPath, flagPaths, withMasks}
 use Rattle.stored.proofs.Laws.Bytes.Tabulate.{tabulate-length}
 use Rattle.stored.proofs.Laws.Bytes.WithBit.{bits-with}
 use Rattle.stored.proofs.Laws.Tables.Assembled.{Sized, after-set, mask-read, mask-put}
@@ -102,10 +102,10 @@ module _ (s : FolderSet) (fit : Fitting s) (hs : List ℕ) (ls : List Link) (f :
   sized : (b : ℕ → Bool) → Sized hs ls (bitBytes b (6 * maskSize))
   sized b = sizes (bitBytes b (6 * maskSize)) (tabulate-length (byteOf b) (6 * maskSize))
 
-  flaged-bit : (on : Bool) (m i : ℕ) → m < 6 → i < 8 * maskSize → (b : ℕ → Bool) → flaged on m i (bytes b) ≡ bytes (flags on (place m i) b)
-  unfolding flaged
-  flaged-bit false m i k h b = refl
-  flaged-bit true m i k h b =
+  flagged-bit : (on : Bool) (m i : ℕ) → m < 6 → i < 8 * maskSize → (b : ℕ → Bool) → flagged on m i (bytes b) ≡ bytes (flags on (place m i) b)
+  unfolding flagged
+  flagged-bit false m i k h b = refl
+  flagged-bit true m i k h b =
       rw (mask-read s fit hs ls (bitBytes b (6 * maskSize)) f (sized b) rest (place m i / 8) (byte-in m i k h))
       (mask-put s fit hs ls (bitBytes b (6 * maskSize)) f (sized b) rest (place m i / 8) (withBit (getD (bitBytes b (6 * maskSize)) (place m i / 8) 0) (place m i % 8)) (byte-in m i k h)
       ∙ ap (λ (l : List ℕ). assembled s hs ls l f ++ rest) (bits-with b (6 * maskSize) (place m i) (bit-in m i k h)))
@@ -117,8 +117,8 @@ module _ (s : FolderSet) (fit : Fitting s) (hs : List ℕ) (ls : List Link) (f :
       let axis = axisMask first (isDescendant (axisOf st)) in
       let b1 = flags (isStar (testOf st)) (place 0 i) b in
       let b2 = flags true (place axis i) b1 in
-      rw (flaged-bit (isStar (testOf st)) 0 i (omega arith) h b, flaged-bit true axis i (axis-small first (isDescendant (axisOf st))) h b1)
-      (flaged-bit last 5 i (omega arith) h b2)
+      rw (flagged-bit (isStar (testOf st)) 0 i (omega arith) h b, flagged-bit true axis i (axis-small first (isDescendant (axisOf st))) h b1)
+      (flagged-bit last 5 i (omega arith) h b2)
 
   step-bits : (i : ℕ) → i < length (allSteps s) → (first last : Bool) (b : ℕ → Bool)
       → flagStep i first last (bytes b) ≡ bytes (flagBits i (role (getD (allSteps s) i noStep) first last) b)

@@ -35,7 +35,7 @@ use Rattle.stored.proofs.Laws.Tables.SetReads.{of-set, label-bytes, ste
 use Rattle.stored.proofs.Laws.Tables.States.{same-word, word-same, shortened-followed, followed-last, words-count, word-ends, label-parent, state-followed}
 use Rattle.stored.proofs.Laws.Tables.Goto.{Chained, ParentAt, goto-word}
 use Rattle.stored.proofs.Laws.Tables.Linked.{chained-here, parent-here}
-use Rattle.stored.proofs.Laws.Building.Placed.{flaged, placed, flaged-next, flaged-parent, flaged-length, upTo, upTo-length, upTo-done, upTo-rest, upTo-step, upTo-all, find-first, words-short}
+use Rattle.stored.proofs.Laws.Building.Placed.{flagged, placed, flagged-next, flagged-parent, flagged-length, upTo, upTo-length, upTo-done, upTo-rest, upTo-step, upTo-all, find-first, words-short}
 
 -- the word is empty, `#`, or that of a label below l
 data Seen (s : FolderSet) (l : ℕ) (w : Word) : Type 0 where
@@ -159,7 +159,7 @@ module _ (s : FolderSet) (fit : Fitting s) (ls : List Link) (ms : List ℕ) (f :
   nexts-kept : (l m : ℕ) → l ≤ length (allLabels s) → m < length (allLabels s) → nextOf (getD (upTo s ls l) m noLink) ≡ getD (nexts 0 (allLabels s)) m 0
   nexts-kept l m h k =
       cases (ltb m l)
-      (λ t. ap nextOf (upTo-done s ls counted l m (rw count h) (ltb-true m l t)) ∙ flaged-next s (getD (allWords s) m []) (getD ls m noLink) ∙ next m k)
+      (λ t. ap nextOf (upTo-done s ls counted l m (rw count h) (ltb-true m l t)) ∙ flagged-next s (getD (allWords s) m []) (getD ls m noLink) ∙ next m k)
       (λ t. ap nextOf (upTo-rest s ls counted l m (rw count h) (ltb-false m l t)) ∙ next m k)
 
   chains : (l : ℕ) → l ≤ length (allLabels s) → Chained s (stage l)
@@ -170,14 +170,14 @@ module _ (s : FolderSet) (fit : Fitting s) (ls : List Link) (ms : List ℕ) (f :
   unfolding stage
   parents l m h k =
       parent-here s fit (upTo s ls l) ms f (sized (upTo s ls l) (counts l)) rest (counts l) (λ m k. nexts-kept l m h k) m (omega arith)
-      (ap parentOf (upTo-done s ls counted l m (rw count h) k) ∙ flaged-parent s (getD (allWords s) m []) (getD ls m noLink))
+      (ap parentOf (upTo-done s ls counted l m (rw count h) k) ∙ flagged-parent s (getD (allWords s) m []) (getD ls m noLink))
 
   -- the length of a word seen is stored
   size-at : (l m : ℕ) → l ≤ length (allLabels s) → m < l → sizeAt (stage l) m ≡ length (getD (allWords s) m [])
   unfolding stage maxLabels
   size-at l m h k =
       let e : lengthOf (getD (upTo s ls l) m noLink) ≡ length (getD (allWords s) m []) =
-      ap lengthOf (upTo-done s ls counted l m (rw count h) k) ∙ flaged-length s (getD (allWords s) m []) (getD ls m noLink) in
+      ap lengthOf (upTo-done s ls counted l m (rw count h) k) ∙ flagged-length s (getD (allWords s) m []) (getD ls m noLink) in
       size-read s fit (heads (allLabels s)) (upTo s ls l) ms f (sized (upTo s ls l) (counts l)) rest m (omega (arith, counts l))
       (omega (arith, e, words-short s m (omega (arith, words-count s)), fit .labels))
       ∙ e
@@ -214,7 +214,7 @@ module _ (s : FolderSet) (fit : Fitting s) (ls : List Link) (ms : List ℕ) (f :
         let ks' : List Link = set ks l p in
         let n' : length ks' ≡ length (allLabels s) = length-set ks l p ∙ counts l in
         let size : sizeOf (stage l) (stateOf s w) + 1 ≡ length w + 1 = ap (λ (n : ℕ). n + 1) (size-here l w (omega arith) seen) in
-        let m : withLength (length w + 1) p ≡ flaged s (getD (allWords s) l []) k = rw (word, shortened-followed w e, length-append w (name e ∷ [])) in
+        let m : withLength (length w + 1) p ≡ flagged s (getD (allWords s) l []) k = rw (word, shortened-followed w e, length-append w (name e ∷ [])) in
         ap (λ (n : ℕ). sets (sets (stage l) (linksAt + linkSize * l + 2) (le16 (stateOf s w))) (linksAt + linkSize * l + 6) (le16 n)) size
         ∙ ap (λ (a : List ℕ). sets a (linksAt + linkSize * l + 6) (le16 (length w + 1)))
         (parent-put s fit (heads (allLabels s)) ks ms f (sized ks (counts l)) rest l (stateOf s w) b

@@ -20,13 +20,13 @@ use Rattle.stored.proofs.Laws.Bytes.Finding.{find-here, find-later}
 use Rattle.stored.proofs.Laws.Tables.Assembled.{nextOf, parentOf, lengthOf, withParent, withLength, noLink}
 
 -- a label's link with the parent and the length of its word
-abbrev pub flaged : FolderSet → Word → Link → Link
-flaged s w k = withLength (length w) (withParent (stateOf s (shortened w)) k)
+abbrev pub flagged : FolderSet → Word → Link → Link
+flagged s w k = withLength (length w) (withParent (stateOf s (shortened w)) k)
 
 unfoldable pub placed : FolderSet → List Word → List Link → List Link
 placed s [] ls = ls
 placed s (w ∷ ws) [] = []
-placed s (w ∷ ws) (k ∷ ls) = flaged s w k ∷ placed s ws ls
+placed s (w ∷ ws) (k ∷ ls) = flagged s w k ∷ placed s ws ls
 
 pub length-placed : (s : FolderSet) (ws : List Word) (ls : List Link) → length (placed s ws ls) ≡ length ls
 unfolding placed
@@ -34,21 +34,21 @@ length-placed s [] ls = refl
 length-placed s (w ∷ ws) [] = refl
 length-placed s (w ∷ ws) (k ∷ ls) = ap suc (length-placed s ws ls)
 
-pub placed-at : (s : FolderSet) (ws : List Word) (ls : List Link) (l : ℕ) → l < length ws → l < length ls → getD (placed s ws ls) l noLink ≡ flaged s (getD ws l []) (getD ls l noLink)
+pub placed-at : (s : FolderSet) (ws : List Word) (ls : List Link) (l : ℕ) → l < length ws → l < length ls → getD (placed s ws ls) l noLink ≡ flagged s (getD ws l []) (getD ls l noLink)
 unfolding placed
 placed-at s [] ls l h k = absurd (not-suc-le-zero h)
 placed-at s (w ∷ ws) [] l h k = absurd (not-suc-le-zero k)
 placed-at s (w ∷ ws) (x ∷ ls) zero h k = refl
 placed-at s (w ∷ ws) (x ∷ ls) (suc l) h k = placed-at s ws ls l (le-of-suc-le-suc h) (le-of-suc-le-suc k)
 
-pub flaged-next : (s : FolderSet) (w : Word) (k : Link) → nextOf (flaged s w k) ≡ nextOf k
-flaged-next s w (link n p x z) = refl
+pub flagged-next : (s : FolderSet) (w : Word) (k : Link) → nextOf (flagged s w k) ≡ nextOf k
+flagged-next s w (link n p x z) = refl
 
-pub flaged-parent : (s : FolderSet) (w : Word) (k : Link) → parentOf (flaged s w k) ≡ stateOf s (shortened w)
-flaged-parent s w (link n p x z) = refl
+pub flagged-parent : (s : FolderSet) (w : Word) (k : Link) → parentOf (flagged s w k) ≡ stateOf s (shortened w)
+flagged-parent s w (link n p x z) = refl
 
-pub flaged-length : (s : FolderSet) (w : Word) (k : Link) → lengthOf (flaged s w k) ≡ length w
-flaged-length s w (link n p x z) = refl
+pub flagged-length : (s : FolderSet) (w : Word) (k : Link) → lengthOf (flagged s w k) ≡ length w
+flagged-length s w (link n p x z) = refl
 
 -- stored for the labels below l
 abbrev pub upTo : FolderSet → List Link → ℕ → List Link
@@ -68,7 +68,7 @@ module _ (s : FolderSet) (ls : List Link) (count : length ls ≡ length (allWord
   front-length : (l : ℕ) → l ≤ length ls → length (take l (placed s (allWords s) ls)) ≡ l
   front-length l h = length-take-le l (placed s (allWords s) ls) (rw (length-placed s (allWords s) ls) h)
 
-  pub upTo-done : (l m : ℕ) → l ≤ length ls → m < l → getD (upTo s ls l) m noLink ≡ flaged s (getD (allWords s) m []) (getD ls m noLink)
+  pub upTo-done : (l m : ℕ) → l ≤ length ls → m < l → getD (upTo s ls l) m noLink ≡ flagged s (getD (allWords s) m []) (getD ls m noLink)
   upTo-done l m h k =
       List·getD-append (take l (placed s (allWords s) ls)) (drop l ls) noLink m (rw (front-length l h) k)
       ∙ getD-take l (placed s (allWords s) ls) m noLink k
@@ -82,10 +82,10 @@ module _ (s : FolderSet) (ls : List Link) (count : length ls ≡ length (allWord
       ap (λ (i : ℕ). getD (upTo s ls l) i noLink) e ∙ getD-append-add front (drop l ls) (m - l) noLink ∙ getD-drop l ls (m - l) noLink
       ∙ ap (λ (i : ℕ). getD ls i noLink) e'
 
-  pub upTo-step : (l : ℕ) → l < length ls → set (upTo s ls l) l (flaged s (getD (allWords s) l []) (getD ls l noLink)) ≡ upTo s ls (l + 1)
+  pub upTo-step : (l : ℕ) → l < length ls → set (upTo s ls l) l (flagged s (getD (allWords s) l []) (getD ls l noLink)) ≡ upTo s ls (l + 1)
   upTo-step l h =
       let all : List Link = placed s (allWords s) ls in
-      let k : Link = flaged s (getD (allWords s) l []) (getD ls l noLink) in
+      let k : Link = flagged s (getD (allWords s) l []) (getD ls l noLink) in
       let b : l < length all = rw (length-placed s (allWords s) ls) h in
       rw (add-one l, take-suc all l noLink b, placed-at s (allWords s) ls l (omega (arith, count)) h, drop-cons ls l noLink h)
       (set-at (take l all) (getD ls l noLink) (drop (suc l) ls) k l (front-length l (omega arith)) ∙ sym (append-assoc (take l all) (k ∷ []) (drop (suc l) ls)))

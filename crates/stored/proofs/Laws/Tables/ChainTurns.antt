@@ -76,9 +76,9 @@ module _ (a : List ℕ) (c : Searchable a) (k : ℕ) (some : k ≡ 0 → ⊥) (h
       go (suc l) (suc j) z h i f = omega (arith, f j refl)
 
   -- the bits of a label joined to those before, and those of the rest of its chain
-  pub flaged : (e : Name) (f : ℕ → Bool) (b before : Bool) → b ≡ (before || any f (ownLabel a e (k - 1)))
+  pub flagged : (e : Name) (f : ℕ → Bool) (b before : Bool) → b ≡ (before || any f (ownLabel a e (k - 1)))
       → (b || any f (chainFrom maxLabels a e (nextAt a (k - 1)))) ≡ (before || any f (chainFrom maxLabels a e k))
-  flaged e f b before t = any-turn f (ownLabel a e (k - 1)) (chainFrom maxLabels a e (nextAt a (k - 1))) b before t ∙ ap (λ (x : List ℕ). before || any f x) (sym (go k some h))
+  flagged e f b before t = any-turn f (ownLabel a e (k - 1)) (chainFrom maxLabels a e (nextAt a (k - 1))) b before t ∙ ap (λ (x : List ℕ). before || any f x) (sym (go k some h))
     where
       go : (k : ℕ) → (k ≡ 0 → ⊥) → k ≤ labelCount a → chainFrom maxLabels a e k ≡ ownLabel a e (k - 1) ++ chainFrom maxLabels a e (nextAt a (k - 1))
       go zero z h = absurd (z refl)

@@ -27,7 +27,7 @@ use Rattle.stored.proofs.Laws.Tables.States.{words-count}
 use Rattle.stored.proofs.Laws.Tables.Linked.{chained-here}
 use Rattle.stored.proofs.Laws.Tables.Searched.{chained-searchable}
 use Rattle.stored.proofs.Laws.Building.Chains.{withNexts, length-withNexts, chained-is}
-use Rattle.stored.proofs.Laws.Building.Placed.{flaged, placed, length-placed, placed-at}
+use Rattle.stored.proofs.Laws.Building.Placed.{flagged, placed, length-placed, placed-at}
 use Rattle.stored.proofs.Laws.Building.Parents.{parented-is}
 use Rattle.stored.proofs.Laws.Building.Staged.{Links}
 
@@ -43,8 +43,8 @@ unfolding nexts
 length-nexts k [] = refl
 length-nexts k (n ∷ names) = ap suc (length-nexts (suc k) names)
 
-flaged-failure : (s : FolderSet) (w : Word) (k : Link) → failureOf (flaged s w k) ≡ failureOf k
-flaged-failure s w (link n p x z) = refl
+flagged-failure : (s : FolderSet) (w : Word) (k : Link) → failureOf (flagged s w k) ≡ failureOf k
+flagged-failure s w (link n p x z) = refl
 
 -- after the chains
 unfoldable pub chainLinks : FolderSet → List Link
@@ -68,10 +68,10 @@ module _ (s : FolderSet) where
   chain-next : (l : ℕ) → l < length (allLabels s) → nextOf (getD (chainLinks s) l noLink) ≡ getD (nexts 0 (allLabels s)) l 0
   chain-next l h = ap nextOf (chain-at l h)
 
-  word-at : (l : ℕ) → l < length (allLabels s) → getD (wordLinks s) l noLink ≡ flaged s (getD (allWords s) l []) (link (getD (nexts 0 (allLabels s)) l 0) 0 0 0)
+  word-at : (l : ℕ) → l < length (allLabels s) → getD (wordLinks s) l noLink ≡ flagged s (getD (allWords s) l []) (link (getD (nexts 0 (allLabels s)) l 0) 0 0 0)
   unfolding wordLinks
   word-at l h =
-      placed-at s (allWords s) (chainLinks s) l (rw (words-count s) h) (rw chain-count h) ∙ ap (flaged s (getD (allWords s) l [])) (chain-at l h)
+      placed-at s (allWords s) (chainLinks s) l (rw (words-count s) h) (rw chain-count h) ∙ ap (flagged s (getD (allWords s) l [])) (chain-at l h)
 
   -- the links that the pass of the failure links starts from
   pub word-links : Links s (wordLinks s)

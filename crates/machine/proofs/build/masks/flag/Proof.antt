@@ -1,4 +1,4 @@
-use Rattle.stored.specs.Code.Masks.{flaged}
+use Rattle.stored.specs.Code.Masks.{flagged}
 use Rattle.stored.specs.Automaton.{maskSize, masksAt, automatonSize}
 use native.Mathlib.Omega.{arith}
 use borrow.Author.Needs.{needs}
@@ -37,11 +37,11 @@ same-length : tie.Need-same-length
 same-length c = search needs
 
 returns : tie.Need-returns
-unfolding flaged maskSize masksAt
+unfolding flagged maskSize masksAt
 returns c = rw (c .before .before .before .if1 .taken, c .with-bit .ensures .0, c .before .wide .ensures .0)
 
 returns-2 : tie.Need-returns-2
-unfolding flaged
+unfolding flagged
 returns-2 c = rw (c .if1 .left)
 
 pub flag-spec : {M : Type 1} → statement M

@@ -1,4 +1,4 @@
-use Rattle.stored.proofs.Laws.Building.Flaging.{steps-start, steps-turn, steps-end}
+use Rattle.stored.proofs.Laws.Building.Flagging.{steps-start, steps-turn, steps-end}
 use Rattle.stored.specs.Code.Masks.{flagSteps}
 use lib.ListN.{length}
 use lib.Dec.{eqb}

@@ -1,4 +1,4 @@
-use Rattle.stored.proofs.Laws.Building.Flaging.{rooted-start, rooted-here, rooted-later, rooted-end}
+use Rattle.stored.proofs.Laws.Building.Flagging.{rooted-start, rooted-here, rooted-later, rooted-end}
 use Rattle.stored.specs.Code.Masks.{anyRooted}
 use Prim.Native.Nat.{_-_, _≤_}
 use native.Mathlib.Omega.{arith}

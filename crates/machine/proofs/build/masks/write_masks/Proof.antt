@@ -1,5 +1,5 @@
 use borrow.Author.Needs.{needs}
-use Rattle.stored.proofs.Laws.Building.Flaging.{paths-start, paths-turn, paths-end}
+use Rattle.stored.proofs.Laws.Building.Flagging.{paths-start, paths-turn, paths-end}
 use Rattle.stored.specs.Code.Masks.{flagPaths, withMasks}
 use lib.ListN.{length}
 use Prim.Native.Nat.{ℕ, _-_, _≤_}

@@ -14,7 +14,7 @@ use Rattle.stored.specs.Bits.{bitAt}
 use Rattle.stored.specs.Chain.{chainFrom, chainLabels}
 use Rattle.stored.proofs.Laws.Tables.Goto.{hash-small}
 use Rattle.stored.proofs.Laws.Bytes.BitRows.{or-none}
-use Rattle.stored.proofs.Laws.Tables.ChainTurns.{chain-none, left, low, rises, flaged}
+use Rattle.stored.proofs.Laws.Tables.ChainTurns.{chain-none, left, low, rises, flagged}
 use Rattle.machine.proofs.run.candidates.flag_labels.Statement.{statement}
 use Rattle.machine.proofs.run.candidates.flag_labels.Tie as tie
 
@@ -87,7 +87,7 @@ loop-again c = let b = c .before .before .before .before .before .before .before
     let z = c .before .before .before .before .before .loop-test .taken in
     let r : c .word2 .result ≡ nextAt a (l .k - 1) = c .word2 .ensures .0 in
     let m = c .before .before .before .flag-label in
-    (rw r (s .next (l .k - 1) (low a s (l .k) z (l .inv .0))), (m .kept .0 ∙ l .inv .1 .0, λ j. rw r (flaged a s (l .k) z (l .inv .0) e (λ n. eqb (word16 a (labelEntryAt n + 4)) j) (bitAt (m .last .0) j) (bitAt (l .out) j) (m .ensures j) ∙ l .inv .1 .1 j)))
+    (rw r (s .next (l .k - 1) (low a s (l .k) z (l .inv .0))), (m .kept .0 ∙ l .inv .1 .0, λ j. rw r (flagged a s (l .k) z (l .inv .0) e (λ n. eqb (word16 a (labelEntryAt n + 4)) j) (bitAt (m .last .0) j) (bitAt (l .out) j) (m .ensures j) ∙ l .inv .1 .1 j)))
 
 same-length : tie.Need-same-length Inv-loop μ-loop
 same-length c = c .before .loop .inv .1 .0

@@ -8,7 +8,7 @@ use Rattle.stored.specs.Automaton.{maskSize}
 use Rattle.stored.specs.Run.{matchesAt}
 use Rattle.stored.specs.RunCalls.{usedBytes}
 use Rattle.stored.proofs.Laws.Running.RunBytes.{used-room}
-use Rattle.stored.proofs.Laws.Running.Flaged.{active-bits, seen-bits, match-bits, opened}
+use Rattle.stored.proofs.Laws.Running.Flagged.{active-bits, seen-bits, match-bits, opened}
 use borrow.Author.Needs.{needs}
 use Rattle.machine.proofs.run.open.write.Statement.{statement}
 use Rattle.machine.proofs.run.open.write.Tie as tie

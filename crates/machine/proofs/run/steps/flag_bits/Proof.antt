@@ -7,7 +7,7 @@ use lib.Seq.{sets, length-sets}
 use Rattle.stored.specs.Automaton.{maskSize, bitBytes}
 use Rattle.stored.specs.RunCalls.{maskBit, seenAt, matchedAt}
 use Rattle.stored.specs.Code.OpenSteps.{takenActive, takenSeen, takenMatched}
-use Rattle.stored.proofs.Laws.Running.Flaged.{none-stored, one-stored}
+use Rattle.stored.proofs.Laws.Running.Flagged.{none-stored, one-stored}
 use borrow.Author.Needs.{needs}
 use Rattle.machine.proofs.run.steps.flag_bits.Statement.{statement}
 use Rattle.machine.proofs.run.steps.flag_bits.Tie as tie
