@@ -33,7 +33,7 @@ ghost use Rattle.filing.specs.Code.Seen.{tagName};
 ghost use Rattle.filing.specs.Filing.{Outcome, filed, andThen};
 ghost use Rattle.filing.specs.ReportRefusals.{storedMachine, Files};
 ghost use Rattle.filing.specs.Code.Filing.{fileReport};
-ghost use Rattle.filing.specs.Code.Taking.{Told, Takes, Leaves, fileOpen, fileClose, fileText, fileFound, fileLast, noTokenAt, runFrom};
+ghost use Rattle.filing.specs.Code.Taking.{Answered, Takes, Leaves, fileOpen, fileClose, fileText, fileFound, fileLast, noTokenAt, runFrom};
 
 // What calls answer: the refusal, 0 for none, and the counters after them.
 pub struct Taken {
@@ -106,7 +106,7 @@ fn take_empty(a: &[u8], run: &mut [u8], c: Counters, e: &[u8]) -> Taken
 
 // Text outside the root is blank.
 fn take_text(run: &[u8], c: Counters, all: bool) -> Taken
-    ensures { λ r. ⌜ Told (fileText (record { bytes = now (run .entry); counters = c }) all) (r .refusal) (now (run .entry)) (r .counters) ⌝ }
+    ensures { λ r. ⌜ Answered (fileText (record { bytes = now (run .entry); counters = c }) all) (r .refusal) (now (run .entry)) (r .counters) ⌝ }
 {
     if all {
         return Taken {
@@ -151,7 +151,7 @@ fn take_token(a: &[u8], run: &mut [u8], c: Counters, f: Found, e: &[u8]) -> Take
 // Nothing more is taken once a token was refused.
 fn take_next(a: &[u8], run: &mut [u8], before: Taken, f: Found, e: &[u8]) -> Taken
     requires { ⌜ (before .refusal ≡ 0 → Usable (now a) (now run) (before .counters)) ⌝ }
-    ensures { λ r. ⌜ ((o : Outcome Left) → Told o (before .refusal) (now (run .entry)) (before .counters) → Takes (now (a .entry)) (now (run .entry)) (andThen o (λ t. fileFound (now (a .entry)) t f (now (e .entry)))) (r .refusal) (now (run .exit)) (r .counters)) ⌝ }
+    ensures { λ r. ⌜ ((o : Outcome Left) → Answered o (before .refusal) (now (run .entry)) (before .counters) → Takes (now (a .entry)) (now (run .entry)) (andThen o (λ t. fileFound (now (a .entry)) t f (now (e .entry)))) (r .refusal) (now (run .exit)) (r .counters)) ⌝ }
 {
     if before.refusal != 0 {
         return before;
@@ -163,7 +163,7 @@ fn take_next(a: &[u8], run: &mut [u8], before: Taken, f: Found, e: &[u8]) -> Tak
 // The same of the token at an offset, which has its name there.
 fn take_at(a: &[u8], run: &mut [u8], before: Taken, s: &[u8], at: usize, f: Found) -> Taken
     requires { ⌜ (f ≡ foundOf (length (now s)) at (readToken (drop at (now s)))) × (before .refusal ≡ 0 → Usable (now a) (now run) (before .counters)) ⌝ }
-    ensures { λ r. ⌜ ((o : Outcome Left) → Told o (before .refusal) (now (run .entry)) (before .counters) → Takes (now (a .entry)) (now (run .entry)) (andThen o (λ t. fileFound (now (a .entry)) t f (tagName (readToken (drop at (now (s .entry))))))) (r .refusal) (now (run .exit)) (r .counters)) ⌝ }
+    ensures { λ r. ⌜ ((o : Outcome Left) → Answered o (before .refusal) (now (run .entry)) (before .counters) → Takes (now (a .entry)) (now (run .entry)) (andThen o (λ t. fileFound (now (a .entry)) t f (tagName (readToken (drop at (now (s .entry))))))) (r .refusal) (now (run .exit)) (r .counters)) ⌝ }
 {
     let p = name_span(f);
     let from = p.from;
@@ -204,7 +204,7 @@ fn take_tokens(a: &[u8], run: &mut [u8], s: &[u8]) -> Taken
 
 // The report's end: there was a root, and nothing is open.
 fn take_end(run: &[u8], before: Taken) -> Taken
-    ensures { λ r. ⌜ ((o : Outcome Left) → Told o (before .refusal) (now (run .entry)) (before .counters) → Told (andThen o fileLast) (r .refusal) (now (run .entry)) (r .counters)) ⌝ }
+    ensures { λ r. ⌜ ((o : Outcome Left) → Answered o (before .refusal) (now (run .entry)) (before .counters) → Answered (andThen o fileLast) (r .refusal) (now (run .entry)) (r .counters)) ⌝ }
 {
     if before.refusal != 0 {
         return before;
@@ -222,7 +222,7 @@ fn take_end(run: &[u8], before: Taken) -> Taken
 // A refused report leaves a fresh run.
 fn fresh_after(a: &[u8], run: &mut [u8], done: Taken) -> Taken
     requires { ⌜ runSize ≤ length (now run) ⌝ }
-    ensures { λ r. ⌜ ((o : Outcome Left) → Told o (done .refusal) (now (run .entry)) (done .counters) → Leaves (started (now (a .entry)) (now (run .entry))) o (r .refusal) (now (run .exit)) (r .counters)) ⌝ }
+    ensures { λ r. ⌜ ((o : Outcome Left) → Answered o (done .refusal) (now (run .entry)) (done .counters) → Leaves (started (now (a .entry)) (now (run .entry))) o (r .refusal) (now (run .exit)) (r .counters)) ⌝ }
 {
     if done.refusal == 0 {
         return done;

@@ -20,13 +20,13 @@ use Rattle.filing.specs.Filing.{Outcome, refused, filed, numberGiven, an
 use Rattle.filing.specs.ReportRefusals.{storedMachine}
 
 -- number, run and counters, as the code has them, are those of an outcome
-abbrev pub Told : Outcome Left → ℕ → List ℕ → Counters → Type 0
-Told (refused r) n run c = n ≡ numberOf r
-Told (filed t) n run c = (n ≡ 0) × (t ≡ record { bytes = run; counters = c })
+abbrev pub Answered : Outcome Left → ℕ → List ℕ → Counters → Type 0
+Answered (refused r) n run c = n ≡ numberOf r
+Answered (filed t) n run c = (n ≡ 0) × (t ≡ record { bytes = run; counters = c })
 
 -- what calls on a run make of it, with this outcome: what they leave starts as it would have
 pub record Takes (a run : List ℕ) (o : Outcome Left) (n : ℕ) (run' : List ℕ) (c' : Counters) : Type 0 where
-  pub told : Told o n run' c'
+  pub answered : Answered o n run' c'
   pub restarts : startRun a run' ≡ startRun a run
 
 -- an outcome with a fresh run for a refusal

@@ -11,7 +11,7 @@ use Rattle.theory.specs.Walk.{movesOf, walk}
 use Rattle.theory.specs.Calls.{asLeft, openCall, closeCall, Level, level, State, openNames, fresh, opened, closedFrom, accepted, step, after, run}
 use Rattle.theory.proofs.Laws.Machine.Calls.{open-accepted, close-accepted}
 use Rattle.theory.proofs.Laws.Machine.Steps.{step-accepted, step-open-names, step-close-names}
-use Rattle.theory.proofs.Laws.Machine.MovesTold.{open-moves, open-moves-only}
+use Rattle.theory.proofs.Laws.Machine.MovesCounted.{open-moves, open-moves-only}
 use Rattle.theory.proofs.Laws.Machine.Sound.{Sound, fresh-sound, open-sound, close-sound}
 use Rattle.documents.specs.Tree.{Node, element, text, comment, Nodes, none, _then_}
 use Rattle.documents.specs.Document.{Event, opening, closing, textHere, commentHere, eventsAt, eventsIn, documentOf}

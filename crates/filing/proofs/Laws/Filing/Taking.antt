@@ -37,25 +37,25 @@ use Rattle.filing.specs.Code.Seen.{tagName, nameOfToken}
 use Rattle.filing.specs.Filing.{Outcome, refused, filed, andThen, unless, fileEvents}
 use Rattle.filing.specs.ReportRefusals.{storedMachine, leftBy, Files}
 use Rattle.filing.specs.Code.Filing.{isTorn, tokensIn, fileReport}
-use Rattle.filing.specs.Code.Taking.{Told, Takes, leftIn, Leaves, fileOpen, fileClose, fileText, fileFound, fileLast, noTokenAt, runFrom}
+use Rattle.filing.specs.Code.Taking.{Answered, Takes, leftIn, Leaves, fileOpen, fileClose, fileText, fileFound, fileLast, noTokenAt, runFrom}
 use Rattle.filing.proofs.Laws.Filing.FilingParts.{then-filed, then-same, events-append}
 use Rattle.filing.proofs.Laws.Filing.FilingOrder.{report-is, start-refused, start-lent, once-started, report-own}
 use Rattle.filing.proofs.Laws.Read.Next.{tokensFrom, token-next, from-end, from-none, from-late, from-next}
 use Rattle.filing.proofs.Laws.Read.RunAt.{shown-end, shown-declares}
 
 -- a refusal stops; else it goes on
-pub stops : (o : Outcome Left) (n : ℕ) (run : List ℕ) (c : Counters) → Told o n run c → (k : Left → Outcome Left) → (n ≡ 0 → ⊥) → Told (andThen o k) n run c
+pub stops : (o : Outcome Left) (n : ℕ) (run : List ℕ) (c : Counters) → Answered o n run c → (k : Left → Outcome Left) → (n ≡ 0 → ⊥) → Answered (andThen o k) n run c
 stops (refused r) n run c t k h = t
 stops (filed l) n run c t k h = absurd (h (t .0))
 
-pub goes-on : (o : Outcome Left) (n : ℕ) (run : List ℕ) (c : Counters) → Told o n run c → n ≡ 0 → o ≡ filed (record { bytes = run; counters = c })
+pub goes-on : (o : Outcome Left) (n : ℕ) (run : List ℕ) (c : Counters) → Answered o n run c → n ≡ 0 → o ≡ filed (record { bytes = run; counters = c })
 goes-on (refused r) n run c t z = absurd (some-number r (sym t ∙ z))
 goes-on (filed l) n run c t z = ap filed (t .1)
 
 -- the calls
 
 settled : (x : Option Refusal) (n : ℕ) (run' run₁ run₀ : List ℕ) (c' c₁ c₀ : Counters) → n ≡ numberIn x → run' ≡ cond (eqb n 0) run₁ run₀ → c' ≡ cond (eqb n 0) c₁ c₀
-    → Told (unless x (record { bytes = run₁; counters = c₁ })) n run' c'
+    → Answered (unless x (record { bytes = run₁; counters = c₁ })) n run' c'
 settled none n run' run₁ run₀ c' c₁ c₀ e h k =
     let p : run' ≡ run₁ = rw e at h in
     let q : c' ≡ c₁ = rw e at k in
@@ -76,7 +76,7 @@ module _ (a run : List ℕ) (c : Counters) (e : Name) (u : Usable a run c) (run'
       let same : n ≡ openRefusal a run c e = is ∙ ap numberSaid (o .answers) ∙ said-number (openRefusal a run c e) (openWalk a run e .moves) in
       let r = rw (← same) at (o .runAfter) in
       record {
-        told = settled (first (openOthers run c e)) n run' (openRun a run e) run c' (openCounters a run c e) c (same ∙ open-others a run c e u) r (rw (← same) at (o .countersAfter));
+        answered = settled (first (openOthers run c e)) n run' (openRun a run e) run c' (openCounters a run c e) c (same ∙ open-others a run c e u) r (rw (← same) at (o .countersAfter));
         restarts = restarted a n run' (openRun a run e) run r (λ z. open-restart a run c e (sym same ∙ z));
       }
 
@@ -85,21 +85,21 @@ module _ (a run : List ℕ) (c : Counters) (e : Name) (u : Usable a run c) (run'
   close-taken o =
       let r = rw (← o .answers) at (o .runAfter) in
       record {
-        told = settled (first (closeOthers run e)) n run' (closeRun run) run c' (closeCounters c) c (o .answers ∙ close-others a run c e u) r (rw (← o .answers) at (o .countersAfter));
+        answered = settled (first (closeOthers run e)) n run' (closeRun run) run c' (closeCounters c) c (o .answers ∙ close-others a run c e u) r (rw (← o .answers) at (o .countersAfter));
         restarts = restarted a n run' (closeRun run) run r (λ z. close-restart a run c e (sym (o .answers) ∙ z));
       }
 
 -- calls, and nothing more after a refusal; or then others
 pub taken-stops : (a run : List ℕ) (o : Outcome Left) (k : Left → Outcome Left) (n : ℕ) (run' : List ℕ) (c' : Counters) → Takes a run o n run' c' → (n ≡ 0 → ⊥)
     → Takes a run (andThen o k) n run' c'
-taken-stops a run o k n run' c' t h = record { told = stops o n run' c' (t .told) k h; restarts = t .restarts }
+taken-stops a run o k n run' c' t h = record { answered = stops o n run' c' (t .answered) k h; restarts = t .restarts }
 
 pub taken-on : (a run : List ℕ) (o : Outcome Left) (k : Left → Outcome Left) (n₁ : ℕ) (run₁ : List ℕ) (c₁ : Counters) (n : ℕ) (run' : List ℕ) (c' : Counters)
     → Takes a run o n₁ run₁ c₁ → n₁ ≡ 0 → Takes a run₁ (k (record { bytes = run₁; counters = c₁ })) n run' c' → Takes a run (andThen o k) n run' c'
-taken-on a run o k n₁ run₁ c₁ n run' c' t z u = rw (goes-on o n₁ run₁ c₁ (t .told) z) (record { told = u .told; restarts = u .restarts ∙ t .restarts })
+taken-on a run o k n₁ run₁ c₁ n run' c' t z u = rw (goes-on o n₁ run₁ c₁ (t .answered) z) (record { answered = u .answered; restarts = u .restarts ∙ t .restarts })
 
-pub taken-here : (a run : List ℕ) (o : Outcome Left) (n : ℕ) (c' : Counters) → Told o n run c' → Takes a run o n run c'
-taken-here a run o n c' t = record { told = t; restarts = refl }
+pub taken-here : (a run : List ℕ) (o : Outcome Left) (n : ℕ) (c' : Counters) → Answered o n run c' → Takes a run o n run c'
+taken-here a run o n c' t = record { answered = t; restarts = refl }
 
 -- a token, by what the code says of it, is its events
 found-events : (a : List ℕ) (t : Left) (x : Token) (at end : ℕ) → fileFound a t (shown x at end) (nameOfToken x) ≡ fileEvents (storedMachine a) t (eventsOfToken x)
@@ -185,45 +185,45 @@ unfolding fileEvents eventsOf
 taken-end a s i o h = ap (runFrom a o) (from-end s i (eqb i 0) h) ∙ then-filed o
 
 -- a fresh run for a refusal
-pub left-done : (fresh : Left) (o : Outcome Left) (n : ℕ) (run : List ℕ) (c : Counters) → Told o n run c → n ≡ 0 → Leaves fresh o n run c
+pub left-done : (fresh : Left) (o : Outcome Left) (n : ℕ) (run : List ℕ) (c : Counters) → Answered o n run c → n ≡ 0 → Leaves fresh o n run c
 left-done fresh o n run c t z = rw (goes-on o n run c t z) (record { answers = z; runAfter = refl; countersAfter = refl })
 
 pub left-fresh : (fresh : Left) (o : Outcome Left) (n : ℕ) (run : List ℕ) (c : Counters) (m : ℕ) (run' : List ℕ) (c' : Counters)
-    → Told o n run c → (n ≡ 0 → ⊥) → m ≡ n → run' ≡ fresh .bytes → c' ≡ fresh .counters → Leaves fresh o m run' c'
+    → Answered o n run c → (n ≡ 0 → ⊥) → m ≡ n → run' ≡ fresh .bytes → c' ≡ fresh .counters → Leaves fresh o m run' c'
 left-fresh fresh (refused r) n run c m run' c' t h e p q = record { answers = e ∙ t; runAfter = p; countersAfter = q }
 left-fresh fresh (filed l) n run c m run' c' t h e p q = absurd (h (t .0))
 
 -- text
 module _ (run : List ℕ) (c : Counters) (all : Bool) (n : ℕ) (c' : Counters) where
-  abbrev textTold : Type 0
-  textTold = Told (fileText (record { bytes = run; counters = c }) all) n run c'
+  abbrev textAnswered : Type 0
+  textAnswered = Answered (fileText (record { bytes = run; counters = c }) all) n run c'
 
-  pub text-blank : all ≡ true → n ≡ 0 → c' ≡ c → textTold
+  pub text-blank : all ≡ true → n ≡ 0 → c' ≡ c → textAnswered
   unfolding first
   text-blank h z e = rw (h, and-false (eqb (depthOf run) 0)) (z, rw e)
 
-  pub text-loose : all ≡ false → depthOf run ≡ 0 → n ≡ 10 → textTold
+  pub text-outside : all ≡ false → depthOf run ≡ 0 → n ≡ 10 → textAnswered
   unfolding first
-  text-loose h z e = rw (h, eq-eqb (depthOf run) 0 z) e
+  text-outside h z e = rw (h, eq-eqb (depthOf run) 0 z) e
 
-  pub text-inside : (depthOf run ≡ 0 → ⊥) → n ≡ 0 → c' ≡ c → textTold
+  pub text-inside : (depthOf run ≡ 0 → ⊥) → n ≡ 0 → c' ≡ c → textAnswered
   unfolding first
   text-inside h z e = rw (ne-eqb (depthOf run) 0 h) (z, rw e)
 
 -- the end
 module _ (run : List ℕ) (c : Counters) (n : ℕ) (c' : Counters) where
-  abbrev endTold : Type 0
-  endTold = Told (fileLast (record { bytes = run; counters = c })) n run c'
+  abbrev endAnswered : Type 0
+  endAnswered = Answered (fileLast (record { bytes = run; counters = c })) n run c'
 
-  pub end-rootless : c .opens ≡ 0 → n ≡ 10 → endTold
+  pub end-rootless : c .opens ≡ 0 → n ≡ 10 → endAnswered
   unfolding first
   end-rootless z e = rw (eq-eqb (c .opens) 0 z) e
 
-  pub end-open : (c .opens ≡ 0 → ⊥) → (depthOf run ≡ 0 → ⊥) → n ≡ 10 → endTold
+  pub end-open : (c .opens ≡ 0 → ⊥) → (depthOf run ≡ 0 → ⊥) → n ≡ 10 → endAnswered
   unfolding first
   end-open y z e = rw (ne-eqb (c .opens) 0 y, ne-eqb (depthOf run) 0 z) e
 
-  pub end-well : (c .opens ≡ 0 → ⊥) → depthOf run ≡ 0 → n ≡ 0 → c' ≡ c → endTold
+  pub end-well : (c .opens ≡ 0 → ⊥) → depthOf run ≡ 0 → n ≡ 0 → c' ≡ c → endAnswered
   unfolding first
   end-well y z e k = rw (ne-eqb (c .opens) 0 y, eq-eqb (depthOf run) 0 z) (e, rw k)
 
@@ -306,8 +306,8 @@ abbrev pub Fit : List ℕ → Outcome Left → Type 0
 Fit a (refused r) = Unit {0}
 Fit a (filed t) = Usable a (t .bytes) (t .counters)
 
-pub fit-told : (a : List ℕ) (o : Outcome Left) (n : ℕ) (run : List ℕ) (c : Counters) → Told o n run c → Fit a o → n ≡ 0 → Usable a run c
-fit-told a o n run c t f z = rw (goes-on o n run c t z) at f
+pub fit-answered : (a : List ℕ) (o : Outcome Left) (n : ℕ) (run : List ℕ) (c : Counters) → Answered o n run c → Fit a o → n ≡ 0 → Usable a run c
+fit-answered a o n run c t f z = rw (goes-on o n run c t z) at f
 
 unless-fit : (a : List ℕ) (x : Option Refusal) (t : Left) → (x ≡ none → Usable a (t .bytes) (t .counters)) → Fit a (unless x t)
 unless-fit a none t u = u refl
@@ -338,12 +338,12 @@ found-fit a t (Text end all) e u = unless-fit a (first (gives (eqb (depthOf (t .
 -- what an open that is accepted leaves
 pub opened-usable : (a run : List ℕ) (c : Counters) (e : Name) (n : ℕ) (run' : List ℕ) (c' : Counters) → Takes a run (fileOpen a (record { bytes = run; counters = c }) e) n run' c'
     → Usable a run c → n ≡ 0 → Usable a run' c'
-opened-usable a run c e n run' c' t u = fit-told a (fileOpen a (record { bytes = run; counters = c }) e) n run' c' (t .told) (open-fit a (record { bytes = run; counters = c }) e u)
+opened-usable a run c e n run' c' t u = fit-answered a (fileOpen a (record { bytes = run; counters = c }) e) n run' c' (t .answered) (open-fit a (record { bytes = run; counters = c }) e u)
 
 -- a turn of the loop: what was taken has an outcome, of which the tokens from here make the outcome of all
 pub record Turn (a s : List ℕ) (i n : ℕ) (run : List ℕ) (c : Counters) (all : Outcome Left) : Type 0 where
   pub outcome : Outcome Left
-  pub told : Told outcome n run c
+  pub answered : Answered outcome n run c
   pub same : RunAt a outcome s i ≡ all
   pub fit : Fit a outcome
 
@@ -354,13 +354,13 @@ module _ (a s : List ℕ) (i : ℕ) (f : Found) (is : f ≡ foundOf (length s) i
       rw ends (next .0, next .1 .0)
 
   pub turn-taken : (run : List ℕ) (n : ℕ) (c : Counters) (n' : ℕ) (run' : List ℕ) (c' : Counters) (all : Outcome Left) → Turn a s i n run c all
-      → ((o : Outcome Left) → Told o n run c → Takes a run (andThen o (λ t. fileFound a t f (tagName (readToken (drop i s))))) n' run' c') → Turn a s end n' run' c' all
+      → ((o : Outcome Left) → Answered o n run c → Takes a run (andThen o (λ t. fileFound a t f (tagName (readToken (drop i s))))) n' run' c') → Turn a s end n' run' c' all
   turn-taken run n c n' run' c' all t takes =
       let k : Left → Outcome Left = λ t. fileFound a t f (tagName (readToken (drop i s))) in
       let next = taken-next a s i f is (t .outcome) inside all-read in
       record {
         outcome = andThen (t .outcome) k;
-        told = takes (t .outcome) (t .told) .told;
+        answered = takes (t .outcome) (t .answered) .answered;
         same = rw ends (next .1 .1 ∙ t .same);
         fit = then-fit a (t .outcome) k (t .fit) (λ u v. found-fit a u f _ v);
       }

@@ -26,7 +26,7 @@ returns c =
     let d = c .before .before .before .before .take-end in
     let f = c .before .before .fresh-after in
     let o = runFrom (b .args .a .now) (filed (record { bytes = b .args .run .now; counters = noCounters })) (readReport (b .args .s .now)) in
-    rw (t .ensures .restarts, b .pre .1) at (f .ensures (andThen o fileLast) (d .ensures o (t .ensures .told)))
+    rw (t .ensures .restarts, b .pre .1) at (f .ensures (andThen o fileLast) (d .ensures o (t .ensures .answered)))
 
 pub take-run-spec : {M : Type 1} → statement M
 take-run-spec =

@@ -8,7 +8,7 @@ use Rattle.stored.specs.RunCalls.{startRun, noCounters}
 use Rattle.documents.specs.Reading.{readReport}
 use Rattle.filing.specs.Filing.{filed}
 use Rattle.filing.specs.Code.Taking.{runFrom}
-use Rattle.filing.proofs.Laws.Filing.Taking.{taken-none, taken-end, fit-told, Turn, turn-past, turn-taken}
+use Rattle.filing.proofs.Laws.Filing.Taking.{taken-none, taken-end, fit-answered, Turn, turn-past, turn-taken}
 use Rattle.filing.proofs.report.take_tokens.Statement.{statement}
 use Rattle.filing.proofs.report.take_tokens.Tie as tie
 
@@ -24,7 +24,7 @@ with-none-requires c κs = search needs
 
 loop-holds : tie.Need-loop-holds Inv-loop μ-loop
 loop-holds c =
-    let turn : Turn (c .before .before .before .before .args .a .now) (c .before .before .before .before .args .s .now) 0 (c .with-none .result .refusal) (c .before .before .before .before .args .run .now) (c .with-none .result .counters) (runFrom (c .before .before .before .before .args .a .now) (filed (record { bytes = c .before .before .before .before .args .run .now; counters = noCounters })) (readReport (c .before .before .before .before .args .s .now))) = record { outcome = filed (record { bytes = c .before .before .before .before .args .run .now; counters = noCounters }); told = (c .with-none .ensures .0, rw (c .with-none .ensures .1)); same = refl; fit = c .before .before .before .before .pre } in
+    let turn : Turn (c .before .before .before .before .args .a .now) (c .before .before .before .before .args .s .now) 0 (c .with-none .result .refusal) (c .before .before .before .before .args .run .now) (c .with-none .result .counters) (runFrom (c .before .before .before .before .args .a .now) (filed (record { bytes = c .before .before .before .before .args .run .now; counters = noCounters })) (readReport (c .before .before .before .before .args .s .now))) = record { outcome = filed (record { bytes = c .before .before .before .before .args .run .now; counters = noCounters }); answered = (c .with-none .ensures .0, rw (c .with-none .ensures .1)); same = refl; fit = c .before .before .before .before .pre } in
     (omega arith, (refl, (refl, turn)))
 
 token-at-requires : tie.Need-token-at-requires Inv-loop μ-loop
@@ -43,10 +43,10 @@ returns : tie.Need-returns Inv-loop μ-loop
 returns c =
     let l = c .before .before .before .before .before .loop in
     let syntaxError = taken-none _ _ _ _ (c .before .before .before .token-at .ensures) (l .inv .1 .1 .1 .outcome) (c .before .before .before .before .loop-test .taken) (sym (c .before .before .no-token-at .ensures) ∙ c .before .if1 .taken) in
-    record { told = rw (sym (l .inv .1 .1 .1 .same) ∙ syntaxError) (c .with-none2 .ensures .0); restarts = l .inv .1 .1 .0 }
+    record { answered = rw (sym (l .inv .1 .1 .1 .same) ∙ syntaxError) (c .with-none2 .ensures .0); restarts = l .inv .1 .1 .0 }
 
 take-at-requires : tie.Need-take-at-requires Inv-loop μ-loop
-take-at-requires c κs = (c .before .before .before .token-at .ensures, fit-told _ (c .before .before .before .before .before .loop .inv .1 .1 .1 .outcome) _ _ _ (c .before .before .before .before .before .loop .inv .1 .1 .1 .told) (c .before .before .before .before .before .loop .inv .1 .1 .1 .fit))
+take-at-requires c κs = (c .before .before .before .token-at .ensures, fit-answered _ (c .before .before .before .before .before .loop .inv .1 .1 .1 .outcome) _ _ _ (c .before .before .before .before .before .loop .inv .1 .1 .1 .answered) (c .before .before .before .before .before .loop .inv .1 .1 .1 .fit))
 
 end-of-requires : tie.Need-end-of-requires Inv-loop μ-loop
 end-of-requires c κs = search needs
@@ -62,7 +62,7 @@ loop-again c =
     let taken = c .before .before .before .take-at in
     let past = turn-past (c .before .before .before .before .before .before .before .before .before .before .before .before .before .before .args .a .now) (c .before .before .before .before .before .before .before .before .before .before .before .before .before .before .args .s .now) (c .before .before .before .before .before .before .before .before .before .loop .i) (c .before .before .before .before .before .before .before .token-at .result) (c .before .before .before .before .before .before .before .token-at .ensures) (c .before .before .before .before .before .before .before .before .loop-test .taken) (sym (c .before .before .before .before .before .before .no-token-at .ensures) ∙ c .before .before .before .before .before .if1 .left) (c .end-of .result) (c .end-of .ensures) in
     let turn = turn-taken (c .before .before .before .before .before .before .before .before .before .before .before .before .before .before .args .a .now) (c .before .before .before .before .before .before .before .before .before .before .before .before .before .before .args .s .now) (c .before .before .before .before .before .before .before .before .before .loop .i) (c .before .before .before .before .before .before .before .token-at .result) (c .before .before .before .before .before .before .before .token-at .ensures) (c .before .before .before .before .before .before .before .before .loop-test .taken) (sym (c .before .before .before .before .before .before .no-token-at .ensures) ∙ c .before .before .before .before .before .if1 .left) (c .end-of .result) (c .end-of .ensures) (l .run) (l .taken .refusal) (l .taken .counters) (taken .result .refusal) (taken .last .1 .0) (taken .result .counters) _ (l .inv .1 .1 .1) (taken .ensures) in
-    (past .1, (taken .kept .1 .0 ∙ l .inv .1 .0, (taken .ensures (l .inv .1 .1 .1 .outcome) (l .inv .1 .1 .1 .told) .restarts ∙ l .inv .1 .1 .0, turn)))
+    (past .1, (taken .kept .1 .0 ∙ l .inv .1 .0, (taken .ensures (l .inv .1 .1 .1 .outcome) (l .inv .1 .1 .1 .answered) .restarts ∙ l .inv .1 .1 .0, turn)))
 
 same-length-2 : tie.Need-same-length-2 Inv-loop μ-loop
 same-length-2 c = c .before .loop .inv .1 .0
@@ -70,7 +70,7 @@ same-length-2 c = c .before .loop .inv .1 .0
 returns-2 : tie.Need-returns-2 Inv-loop μ-loop
 returns-2 c =
     let t = c .before .loop .inv .1 .1 .1 in
-    record { told = rw (sym (t .same) ∙ taken-end _ _ _ _ (c .loop-test .left)) (t .told); restarts = c .before .loop .inv .1 .1 .0 }
+    record { answered = rw (sym (t .same) ∙ taken-end _ _ _ _ (c .loop-test .left)) (t .answered); restarts = c .before .loop .inv .1 .1 .0 }
 
 pub take-tokens-spec : {M : Type 1} → statement M
 take-tokens-spec =
