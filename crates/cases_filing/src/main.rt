@@ -48,7 +48,7 @@ fn foreign() {
     judge(b"<a>\x80</a>");
 }
 
-fn syntaxError() {
+fn no_tokens() {
     judge(b"<a>]]></a>");
     judge(b"<a b=\"]]>\"/>");
     judge(b"<a>&copy;</a>");
@@ -83,9 +83,9 @@ fn both() {
     judge(b"<a\x7f");
     judge(b"<a></b><");
     judge(b"<a>]]><b>");
-    nested(b"65 nested, then a mismatchedClose close", 65, b"</b>", 0);
+    nested(b"65 nested, then a crossed close", 65, b"</b>", 0);
     nested(
-        b"64 nested, a mismatchedClose close, then one more",
+        b"64 nested, a crossed close, then one more",
         64,
         b"</b><a>",
         0,
@@ -113,7 +113,7 @@ fn main() {
     errs();
     selected();
     foreign();
-    syntaxError();
+    no_tokens();
     loose();
     outside();
     names();

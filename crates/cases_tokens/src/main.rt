@@ -76,7 +76,7 @@ fn show(s: &[u8]) {
     if is_run(s) {
         io::write_all(1, b" run\n");
     } else {
-        io::write_all(1, b" syntaxError\n");
+        io::write_all(1, b" torn\n");
     }
 }
 
