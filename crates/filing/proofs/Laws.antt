@@ -1,4 +1,3 @@
-pub mod Read
 pub mod Filing
 pub mod Listing
 pub mod Demand1

@@ -9,7 +9,5 @@ pub mod Filing
 pub mod ReportRefusals
 pub mod Listing
 pub mod Listed
-pub mod NamePart
-pub mod Seen
 pub mod Limits
 pub mod Code

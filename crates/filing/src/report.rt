@@ -1,11 +1,11 @@
 // Filing a report (paper 01: Reports): its tokens in order, each given to the machine as what it is in the tree.
 use crate::limits::MAX_REPORT;
-use crate::scan::all_listed;
-use crate::tokens::Found;
-use crate::tokens::end_of;
-use crate::tokens::is_declaration;
-use crate::tokens::name_span;
-use crate::tokens::token_at;
+use reports::scan::all_listed;
+use reports::tokens::Found;
+use reports::tokens::end_of;
+use reports::tokens::is_declaration;
+use reports::tokens::name_span;
+use reports::tokens::token_at;
 use machine::run::close::close_usable;
 use machine::run::open::open_usable;
 use machine::run::shape::depth;
@@ -28,8 +28,8 @@ ghost use Rattle.stored.specs.RunCalls.{startRun, noCounters};
 ghost use Rattle.stored.specs.Openable.{Usable};
 ghost use Rattle.stored.specs.Demand3.{Left, started};
 ghost use Rattle.documents.specs.Reading.{readToken, readReport};
-ghost use Rattle.filing.specs.Seen.{foundOf};
-ghost use Rattle.filing.specs.Code.Seen.{tagName};
+ghost use Rattle.reports.specs.Seen.{foundOf};
+ghost use Rattle.reports.specs.Code.Seen.{tagName};
 ghost use Rattle.filing.specs.Filing.{Outcome, filed, andThen};
 ghost use Rattle.filing.specs.ReportRefusals.{storedMachine, Files};
 ghost use Rattle.filing.specs.Code.Filing.{fileReport};

@@ -10,12 +10,12 @@ use Rattle.text.specs.Order.{gives, first}
 use Rattle.stored.specs.RunCalls.{depthOf, startRun}
 use Rattle.stored.specs.Demand3.{Left}
 use Rattle.stored.specs.declared.counters.Counters.{Counters}
-use Rattle.filing.specs.declared.tokens.Found.{Found}
-use Rattle.filing.specs.declared.tokens.Found.the-variants.{Nothing, Declaration, Comment, Start, Empty, End, Text}
+use Rattle.reports.specs.declared.tokens.Found.{Found}
+use Rattle.reports.specs.declared.tokens.Found.the-variants.{Nothing, Declaration, Comment, Start, Empty, End, Text}
 use Rattle.documents.specs.Tokens.{Token}
 use Rattle.text.specs.Read.{Read, fail, got}
 use Rattle.documents.specs.Document.{opening, closing, eventsOf}
-use Rattle.filing.specs.Seen.{foundEnd, declares}
+use Rattle.reports.specs.Seen.{foundEnd, declares}
 use Rattle.filing.specs.Filing.{Outcome, refused, filed, numberGiven, andThen, unless, fileEvent, fileEvents, fileEnd}
 use Rattle.filing.specs.ReportRefusals.{storedMachine}
 

@@ -26,22 +26,22 @@ use Rattle.stored.proofs.Laws.Shapes.Given.{open-others, close-others}
 use Rattle.stored.proofs.Laws.Shapes.Kept.{start-usable, open-usable, close-usable}
 use Rattle.stored.proofs.Laws.Running.Restart.{start-restart, open-restart, close-restart}
 use Rattle.filing.specs.Limits.{maxReportBytes}
-use Rattle.filing.specs.declared.tokens.Found.{Found}
-use Rattle.filing.specs.declared.tokens.Found.the-variants.{Nothing, Declaration, Comment, Start, Empty, End, Text}
+use Rattle.reports.specs.declared.tokens.Found.{Found}
+use Rattle.reports.specs.declared.tokens.Found.the-variants.{Nothing, Declaration, Comment, Start, Empty, End, Text}
 use Rattle.documents.specs.Tokens.{Token, declaration, comment, startTag, emptyTag, endTag, text, listed, isDeclaration}
 use Rattle.text.specs.Read.{Read, fail, got, thenRead}
 use Rattle.documents.specs.Reading.{readToken, readReport}
 use Rattle.documents.specs.Document.{eventsOfToken, eventsOf}
-use Rattle.filing.specs.Seen.{shown, foundOf, foundEnd, declares}
-use Rattle.filing.specs.Code.Seen.{tagName, nameOfToken}
+use Rattle.reports.specs.Seen.{shown, foundOf, foundEnd, declares}
+use Rattle.reports.specs.Code.Seen.{tagName, nameOfToken}
 use Rattle.filing.specs.Filing.{Outcome, refused, filed, andThen, unless, fileEvents}
 use Rattle.filing.specs.ReportRefusals.{storedMachine, leftBy, Files}
 use Rattle.filing.specs.Code.Filing.{isTorn, tokensIn, fileReport}
 use Rattle.filing.specs.Code.Taking.{Answered, Takes, leftIn, Leaves, fileOpen, fileClose, fileText, fileFound, fileLast, noTokenAt, runFrom}
 use Rattle.filing.proofs.Laws.Filing.FilingParts.{then-filed, then-same, events-append}
 use Rattle.filing.proofs.Laws.Filing.FilingOrder.{report-is, start-refused, start-lent, once-started, report-own}
-use Rattle.filing.proofs.Laws.Read.Next.{tokensFrom, token-next, from-end, from-none, from-late, from-next}
-use Rattle.filing.proofs.Laws.Read.RunAt.{shown-end, shown-declares}
+use Rattle.reports.proofs.Laws.Read.Next.{tokensFrom, token-next, from-end, from-none, from-late, from-next}
+use Rattle.reports.proofs.Laws.Read.RunAt.{shown-end, shown-declares}
 
 -- a refusal stops; else it goes on
 pub stops : (o : Outcome Left) (n : ℕ) (run : List ℕ) (c : Counters) → Answered o n run c → (k : Left → Outcome Left) → (n ≡ 0 → ⊥) → Answered (andThen o k) n run c

@@ -1,4 +1,4 @@
-use Rattle.filing.proofs.Laws.Read.TagName.{spans}
+use Rattle.reports.proofs.Laws.Read.TagName.{spans}
 use borrow.Author.Needs.{needs}
 use Rattle.filing.proofs.report.take_at.Statement.{statement}
 use Rattle.filing.proofs.report.take_at.Tie as tie

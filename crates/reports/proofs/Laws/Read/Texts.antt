@@ -1,0 +1,194 @@
+-- Texts from an offset, part by part.
+use Prim.Native.Nat.{ℕ, suc, _+_, _-_, _≤_, _<_}
+use native.Mathlib.Omega.{arith}
+use native.Mathlib.Numerals.{add-one}
+use mathlib.Core.Path.{_≡_, refl, sym, ap, _∙_}
+use mathlib.Core.Bool.{Bool, true, false, not, _&&_, _||_, cond, and-false, and-true, or-false, or-true}
+use mathlib.Core.List.{List, [], _∷_, _++_}
+use lib.Dec.{eqb}
+use borrow.Author.Tests.{eq-eqb, ne-eqb, eqb-true, not-true}
+use lib.ListN.{length, getD, drop, length-drop, drop-of-length-le}
+use lib.Seq.{drop-cons}
+use Rattle.text.specs.Names.{Name}
+use Rattle.text.specs.Lists.{every, nonEmpty}
+use Rattle.text.proofs.Laws.Tests.{cases, and-left, and-right}
+use Rattle.reports.specs.declared.tags.Reach.the-variants.{No, To}
+use Rattle.reports.specs.declared.tokens.Found.{Found}
+use Rattle.reports.specs.declared.tokens.Found.the-variants.{Nothing, Text}
+use Rattle.documents.specs.Tokens.{Part, plain, reference, printPart, printParts, text, blank, listed, inText, isEntity, occurs}
+use Rattle.text.specs.Read.{begins, Read, fail, got, thenRead, when}
+use Rattle.documents.specs.Reading.{readReference, readParts, textEnds, readText}
+use Rattle.reports.specs.Code.Reaches.{reachOf}
+use Rattle.reports.specs.Seen.{foundOf}
+use Rattle.documents.proofs.Laws.Read.Bytes.{entity-cases}
+use Rattle.text.proofs.Laws.Reads.{Holds, holds-map, holds-got}
+use Rattle.documents.proofs.Laws.Read.PartsSound.{parts-sound, reference-sound}
+use Rattle.reports.proofs.Laws.Read.Reaches.{reached}
+use Rattle.reports.proofs.Laws.Read.Values.{reach-no, reference-suffix, parts-enough}
+
+-- what parts from here on make of a text that began earlier: some says whether it has a part already, all whether it was blank so far
+abbrev textOf : ℕ → Bool → Bool → Read (List Part) → Found
+textOf total some all fail = Nothing
+textOf total some all (got ps r) =
+    cond ((some || nonEmpty ps) && (not (occurs (93 ∷ 93 ∷ 62 ∷ []) (printParts ps)) && textEnds r))
+    (Text (total - length r) (all && every blank (printParts ps))) Nothing
+
+abbrev pub TextFrom : List ℕ → Bool → Bool → ℕ → Found
+TextFrom s some all i = textOf (length s) some all (readParts (length (drop i s)) inText (drop i s))
+
+shown-text : (total at : ℕ) (m : Read (List Part))
+    → foundOf total at (thenRead m (λ ps r. when (nonEmpty ps && (not (occurs (93 ∷ 93 ∷ 62 ∷ []) (printParts ps)) && textEnds r)) (got (text ps) r)))
+    ≡ textOf total false true m
+shown-text total at fail = refl
+shown-text total at (got ps r) =
+    cases (nonEmpty ps && (not (occurs (93 ∷ 93 ∷ 62 ∷ []) (printParts ps)) && textEnds r)) (λ t. rw t) (λ f. rw f)
+
+pub text-start : (s : List ℕ) (at : ℕ) → foundOf (length s) at (readText (drop at s)) ≡ TextFrom s false true at
+unfolding readText
+text-start s at = shown-text (length s) at (readParts (length (drop at s)) inText (drop at s))
+
+-- a word without `<` stands at the front of a text if it stands at the front of the text and what follows it
+word-inside : (w p r : List ℕ) → every (λ b. not (eqb b 60)) w ≡ true → textEnds r ≡ true → begins w (p ++ r) ≡ begins w p
+unfolding begins every
+word-inside [] p r h e = refl
+word-inside (x ∷ w) [] [] h e = refl
+word-inside (x ∷ w) [] (c ∷ r) h e =
+    let apart : eqb x c ≡ false = ap (eqb x) (eqb-true c 60 e) ∙ not-true (eqb x 60) (and-left _ _ h) in
+    rw apart
+word-inside (x ∷ w) (c ∷ p) r h e = rw (word-inside w p r (and-right (not (eqb x 60)) _ h) e)
+
+-- no part of a reference begins `]]>`
+over-reference : (n : Name) (ps : List Part) → isEntity n ≡ true
+    → (occurs (93 ∷ 93 ∷ 62 ∷ []) (printParts (reference n ∷ ps)) ≡ occurs (93 ∷ 93 ∷ 62 ∷ []) (printParts ps))
+    × (every blank (printParts (reference n ∷ ps)) ≡ false)
+unfolding occurs begins printParts printPart every blank
+over-reference n ps h =
+    entity-cases n h (λ e. is e (refl, refl)) (λ e. is e (refl, refl)) (λ e. is e (refl, refl)) (λ e. is e (refl, refl)) (λ e. is e (refl, refl))
+  where
+    is : {w : Name} → n ≡ w
+        → (occurs (93 ∷ 93 ∷ 62 ∷ []) (printParts (reference w ∷ ps)) ≡ occurs (93 ∷ 93 ∷ 62 ∷ []) (printParts ps)) × (every blank (printParts (reference w ∷ ps)) ≡ false)
+        → (occurs (93 ∷ 93 ∷ 62 ∷ []) (printParts (reference n ∷ ps)) ≡ occurs (93 ∷ 93 ∷ 62 ∷ []) (printParts ps)) × (every blank (printParts (reference n ∷ ps)) ≡ false)
+    is e h = rw e h
+
+reference-of : (total : ℕ) (some all : Bool) (n : Name) (m : Read (List Part)) → isEntity n ≡ true
+    → textOf total some all (thenRead m (λ ps r. got (reference n ∷ ps) r)) ≡ textOf total true false m
+reference-of total some all n fail h = refl
+reference-of total some all n (got ps r) h =
+    let (o, b) = over-reference n ps h in
+    rw (o, b, or-true some, and-false all)
+
+and-assoc : (a b c : Bool) → ((a && b) && c) ≡ (a && (b && c))
+and-assoc true b c = refl
+and-assoc false b c = refl
+
+no-less : every (λ b. not (eqb b 60)) (93 ∷ 93 ∷ 62 ∷ []) ≡ true
+unfolding every
+no-less = refl
+
+-- whether `]]>` stands at the front of a text, by the bytes from there on
+front-word : (b : ℕ) (l p r : List ℕ) → p ++ r ≡ l → textEnds r ≡ true → begins (93 ∷ 93 ∷ 62 ∷ []) (b ∷ p) ≡ begins (93 ∷ 93 ∷ 62 ∷ []) (b ∷ l)
+front-word b l p r e t =
+    sym (word-inside (93 ∷ 93 ∷ 62 ∷ []) (b ∷ p) r no-less t) ∙ ap (λ (x : List ℕ). begins (93 ∷ 93 ∷ 62 ∷ []) (b ∷ x)) e
+
+plain-of : (total : ℕ) (some all : Bool) (b : ℕ) (l : List ℕ) (m : Read (List Part))
+    → Holds (λ ps r. printParts ps ++ r ≡ l) m → begins (93 ∷ 93 ∷ 62 ∷ []) (b ∷ l) ≡ false
+    → textOf total some all (thenRead m (λ ps r. got (plain b ∷ ps) r)) ≡ textOf total true (all && blank b) m
+unfolding printParts printPart occurs every
+plain-of total some all b l fail h f = refl
+plain-of total some all b l (got ps r) h f =
+    cases (textEnds r)
+    (λ t.
+    let none : begins (93 ∷ 93 ∷ 62 ∷ []) (b ∷ printParts ps) ≡ false = front-word b l (printParts ps) r (holds-got h) t ∙ f in
+    rw (none, or-true some, and-assoc all (blank b) (every blank (printParts ps))))
+    (λ t. rw (
+      t,
+      or-true some,
+      and-false (not (begins (93 ∷ 93 ∷ 62 ∷ []) (b ∷ printParts ps) || occurs (93 ∷ 93 ∷ 62 ∷ []) (printParts ps))),
+      and-false (not (occurs (93 ∷ 93 ∷ 62 ∷ []) (printParts ps))),
+    ))
+
+section-of : (total : ℕ) (some all : Bool) (b : ℕ) (l : List ℕ) (m : Read (List Part))
+    → Holds (λ ps r. printParts ps ++ r ≡ l) m → begins (93 ∷ 93 ∷ 62 ∷ []) (b ∷ l) ≡ true
+    → Nothing ≡ textOf total some all (thenRead m (λ ps r. got (plain b ∷ ps) r))
+unfolding printParts printPart occurs every
+section-of total some all b l fail h f = refl
+section-of total some all b l (got ps r) h f =
+    cases (textEnds r)
+    (λ t.
+    let there : begins (93 ∷ 93 ∷ 62 ∷ []) (b ∷ printParts ps) ≡ true = front-word b l (printParts ps) r (holds-got h) t ∙ f in
+    rw (there, or-true some))
+    (λ t. rw (t, or-true some, and-false (not (begins (93 ∷ 93 ∷ 62 ∷ []) (b ∷ printParts ps) || occurs (93 ∷ 93 ∷ 62 ∷ []) (printParts ps)))))
+
+-- a text that ends here: at `<` or the end it is one if it has a part, elsewhere it is none
+stopped : (total : ℕ) (some all : Bool) (r : List ℕ) → textEnds r ≡ true → textOf total some all (got [] r) ≡ cond some (Text (total - length r) all) Nothing
+unfolding occurs begins printParts every
+stopped total some all r t = rw (t, or-false some, and-true some, and-true all)
+
+unstopped : (total : ℕ) (some all : Bool) (r : List ℕ) → textEnds r ≡ false → textOf total some all (got [] r) ≡ Nothing
+unfolding occurs begins printParts every
+unstopped total some all r t = rw (t, and-false (some || false))
+
+less-no-text : (b : ℕ) → b ≡ 60 → inText b ≡ false
+unfolding inText listed
+less-no-text b e = ap inText e
+
+module _ (s : List ℕ) (some all : Bool) (i : ℕ) where
+  opened : i < length s → TextFrom s some all i
+      ≡ textOf (length s) some all (readParts (suc (length (drop (i + 1) s))) inText (getD s i 0 ∷ drop (i + 1) s))
+  opened h = rw (drop-cons s i 0 h, add-one i)
+
+  pub text-less : i < length s → getD s i 0 ≡ 60 → TextFrom s some all i ≡ cond some (Text i all) Nothing
+  unfolding readParts
+  text-less h e =
+      opened h
+      ∙ rw (ne-eqb (getD s i 0) 38 (omega arith), less-no-text (getD s i 0) e)
+      (stopped (length s) some all (getD s i 0 ∷ drop (i + 1) s) (eq-eqb (getD s i 0) 60 e)
+      ∙ ap (λ (x : ℕ). cond some (Text x all) Nothing) (omega (arith, length-drop (i + 1) s)))
+
+  pub text-end : i ≤ length s → length s ≤ i → TextFrom s some all i ≡ cond some (Text i all) Nothing
+  unfolding readParts
+  text-end h k =
+      rw (drop-of-length-le s k)
+      (stopped (length s) some all [] refl ∙ ap (λ (x : ℕ). cond some (Text x all) Nothing) (omega arith))
+
+  pub text-foreign : i < length s → (getD s i 0 ≡ 60 → ⊥) → (getD s i 0 ≡ 38 → ⊥) → inText (getD s i 0) ≡ false → Nothing ≡ TextFrom s some all i
+  unfolding readParts
+  text-foreign h l n f =
+      sym (opened h ∙ rw (ne-eqb (getD s i 0) 38 n, f) (unstopped (length s) some all (getD s i 0 ∷ drop (i + 1) s) (ne-eqb (getD s i 0) 60 l)))
+
+  pub text-amp-no : i < length s → getD s i 0 ≡ 38 → reachOf (length s) (readReference (drop (i + 1) s)) ≡ No → Nothing ≡ TextFrom s some all i
+  unfolding readParts
+  text-amp-no h a e = sym (opened h ∙ rw (eq-eqb (getD s i 0) 38 a, reach-no (length s) (readReference (drop (i + 1) s)) e))
+
+  pub text-amp : i < length s → getD s i 0 ≡ 38 → (e : ℕ) → reachOf (length s) (readReference (drop (i + 1) s)) ≡ To e
+      → (i < e) × (e ≤ length s) × (TextFrom s some all i ≡ TextFrom s true false e)
+  unfolding readParts
+  text-amp h a e k =
+      let (n, is, low, high) = reached s (i + 1) (omega arith) (readReference (drop (i + 1) s)) e (reference-suffix (drop (i + 1) s)) k in
+      let entity : isEntity n ≡ true = holds-got (rw is at (reference-sound (drop (i + 1) s))) .0 in
+      let rest : Read (List Part) = readParts (length (drop (i + 1) s)) inText (drop e s) in (
+        omega arith,
+        high,
+        opened h
+            ∙ rw (eq-eqb (getD s i 0) 38 a, is)
+            (reference-of (length s) some all n rest entity
+            ∙ ap (textOf (length s) true false) (parts-enough inText (length (drop (i + 1) s)) (length (drop e s)) (drop e s)
+            (omega (arith, length-drop e s, length-drop (i + 1) s)) (omega arith))),
+      )
+
+  rest-sound : Holds (λ ps r. printParts ps ++ r ≡ drop (i + 1) s) (readParts (length (drop (i + 1) s)) inText (drop (i + 1) s))
+  rest-sound = holds-map (parts-sound (length (drop (i + 1) s)) inText (drop (i + 1) s)) (λ ps r g. g .1)
+
+  pub text-section : i < length s → (getD s i 0 ≡ 38 → ⊥) → inText (getD s i 0) ≡ true → begins (93 ∷ 93 ∷ 62 ∷ []) (drop i s) ≡ true
+      → Nothing ≡ TextFrom s some all i
+  unfolding readParts
+  text-section h n t w =
+      let here : begins (93 ∷ 93 ∷ 62 ∷ []) (getD s i 0 ∷ drop (i + 1) s) ≡ true = rw (add-one i, ← drop-cons s i 0 h) w in
+      section-of (length s) some all (getD s i 0) (drop (i + 1) s) _ rest-sound here ∙ sym (opened h ∙ rw (ne-eqb (getD s i 0) 38 n, t))
+
+  pub text-plain : i < length s → (getD s i 0 ≡ 38 → ⊥) → inText (getD s i 0) ≡ true → begins (93 ∷ 93 ∷ 62 ∷ []) (drop i s) ≡ false
+      → TextFrom s some all i ≡ TextFrom s true (all && blank (getD s i 0)) (i + 1)
+  unfolding readParts
+  text-plain h n t w =
+      let here : begins (93 ∷ 93 ∷ 62 ∷ []) (getD s i 0 ∷ drop (i + 1) s) ≡ false = rw (add-one i, ← drop-cons s i 0 h) w in
+      opened h ∙ rw (ne-eqb (getD s i 0) 38 n, t) (plain-of (length s) some all (getD s i 0) (drop (i + 1) s) _ rest-sound here)

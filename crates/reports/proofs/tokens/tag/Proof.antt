@@ -1,0 +1,60 @@
+-- `filing::tokens::tag` meets its contract.
+use Prim.Native.Nat.{_+_}
+use mathlib.Core.Path.{sym, _∙_}
+use native.Mathlib.Omega.{arith}
+use Rattle.reports.proofs.Laws.Read.Offsets.{name-bound}
+use Rattle.reports.proofs.Laws.Read.Tags.{tag-no, tag-no₂, inside-bound, tag-to}
+use borrow.Author.Needs.{needs}
+use Rattle.reports.proofs.tokens.tag.Statement.{statement}
+use Rattle.reports.proofs.tokens.tag.Tie as tie
+
+add-from : tie.Need-add-from
+add-from c = search needs
+
+name-reach-requires : tie.Need-name-reach-requires
+name-reach-requires c κs = search needs
+
+enum-told : tie.Need-enum-told
+enum-told c = search needs
+
+enum-known-to : tie.Need-enum-known-to
+enum-known-to c = search needs
+
+inside-end-requires : tie.Need-inside-end-requires
+inside-end-requires c κs =
+    let a = c .before .before .before .before .before .args in
+    name-bound (a .s .now) (a .at + 1) (omega arith) _ (sym (c .before .before .before .name-reach .ensures) ∙ c .before .to .given .1) .1
+
+enum-told-2 : tie.Need-enum-told-2
+enum-told-2 c = search needs
+
+enum-known-e : tie.Need-enum-known-e
+enum-known-e c = search needs
+
+tag-end-requires : tie.Need-tag-end-requires
+tag-end-requires c κs = inside-bound _ _ (c .before .before .before .before .before .before .before .before .before .pre) _ (sym (c .before .before .before .before .before .before .before .name-reach .ensures) ∙ c .before .before .before .before .before .to .given .1) _ (sym (c .before .before .before .inside-end .ensures) ∙ c .before .e .given .1)
+
+returns : tie.Need-returns
+returns c = tag-no _ _ (c .before .before .before .before .pre) (sym (c .before .before .name-reach .ensures) ∙ c .enum-told .given .1)
+
+returns-2 : tie.Need-returns-2
+returns-2 c = tag-no₂ _ _ (c .before .before .before .before .before .before .before .before .pre) _ (sym (c .before .before .before .before .before .before .name-reach .ensures) ∙ c .before .before .before .before .to .given .1) (sym (c .before .before .inside-end .ensures) ∙ c .enum-told2 .given .1)
+
+returns-3 : tie.Need-returns-3
+returns-3 c = c .tag-end .ensures ∙ tag-to _ _ (c .before .before .before .before .before .before .before .before .before .before .pre) _ (sym (c .before .before .before .before .before .before .before .before .name-reach .ensures) ∙ c .before .before .before .before .before .before .to .given .1) _ (sym (c .before .before .before .before .inside-end .ensures) ∙ c .before .before .e .given .1)
+
+pub tag-spec : {M : Type 1} → statement M
+tag-spec =
+    tie.close
+    (tie.spec
+    add-from
+    name-reach-requires
+    enum-told
+    enum-known-to
+    inside-end-requires
+    enum-told-2
+    enum-known-e
+    tag-end-requires
+    returns
+    returns-2
+    returns-3)

@@ -1,0 +1,48 @@
+-- What inner functions find at an offset.
+use Prim.Native.Nat.{ℕ, _+_}
+use mathlib.Core.Bool.{Bool, true, false, cond}
+use mathlib.Core.List.{List, []}
+use lib.Dec.{eqb, ltb}
+use lib.ListN.{length, getD, drop}
+use Rattle.text.specs.Names.{Name}
+use Rattle.reports.specs.declared.tokens.Found.{Found}
+use Rattle.reports.specs.declared.tokens.Found.the-variants.{Nothing, Start, Empty, Text}
+use Rattle.documents.specs.Tokens.{Token, declaration, comment, startTag, emptyTag, endTag, text, declarationBytes}
+use Rattle.text.specs.Read.{Read, fail, got, thenRead, readWord}
+use Rattle.reports.specs.Seen.{foundOf}
+
+-- `>` or `/>` at e, of a tag whose name stands from .. to
+abbrev pub tagEndOf : List ℕ → ℕ → ℕ → ℕ → Found
+tagEndOf s from to e =
+    cond (ltb e (length s))
+    (cond (eqb (getD s e 0) 62) (Start from to (e + 1))
+    (cond (eqb (getD s e 0) 47)
+    (cond (ltb (e + 1) (length s)) (cond (eqb (getD s (e + 1) 0) 62) (Empty from to (e + 1 + 1)) Nothing) Nothing)
+    Nothing))
+    Nothing
+
+-- a text from an offset to another, if there is any
+abbrev pub textFound : ℕ → ℕ → Bool → Found
+textFound at end all = cond (ltb at end) (Text end all) Nothing
+
+-- the declaration, at an offset
+abbrev pub declarationAt : List ℕ → ℕ → Found
+declarationAt s at = foundOf (length s) at (thenRead (readWord declarationBytes (drop at s)) (λ w r. got declaration r))
+
+-- a tag's name; no other token has one
+abbrev pub nameOfToken : Token → Name
+nameOfToken declaration = []
+nameOfToken (comment c) = []
+nameOfToken (startTag n l b) = n
+nameOfToken (emptyTag n l b) = n
+nameOfToken (endTag n b) = n
+nameOfToken (text ps) = []
+
+abbrev pub tagName : Read Token → Name
+tagName fail = []
+tagName (got t r) = nameOfToken t
+
+-- something was read
+abbrev pub isGot : {A : Type 0} → Read A → Bool
+isGot fail = false
+isGot (got a r) = true

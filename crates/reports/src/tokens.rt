@@ -1,0 +1,334 @@
+// The token at an offset of a report (paper 01: a piece), by value.
+use crate::scan::blank;
+use crate::scan::in_text;
+use crate::scan::listed;
+use crate::tags::Reach;
+use crate::tags::byte_end;
+use crate::tags::inside_end;
+use crate::tags::name_reach;
+use crate::tags::reference_end;
+use text::truth::both;
+use text::words::word_at;
+ghost use mathlib.Core.Path.{_≡_};
+ghost use mathlib.Core.Bool.{true};
+ghost use mathlib.Core.Logic.{_↔_};
+ghost use Prim.Native.Nat.{_+_, _≤_, _<_};
+ghost use lib.ListN.{length, drop};
+ghost use mathlib.Core.List.{[], _∷_};
+ghost use Rattle.text.specs.Read.{begins};
+ghost use Rattle.documents.specs.Tokens.{RunOfTokens};
+ghost use Rattle.documents.specs.TagAt.{TagAt};
+ghost use Rattle.documents.specs.Reading.{readTag, readEndTag, readContents, readComment, readText, readToken};
+ghost use Rattle.reports.specs.Code.Reaches.{reachOf};
+ghost use Rattle.reports.specs.Seen.{foundOf, nameFrom, nameTo, foundEnd, declares};
+ghost use Rattle.reports.specs.Code.Seen.{tagEndOf, textFound, declarationAt};
+ghost use Rattle.reports.specs.NamePart.{NamePart};
+
+// What begins at an offset: nothing that can be read, or a token with its end. Of a tag also where its name begins and ends, of a text
+// whether it is blank.
+pub enum Found {
+    Nothing,
+    Declaration(usize),
+    Comment(usize),
+    Start(usize, usize, usize),
+    Empty(usize, usize, usize),
+    End(usize, usize, usize),
+    Text(usize, bool),
+}
+
+// A start or empty-element tag, whose `<` stands at the offset.
+fn tag(s: &[u8], at: usize) -> Found
+    requires { ⌜ at < length (now s) ⌝ }
+    ensures { λ r. ⌜ r ≡ foundOf (length (now (s .entry))) at (readTag (drop (at + 1) (now (s .entry)))) ⌝ }
+{
+    let from = at + 1;
+    match name_reach(s, from) {
+        Reach::No => Found::Nothing,
+        Reach::To(to) => match inside_end(s, to) {
+            Reach::No => Found::Nothing,
+            Reach::To(e) => tag_end(s, from, to, e),
+        },
+    }
+}
+
+// The end of such a tag: `>` or `/>`.
+fn tag_end(s: &[u8], from: usize, to: usize, e: usize) -> Found
+    requires { ⌜ e ≤ length (now s) ⌝ }
+    ensures { λ r. ⌜ r ≡ tagEndOf (now (s .entry)) from to e ⌝ }
+{
+    if s.len() <= e {
+        return Found::Nothing;
+    }
+    if s[e] == 62 {
+        return Found::Start(from, to, e + 1);
+    }
+    if s[e] != 47 {
+        return Found::Nothing;
+    }
+    let g = e + 1;
+    if s.len() <= g {
+        return Found::Nothing;
+    }
+    if s[g] != 62 {
+        return Found::Nothing;
+    }
+    Found::Empty(from, to, g + 1)
+}
+
+// An end tag, whose `</` stands at the offset.
+fn end_tag(s: &[u8], at: usize) -> Found
+    requires { ⌜ at + 2 ≤ length (now s) ⌝ }
+    ensures { λ r. ⌜ r ≡ foundOf (length (now (s .entry))) at (readEndTag (drop (at + 2) (now (s .entry)))) ⌝ }
+{
+    let from = at + 2;
+    match name_reach(s, from) {
+        Reach::No => Found::Nothing,
+        Reach::To(to) => match byte_end(s, to, 62) {
+            Reach::No => Found::Nothing,
+            Reach::To(e) => Found::End(from, to, e),
+        },
+    }
+}
+
+// `--` stands at the offset. Its first byte is tested first: most bytes are another.
+fn dashes(s: &[u8], at: usize) -> bool
+    requires { ⌜ at ≤ length (now s) ⌝ }
+    ensures { λ r. ⌜ r ≡ begins (45 ∷ 45 ∷ []) (drop at (now (s .entry))) ⌝ }
+{
+    if s.len() <= at {
+        return false;
+    }
+    if s[at] != 45 {
+        return false;
+    }
+    word_at(s, at, b"--")
+}
+
+// `-->` stands at the offset.
+fn comment_close(s: &[u8], at: usize) -> bool
+    requires { ⌜ at ≤ length (now s) ⌝ }
+    ensures { λ r. ⌜ r ≡ begins (45 ∷ 45 ∷ 62 ∷ []) (drop at (now (s .entry))) ⌝ }
+{
+    word_at(s, at, b"-->")
+}
+
+// `]]>` stands at the offset. Its first byte is tested first: most bytes are another.
+fn section_close(s: &[u8], at: usize) -> bool
+    requires { ⌜ at ≤ length (now s) ⌝ }
+    ensures { λ r. ⌜ r ≡ begins (93 ∷ 93 ∷ 62 ∷ []) (drop at (now (s .entry))) ⌝ }
+{
+    if s.len() <= at {
+        return false;
+    }
+    if s[at] != 93 {
+        return false;
+    }
+    word_at(s, at, b"]]>")
+}
+
+// The contents of a comment, with the `-->` after them.
+fn contents_end(s: &[u8], at: usize) -> Reach
+    requires { ⌜ at ≤ length (now s) ⌝ }
+    ensures { λ r. ⌜ r ≡ reachOf (length (now (s .entry))) (readContents (drop at (now (s .entry)))) ⌝ }
+{
+    let mut i = at;
+    while i < s.len() {
+        if dashes(s, i) {
+            if comment_close(s, i) {
+                return Reach::To(i + 3);
+            }
+            return Reach::No;
+        }
+        if !listed(s[i]) {
+            return Reach::No;
+        }
+        i += 1;
+    }
+    Reach::No
+}
+
+// A comment, whose `<!` stands at the offset.
+fn comment(s: &[u8], at: usize) -> Found
+    requires { ⌜ at + 2 ≤ length (now s) ⌝ }
+    ensures { λ r. ⌜ r ≡ foundOf (length (now (s .entry))) at (readComment (drop (at + 2) (now (s .entry)))) ⌝ }
+{
+    let from = at + 2;
+    if !dashes(s, from) {
+        return Found::Nothing;
+    }
+    match contents_end(s, from + 2) {
+        Reach::No => Found::Nothing,
+        Reach::To(e) => Found::Comment(e),
+    }
+}
+
+// A text, up to the next `<` or the end.
+fn text(s: &[u8], at: usize) -> Found
+    requires { ⌜ at ≤ length (now s) ⌝ }
+    ensures { λ r. ⌜ r ≡ foundOf (length (now (s .entry))) at (readText (drop at (now (s .entry)))) ⌝ }
+{
+    let mut i = at;
+    let mut all = true;
+    while i < s.len() {
+        let b = s[i];
+        if b == 60 {
+            return text_found(at, i, all);
+        }
+        if b == 38 {
+            match reference_end(s, i + 1) {
+                Reach::No => return Found::Nothing,
+                Reach::To(e) => {
+                    i = e;
+                    all = false;
+                }
+            }
+        } else {
+            if !in_text(b) {
+                return Found::Nothing;
+            }
+            if section_close(s, i) {
+                return Found::Nothing;
+            }
+            all = both(all, blank(b));
+            i += 1;
+        }
+    }
+    text_found(at, i, all)
+}
+
+// A text is not empty.
+fn text_found(at: usize, end: usize, all: bool) -> Found
+    ensures { λ r. ⌜ r ≡ textFound at end all ⌝ }
+{
+    if at < end {
+        return Found::Text(end, all);
+    }
+    Found::Nothing
+}
+
+// The declaration, at the offset.
+fn declaration(s: &[u8], at: usize) -> Found
+    requires { ⌜ at ≤ length (now s) ⌝ }
+    ensures { λ r. ⌜ r ≡ declarationAt (now (s .entry)) at ⌝ }
+{
+    if word_at(s, at, b"<?xml version=\"1.0\"?>") {
+        return Found::Declaration(at + 21);
+    }
+    Found::Nothing
+}
+
+// The token at an offset of any bytes.
+pub fn token_at(s: &[u8], at: usize) -> Found
+    ensures { λ r. ⌜ r ≡ foundOf (length (now (s .entry))) at (readToken (drop at (now (s .entry)))) ⌝ }
+{
+    if s.len() <= at {
+        return Found::Nothing;
+    }
+    if s[at] != 60 {
+        return text(s, at);
+    }
+    let next = at + 1;
+    if s.len() <= next {
+        return Found::Nothing;
+    }
+    let b = s[next];
+    if b == 33 {
+        return comment(s, at);
+    }
+    if b == 47 {
+        return end_tag(s, at);
+    }
+    if b == 63 {
+        return declaration(s, at);
+    }
+    tag(s, at)
+}
+
+// Where a name stands; 0 to 0 where there is none.
+pub struct Span {
+    pub from: usize,
+    pub to: usize,
+}
+
+// Where the name of a tag stands.
+pub fn name_span(f: Found) -> Span
+    ensures { λ r. ⌜ (r .from ≡ nameFrom f) × (r .to ≡ nameTo f) ⌝ }
+{
+    match f {
+        Found::Start(from, to, _) => Span { from, to },
+        Found::Empty(from, to, _) => Span { from, to },
+        Found::End(from, to, _) => Span { from, to },
+        Found::Nothing => Span { from: 0, to: 0 },
+        Found::Declaration(_) => Span { from: 0, to: 0 },
+        Found::Comment(_) => Span { from: 0, to: 0 },
+        Found::Text(_, _) => Span { from: 0, to: 0 },
+    }
+}
+
+// Where the name of the tag at an offset of any bytes stands; 0 to 0 where no whole tag begins there.
+pub fn tag_span(s: &[u8], at: usize) -> Span
+    ensures { λ r. ⌜ TagAt (now (s .entry)) at (r .from) (r .to) ⌝ }
+{
+    name_span(token_at(s, at))
+}
+
+// The name of that tag, as the part of those bytes between the two offsets.
+pub fn tag_name(s: &[u8], at: usize) -> &[u8]
+    ensures { λ r. ⌜ NamePart (s .entry) at r ⌝ }
+{
+    let p = tag_span(s, at);
+    let from = p.from;
+    let to = p.to;
+    &s[from..to]
+}
+
+// Where a token ends; 0 where there is none.
+pub fn end_of(f: Found) -> usize
+    ensures { λ r. ⌜ r ≡ foundEnd f ⌝ }
+{
+    match f {
+        Found::Nothing => 0,
+        Found::Declaration(e) => e,
+        Found::Comment(e) => e,
+        Found::Start(_, _, e) => e,
+        Found::Empty(_, _, e) => e,
+        Found::End(_, _, e) => e,
+        Found::Text(e, _) => e,
+    }
+}
+
+// A declaration.
+pub fn is_declaration(f: Found) -> bool
+    ensures { λ r. ⌜ r ≡ declares f ⌝ }
+{
+    match f {
+        Found::Nothing => false,
+        Found::Declaration(_) => true,
+        Found::Comment(_) => false,
+        Found::Start(_, _, _) => false,
+        Found::Empty(_, _, _) => false,
+        Found::End(_, _, _) => false,
+        Found::Text(_, _) => false,
+    }
+}
+
+// Whether a report is a run of tokens; without that, refusal 9.
+pub fn is_run(s: &[u8]) -> bool
+    ensures { λ r. ⌜ (r ≡ true) ↔ RunOfTokens (now (s .entry)) ⌝ }
+{
+    let mut i = 0;
+    while i < s.len() {
+        let f = token_at(s, i);
+        let e = end_of(f);
+        if e <= i {
+            return false;
+        }
+        if i != 0 {
+            if is_declaration(f) {
+                return false;
+            }
+        }
+        i = e;
+    }
+    true
+}
