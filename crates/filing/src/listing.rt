@@ -18,7 +18,7 @@ ghost use mathlib.Core.Bool.{false};
 ghost use Prim.Native.Nat.{_≤_};
 ghost use Rattle.theory.specs.Folders.{countFrom};
 ghost use Rattle.stored.specs.HeldSet.{foldersHeld, folderHeld};
-ghost use Rattle.text.specs.Code.Output.{Within, Adds, Composes};
+ghost use Rattle.text.specs.Output.{Within, Adds, Composes};
 ghost use Rattle.filing.specs.Listing.{movesLine, refusedLine};
 ghost use Rattle.filing.specs.Listed.{pathListed, ifMatched, pathsListed, lineListed, lineAt, folderListed, foldersListed, listingIn, listingRefusal, ListingWritten, RefusedWritten};
 

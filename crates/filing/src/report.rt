@@ -1,16 +1,16 @@
 // Filing a report (paper 01: Reports): its tokens in order, each given to the machine as what it is in the tree.
 use crate::limits::MAX_REPORT;
+use machine::run::close::close_usable;
+use machine::run::open::open_usable;
+use machine::run::shape::depth;
+use machine::run::start::start_by;
+use machine::run::start::start_on;
 use reports::scan::all_listed;
 use reports::tokens::Found;
 use reports::tokens::end_of;
 use reports::tokens::is_declaration;
 use reports::tokens::name_span;
 use reports::tokens::token_at;
-use machine::run::close::close_usable;
-use machine::run::open::open_usable;
-use machine::run::shape::depth;
-use machine::run::start::start_by;
-use machine::run::start::start_on;
 use stored::answers::Opened;
 use stored::counters::Counters;
 use text::refusals::INVALID_BYTE;

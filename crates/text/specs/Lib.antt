@@ -10,4 +10,4 @@ pub mod Answers
 pub mod Order
 pub mod Written
 pub mod Part
-pub mod Code
+pub mod Output

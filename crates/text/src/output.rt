@@ -1,9 +1,11 @@
 // A text that is written piece by piece into a lent buffer. A piece that has no room is left out, and so are all after it.
 use crate::store::copy;
+ghost use mathlib.Core.Path.{_≡_};
 ghost use mathlib.Core.List.{[], _∷_, _++_};
 ghost use Prim.Native.Nat.{_+_, _<_};
+ghost use lib.Dec.{leb};
 ghost use Rattle.text.specs.Decimal.{decimal};
-ghost use Rattle.text.specs.Code.Output.{Within, Adds, Composes};
+ghost use Rattle.text.specs.Output.{Adds, Composes};
 
 pub struct Cursor {
     // After the last piece.
@@ -14,8 +16,17 @@ pub struct Cursor {
     pub dry: bool,
 }
 
+// Whether so many bytes have room at an offset.
+fn has_room(size: usize, at: usize, n: usize) -> bool
+    ensures { λ r. ⌜ r ≡ leb (at + n) size ⌝ }
+{
+    if size < at {
+        return false;
+    }
+    n <= size - at
+}
+
 pub fn emit(out: &mut [u8], cursor: Cursor, piece: &[u8]) -> Cursor
-    requires { ⌜ Within (now out) cursor ⌝ }
     ensures { λ r. ⌜ Adds (now (out .entry)) cursor (now (piece .entry)) (now (out .exit)) r ⌝ }
 {
     if !cursor.fits {
@@ -23,7 +34,7 @@ pub fn emit(out: &mut [u8], cursor: Cursor, piece: &[u8]) -> Cursor
     }
     let at = cursor.at;
     let size = piece.len();
-    if out.len() - at < size {
+    if !has_room(out.len(), at, size) {
         return Cursor {
             at: at,
             fits: false,
@@ -56,7 +67,7 @@ pub fn begin(out: &mut [u8], dry: bool, piece: &[u8]) -> Cursor
 
 // A digit.
 fn emit_digit(out: &mut [u8], cursor: Cursor, d: usize) -> Cursor
-    requires { ⌜ (d < 10) × Within (now out) cursor ⌝ }
+    requires { ⌜ d < 10 ⌝ }
     ensures { λ r. ⌜ Adds (now (out .entry)) cursor ((48 + d) ∷ []) (now (out .exit)) r ⌝ }
 {
     let digit = [48 + d as u8];
@@ -65,7 +76,6 @@ fn emit_digit(out: &mut [u8], cursor: Cursor, d: usize) -> Cursor
 
 // A number's decimal digits.
 pub fn emit_number(out: &mut [u8], cursor: Cursor, n: usize) -> Cursor
-    requires { ⌜ Within (now out) cursor ⌝ }
     ensures { λ r. ⌜ Adds (now (out .entry)) cursor (decimal n) (now (out .exit)) r ⌝ }
 {
     if n < 10 {
@@ -77,7 +87,6 @@ pub fn emit_number(out: &mut [u8], cursor: Cursor, n: usize) -> Cursor
 
 // A word, then a number's decimal digits.
 pub fn emit_numbered(out: &mut [u8], cursor: Cursor, word: &[u8], n: usize) -> Cursor
-    requires { ⌜ Within (now out) cursor ⌝ }
     ensures { λ r. ⌜ Adds (now (out .entry)) cursor (now (word .entry) ++ decimal n) (now (out .exit)) r ⌝ }
 {
     let to = emit(out, cursor, word);

@@ -9,14 +9,14 @@ use mathlib.Core.List.{List, [], _∷_, _++_}
 use lib.Dec.{leb}
 use lib.ListN.{length, set, length-append}
 use lib.Seq.{sets, length-sets}
-use borrow.Author.Tests.{le-leb, lt-leb, leb-false}
+use borrow.Author.Tests.{le-leb, lt-leb, leb-true, leb-false}
 use Rattle.text.proofs.Laws.Tests.{cases, clash}
 use Rattle.text.specs.Answers.{said}
 use Rattle.text.specs.Order.{Condition, given}
 use Rattle.text.specs.Written.{writtenInto, TextWritten}
 use Rattle.text.specs.declared.written.Written.{Written}
 use Rattle.text.specs.declared.output.Cursor.{Cursor}
-use Rattle.text.specs.Code.Output.{reached, further, Within, Adds, Composes}
+use Rattle.text.specs.Output.{reached, further, Within, Adds, Composes}
 
 -- stored one after the other
 sets-append : (l : List ℕ) (i : ℕ) (x y : List ℕ) → sets l i (x ++ y) ≡ sets (sets l i x) (i + length x) y
@@ -73,44 +73,47 @@ and-then {out} {out₁} {out₂} {p} {q} {cursor} {cursor₁} {cursor₂} x y = 
 pub same-bytes : {out out₁ p q : List ℕ} {cursor cursor₁ : Cursor} → Adds out cursor p out₁ cursor₁ → p ≡ q → Adds out cursor q out₁ cursor₁
 same-bytes x e = rw e at x
 
-module _ (out : List ℕ) (cursor : Cursor) (on : Within out cursor) where
-  pub nothing : Adds out cursor [] out cursor
-  nothing = record { on = on; size = refl; same = refl; reach = go (cursor .fits) refl; kept = λ _. refl; wrote = λ _ _. refl }
+module _ (out : List ℕ) (cursor : Cursor) where
+  pub nothing : Within out cursor → Adds out cursor [] out cursor
+  nothing on = record { on = on; size = refl; same = refl; reach = go (cursor .fits) refl; kept = λ _. refl; wrote = λ _ _. refl }
     where
       go : (b : Bool) → cursor .fits ≡ b → reached cursor ≡ further (length out) (reached cursor) 0
       go false e = rw e
       go true e =
           let z : cursor .at + 0 ≡ cursor .at = omega arith in
-          rw (e, z, le-leb (cursor .at) (length out) on)
+          rw (e, z, le-leb (cursor .at) (length out) (on e))
 
   pub stopped : (bytes : List ℕ) → cursor .fits ≡ false → Adds out cursor bytes out cursor
-  stopped bytes e = record { on = on; size = refl; same = refl; reach = rw e; kept = λ _. refl; wrote = λ _ f. clash f e }
+  stopped bytes e = record { on = λ f. clash f e; size = refl; same = refl; reach = rw e; kept = λ _. refl; wrote = λ _ f. clash f e }
 
-  pub no-room : (bytes : List ℕ) → cursor .fits ≡ true → length out < cursor .at + length bytes
+  pub no-room : (bytes : List ℕ) → cursor .fits ≡ true → leb (cursor .at + length bytes) (length out) ≡ false
       → Adds out cursor bytes out (record { at = cursor .at; fits = false; dry = cursor .dry })
   no-room bytes e h = record {
-    on = on;
+    on = λ f. clash f refl;
     size = refl;
     same = refl;
-    reach = rw (e, lt-leb (cursor .at + length bytes) (length out) h);
+    reach = rw (e, h);
     kept = λ _. refl;
     wrote = λ _ f. clash f refl;
   }
 
   -- a piece that has room
-  module _ (bytes : List ℕ) (e : cursor .fits ≡ true) (h : cursor .at + length bytes ≤ length out) where
+  module _ (bytes : List ℕ) (e : cursor .fits ≡ true) (h : leb (cursor .at + length bytes) (length out) ≡ true) where
     abbrev past : Cursor
     past = record { at = cursor .at + length bytes; fits = true; dry = cursor .dry }
 
     reaches : reached past ≡ further (length out) (reached cursor) (length bytes)
-    reaches = rw (e, le-leb (cursor .at + length bytes) (length out) h)
+    reaches = rw (e, h)
+
+    room : cursor .at + length bytes ≤ length out
+    room = leb-true (cursor .at + length bytes) (length out) h
 
     pub passed : cursor .dry ≡ true → Adds out cursor bytes out past
-    passed d = record { on = h; size = refl; same = refl; reach = reaches; kept = λ _. refl; wrote = λ w. clash d w }
+    passed d = record { on = λ _. room; size = refl; same = refl; reach = reaches; kept = λ _. refl; wrote = λ w. clash d w }
 
     pub put : cursor .dry ≡ false → Adds out cursor bytes (sets out (cursor .at) bytes) past
     put d = record {
-      on = omega (arith, length-sets out (cursor .at) bytes);
+      on = λ _. omega (arith, room, length-sets out (cursor .at) bytes);
       size = length-sets out (cursor .at) bytes;
       same = refl;
       reach = reaches;

@@ -19,7 +19,7 @@ use Rattle.text.proofs.Laws.Tests.{cases, clash}
 use Rattle.text.proofs.Laws.Order.{not-given}
 use Rattle.text.specs.declared.output.Cursor.{Cursor}
 use Rattle.filing.specs.Limits.{maxMovesLine, listingSize}
-use Rattle.text.specs.Code.Output.{Composes}
+use Rattle.text.specs.Output.{Composes}
 use Rattle.filing.specs.Listing.{refusedWord, refusedLine}
 use Rattle.filing.specs.Listed.{listingIn, listingRoom, listingRefusal, refusedConditions, RefusedWritten}
 use Rattle.text.proofs.Laws.Decimal.{tens, decimal-few}

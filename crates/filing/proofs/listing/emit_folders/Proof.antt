@@ -6,7 +6,7 @@ use mathlib.Core.Path.{_≡_, sym, _∙_, ap}
 use borrow.Author.Needs.{needs}
 use Rattle.theory.specs.Folders.{countFrom}
 use Rattle.stored.specs.HeldSet.{foldersHeld}
-use Rattle.text.specs.Code.Output.{Adds}
+use Rattle.text.specs.Output.{Adds}
 use Rattle.filing.specs.Listed.{foldersListed}
 use Rattle.text.proofs.Laws.Output.{nothing, and-then, same-bytes}
 use Rattle.filing.proofs.Laws.Listing.Steps.{folders-more}

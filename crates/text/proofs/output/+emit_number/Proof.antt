@@ -30,7 +30,7 @@ emit-number-emit-digit-requires : (t : ℕ) → emit-number-lts.Need-emit-digit-
   emit-number-below t,
   emit-number.Post,
 ) (emit-number-at t) emit-number.Post
-emit-number-emit-digit-requires t c κs = (c .before .if1 .taken, c .before .before .before .pre .1)
+emit-number-emit-digit-requires t c κs = c .before .if1 .taken
 
 emit-number-same-length : (t : ℕ) → emit-number-lts.Need-same-length (
   emit-digit-reads.Asked,
@@ -62,7 +62,7 @@ emit-number-emit-digit-requires-2 : (t : ℕ) → emit-number-lts.Need-emit-digi
   emit-number-below t,
   emit-number.Post,
 ) (emit-number-at t) emit-number.Post
-emit-number-emit-digit-requires-2 t c κs = (omega arith, c .before .before .before .emit-number .ensures .on)
+emit-number-emit-digit-requires-2 t c κs = omega arith
 
 emit-number-same-length-2 : (t : ℕ) → emit-number-lts.Need-same-length-2 (
   emit-digit-reads.Asked,

@@ -19,9 +19,9 @@ abbrev pub further : ℕ → Option ℕ → ℕ → Option ℕ
 further size none n = none
 further size (some at) n = cond (leb (at + n) size) (some (at + n)) none
 
--- the cursor is within the buffer
+-- if all had room, the cursor is within the buffer
 abbrev pub Within : List ℕ → Cursor → Type 0
-Within out cursor = cursor .at ≤ length out
+Within out cursor = cursor .fits ≡ true → cursor .at ≤ length out
 
 -- these bytes were added
 pub record Adds (out : List ℕ) (cursor : Cursor) (bytes out' : List ℕ) (cursor' : Cursor) : Type 0 where
