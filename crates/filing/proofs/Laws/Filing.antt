@@ -9,6 +9,5 @@ pub mod Taking
 pub mod FilingStored
 pub mod FilingAlike
 pub mod FilingOpens
-pub mod BuiltSet
 pub mod FromBytes
 pub mod Demand2Whole

@@ -13,3 +13,4 @@ pub mod Finished
 pub mod Build
 pub mod Built
 pub mod WriteSet
+pub mod BuiltSet

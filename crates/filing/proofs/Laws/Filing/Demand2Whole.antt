@@ -14,7 +14,7 @@ use Rattle.stored.specs.Build.{Built, SetWritten}
 use Rattle.text.specs.declared.written.Written.{Written}
 use Rattle.stored.proofs.Laws.Building.WriteSet.{written-length, written-text, written-rest}
 use Rattle.filing.specs.Demand2Whole.{Demand2Whole}
-use Rattle.filing.proofs.Laws.Filing.BuiltSet.{automaton-taken, built-automaton, built-means}
+use Rattle.stored.proofs.Laws.Building.BuiltSet.{automaton-taken, built-automaton, built-means}
 use Rattle.filing.proofs.Laws.Filing.FromBytes.{demand2-bytes}
 
 module _ (text before a : List ℕ) (s : FolderSet) (acc : Accepted text s) (b : Built text before 0 a) where

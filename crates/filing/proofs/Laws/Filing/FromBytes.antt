@@ -35,7 +35,7 @@ use Rattle.filing.specs.Demand2.{childlessIn, SelectsElement, FolderSele
 use Rattle.filing.specs.ReportRefusals.{storedMachine, leftBy, Files}
 use Rattle.filing.specs.Code.Filing.{fileReport, fileWith}
 use Rattle.filing.specs.FiledReport.{FiledReport, reportNumbers, Demand2Bytes}
-use Rattle.filing.proofs.Laws.Filing.BuiltSet.{built-means}
+use Rattle.stored.proofs.Laws.Building.BuiltSet.{built-means}
 use Rattle.filing.proofs.Laws.Filing.FilingParts.{given-refused, given-filed}
 use Rattle.filing.proofs.Laws.Filing.FilingOrder.{filing-is, report-is, once-started, report-own}
 use Rattle.filing.proofs.Laws.Filing.FilingAlike.{Alike, same-number, alike-refused, alike-filed}
