@@ -5,6 +5,9 @@ use filing::listing::write_refused;
 use filing::report::Taken;
 use filing::report::file_by;
 use machine::build::build;
+use machine::layout::AUTOMATON_SIZE;
+use machine::run::layout::RUN_SIZE;
+use notation::layout::PATH_LENGTH_IN;
 use notation::layout::PATH_SIZE;
 use notation::layout::PATHS_AT;
 use notation::layout::TEXT_LEN_AT;
@@ -78,21 +81,13 @@ fn print_answer(n: u8) {
     io::write_all(1, b"\n");
 }
 
-fn none() -> Counters {
-    Counters {
-        opens: 0,
-        closes: 0,
-        moves: 0,
-    }
-}
-
 // The set and the name of a case, and what filing prints.
 pub fn file(name: &[u8], set: &[u8], report: &[u8]) {
-    let mut a = [0u8; 65536];
-    let mut run = [0u8; 65536];
+    let mut a = [0u8; AUTOMATON_SIZE];
+    let mut run = [0u8; RUN_SIZE];
     head(set, name);
     build(set, &mut a);
-    let done = file_by(&a, &mut run, none(), report);
+    let done = file_by(&a, &mut run, Counters::none(), report);
     print_taken(&a, &run, done);
 }
 
@@ -107,12 +102,12 @@ pub fn judge(report: &[u8]) {
 
 // A report after another on the same run: the number answered, and what is left.
 pub fn left(report: &[u8]) {
-    let mut a = [0u8; 65536];
-    let mut run = [0u8; 65536];
+    let mut a = [0u8; AUTOMATON_SIZE];
+    let mut run = [0u8; RUN_SIZE];
     let set = b"(folders\n(folder 1 (//a))\n(folder 2 (//b))\n)\n";
     head(set, report);
     build(set, &mut a);
-    let first = file_by(&a, &mut run, none(), b"<b/>");
+    let first = file_by(&a, &mut run, Counters::none(), b"<b/>");
     let done = file_by(&a, &mut run, first.counters, report);
     print_answer(done.refusal);
     print_listing(&a, &run, done.counters);
@@ -120,13 +115,13 @@ pub fn left(report: &[u8]) {
 
 // An automaton that fails the shape test: its count of folders is out of range.
 pub fn strange(report: &[u8]) {
-    let mut a = [0u8; 65536];
-    let mut run = [0u8; 65536];
+    let mut a = [0u8; AUTOMATON_SIZE];
+    let mut run = [0u8; RUN_SIZE];
     let set = b"(folders\n)\n";
     head(set, report);
     build(set, &mut a);
     a[3] = 255;
-    let done = file_by(&a, &mut run, none(), report);
+    let done = file_by(&a, &mut run, Counters::none(), report);
     print_answer(done.refusal);
 }
 
@@ -151,15 +146,15 @@ fn lend(a: &[u8], run: &[u8], c: Counters, size: usize) {
 // An automaton of the right shape whose listing is longer than any built set's: text and both paths are said to be 63 * 256 bytes longer, so
 // that the paths overlap. The listing has 7 + (8 + 1 + 2 * (2 + 16131 + 1) + 2) + 12 + 2 bytes, 32300.
 pub fn long(report: &[u8]) {
-    let mut a = [0u8; 65536];
-    let mut run = [0u8; 65536];
+    let mut a = [0u8; AUTOMATON_SIZE];
+    let mut run = [0u8; RUN_SIZE];
     let set = b"(folders\n(folder 1 (//a) (//b))\n)\n";
     head(set, report);
     build(set, &mut a);
-    let done = file_by(&a, &mut run, none(), report);
+    let done = file_by(&a, &mut run, Counters::none(), report);
     a[TEXT_LEN_AT + 1] = 63;
-    a[PATHS_AT + 7] = 63;
-    a[PATHS_AT + PATH_SIZE + 7] = 63;
+    a[PATHS_AT + PATH_LENGTH_IN + 1] = 63;
+    a[PATHS_AT + PATH_SIZE + PATH_LENGTH_IN + 1] = 63;
     let c = done.counters;
     lend(&a, &run, c, 32299);
     lend(&a, &run, c, 32300);
@@ -168,11 +163,11 @@ pub fn long(report: &[u8]) {
 
 // A run that is too short: 1 comes before all else.
 pub fn short(report: &[u8]) {
-    let mut a = [0u8; 65536];
-    let mut run = [0u8; 65535];
+    let mut a = [0u8; AUTOMATON_SIZE];
+    let mut run = [0u8; RUN_SIZE - 1];
     let set = b"(folders\n)\n";
     head(set, report);
     build(set, &mut a);
-    let done = file_by(&a, &mut run, none(), report);
+    let done = file_by(&a, &mut run, Counters::none(), report);
     print_answer(done.refusal);
 }

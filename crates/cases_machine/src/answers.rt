@@ -1,6 +1,8 @@
 // What is answered, printed.
 use cases::say::bytes;
 use cases::say::count;
+use machine::layout::AUTOMATON_SIZE;
+use notation::layout::WORD_SIZE;
 use notation::reads;
 use text::written::Written;
 
@@ -35,13 +37,13 @@ pub fn word(a: &[u8], at: usize) {
 
 // Four of them.
 pub fn four(a: &[u8], at: usize) {
-    if 65536 < at {
+    if AUTOMATON_SIZE < at {
         return;
     }
     count(b"at ", at);
     count(b": ", reads::word_at(a, at));
-    count(b" ", reads::word_at(a, at + 2));
-    count(b" ", reads::word_at(a, at + 4));
-    count(b" ", reads::word_at(a, at + 6));
+    count(b" ", reads::word_at(a, at + WORD_SIZE));
+    count(b" ", reads::word_at(a, at + 2 * WORD_SIZE));
+    count(b" ", reads::word_at(a, at + 3 * WORD_SIZE));
     bytes(b"\n");
 }

@@ -7,7 +7,9 @@ use cases::expand::times;
 use cases::say;
 use cases::words;
 use machine::build::build;
+use machine::layout::AUTOMATON_SIZE;
 use machine::write::write_set;
+use notation::limits::MAX_SET_BYTES;
 
 // How many bytes of the two buffers are lent.
 pub struct Sizes {
@@ -23,7 +25,7 @@ fn sized(automaton: usize, out: usize) -> Sizes {
 }
 
 pub fn whole() -> Sizes {
-    sized(65536, 16384)
+    sized(AUTOMATON_SIZE, MAX_SET_BYTES)
 }
 
 pub fn line(s: &[u8], a: &mut [u8], out: &mut [u8], sizes: Sizes) -> Sizes {

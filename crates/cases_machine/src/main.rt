@@ -3,12 +3,14 @@ mod answers;
 mod lines;
 
 use cases::words;
+use machine::layout::AUTOMATON_SIZE;
+use notation::limits::MAX_SET_BYTES;
 
 fn main() {
     let mut script = io::large_buffer();
     let n = io::read_full(0, &mut script);
-    let mut a = [7u8; 65537];
-    let mut out = [b'.'; 16384];
+    let mut a = [7u8; AUTOMATON_SIZE + 1];
+    let mut out = [b'.'; MAX_SET_BYTES];
     each(&script[..n], &mut a, &mut out);
 }
 

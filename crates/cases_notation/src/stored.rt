@@ -2,6 +2,7 @@
 use cases::say;
 use notation::FolderNumber;
 use notation::PathPlace;
+use notation::layout::SET_SIZE;
 use notation::reads;
 use notation::reads::FolderAt;
 use notation::reads::FolderIndex;
@@ -13,8 +14,8 @@ use text::written::Written;
 // The first, the last and the next byte of a buffer of one byte more than a set.
 pub fn edges(part: &[u8]) {
     say::count(b"bytes ", reads::byte_at(part, 0));
-    say::count(b" ", reads::byte_at(part, 26121));
-    say::count(b" ", reads::byte_at(part, 26122));
+    say::count(b" ", reads::byte_at(part, SET_SIZE - 1));
+    say::count(b" ", reads::byte_at(part, SET_SIZE));
     say::bytes(b"\n");
 }
 

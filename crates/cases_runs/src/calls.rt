@@ -1,8 +1,10 @@
 // The calls, each with what it answers printed.
 use cases::say::bytes;
 use cases::say::count;
+use machine::layout::AUTOMATON_SIZE;
 use machine::run::asking;
 use machine::run::close;
+use machine::run::layout::RUN_SIZE;
 use machine::run::open;
 use machine::run::start;
 use notation::FolderNumber;
@@ -115,12 +117,12 @@ pub fn name(a: &[u8], run: &[u8], d: usize) {
     refusal(asking::name_refusal(a, run, d));
 }
 
-// The last byte of a buffer of 65,536, and the byte after it.
+// The last byte that is lent of each buffer, and the byte after it.
 pub fn ends(a: &[u8], run: &[u8]) {
-    byte(a, 65535);
-    byte(a, 65536);
-    byte(run, 65535);
-    byte(run, 65536);
+    byte(a, AUTOMATON_SIZE - 1);
+    byte(a, AUTOMATON_SIZE);
+    byte(run, RUN_SIZE - 1);
+    byte(run, RUN_SIZE);
 }
 
 fn byte(buffer: &[u8], at: usize) {

@@ -3,12 +3,14 @@ mod calls;
 mod script;
 
 use cases::words;
+use machine::layout::AUTOMATON_SIZE;
+use machine::run::layout::RUN_SIZE;
 
 fn main() {
     let mut text = io::large_buffer();
     let n = io::read_full(0, &mut text);
-    let mut a = [7u8; 65537];
-    let mut run = [7u8; 65537];
+    let mut a = [7u8; AUTOMATON_SIZE + 1];
+    let mut run = [7u8; RUN_SIZE + 1];
     lines(&text[..n], &mut a, &mut run);
 }
 

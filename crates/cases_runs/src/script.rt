@@ -5,6 +5,8 @@ use cases::expand::expand;
 use cases::say;
 use cases::words;
 use machine::build;
+use machine::layout::AUTOMATON_SIZE;
+use machine::run::layout::RUN_SIZE;
 use machine::run::open;
 use stored::counters::Counters;
 
@@ -17,9 +19,9 @@ pub struct State {
 
 pub fn begin() -> State {
     State {
-        counters: calls::made(0, 0, 0),
-        automaton: 65536,
-        run: 65536,
+        counters: Counters::none(),
+        automaton: AUTOMATON_SIZE,
+        run: RUN_SIZE,
     }
 }
 

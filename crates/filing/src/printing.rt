@@ -39,12 +39,7 @@ fn list_filed(a: &[u8], run: &[u8], c: Counters, refused: u8, out: &mut [u8]) ->
 fn file_and_list(a: &[u8], run: &mut [u8], report: &[u8], out: &mut [u8]) -> Written
     ensures { λ r. ⌜ FiledAndListed (now (a .entry)) (now (run .entry)) (now (report .entry)) (now (out .entry)) r (now (run .exit)) (now (out .exit)) ⌝ }
 {
-    let none = Counters {
-        opens: 0,
-        closes: 0,
-        moves: 0,
-    };
-    let done = file_by(a, run, none, report);
+    let done = file_by(a, run, Counters::none(), report);
     let counters = done.counters;
     list_filed(a, run, counters, done.refusal, out)
 }

@@ -46,11 +46,7 @@ fn with_none(n: u8) -> Taken
 {
     Taken {
         refusal: n,
-        counters: Counters {
-            opens: 0,
-            closes: 0,
-            moves: 0,
-        },
+        counters: Counters::none(),
     }
 }
 

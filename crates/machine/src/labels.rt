@@ -1,4 +1,5 @@
 // Labels and numbers as they are stored, read without a range test: for callers that know the automaton's size.
+use notation::layout::LABEL_LENGTH_IN;
 use notation::layout::LABEL_SIZE;
 use notation::layout::LABELS_AT;
 use notation::layout::TEXT_AT;
@@ -8,14 +9,14 @@ ghost use mathlib.Core.Path.{_≡_};
 ghost use Prim.Native.Nat.{_+_, _≤_, _<_};
 ghost use lib.ListN.{length};
 ghost use Rattle.text.specs.Names.{sameName};
-ghost use Rattle.notation.specs.Layout.{setSize};
+ghost use Rattle.notation.specs.Layout.{wordSize, setSize};
 ghost use Rattle.notation.specs.Limits.{maxLabels};
 ghost use Rattle.notation.specs.Reads.{word16, labelCount, labelName, textSlice};
 ghost use Rattle.stored.specs.Automaton.{automatonSize};
 
 // A number of two bytes, both within the buffer.
 pub fn word(a: &[u8], at: usize) -> usize
-    requires { ⌜ at + 2 ≤ length (now a) ⌝ }
+    requires { ⌜ at + wordSize ≤ length (now a) ⌝ }
     ensures { λ r. ⌜ (r ≡ word16 (now (a .entry)) at) × (r < 65536) ⌝ }
 {
     a[at] as usize + 256 * (a[at + 1] as usize)
@@ -43,5 +44,5 @@ pub fn label_is(a: &[u8], l: usize, e: &[u8]) -> bool
     ensures { λ r. ⌜ r ≡ sameName (labelName (now (a .entry)) l) (now (e .entry)) ⌝ }
 {
     let entry = LABELS_AT + LABEL_SIZE * l;
-    text_is(a, word(a, entry), word(a, entry + 2), e)
+    text_is(a, word(a, entry), word(a, entry + LABEL_LENGTH_IN), e)
 }

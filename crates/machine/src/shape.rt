@@ -4,20 +4,32 @@ ghost use Prim.Native.Nat.{_<_};
 ghost use Rattle.notation.specs.Reads.{folderCount, pathCount, stepCount, labelCount};
 ghost use Rattle.stored.specs.Automaton.{hashes};
 ghost use Rattle.stored.specs.Shape.{allBelow, countsShaped, folderShaped, pathShaped, stepShaped, labelShaped, headShaped, linkShaped, automatonShaped};
+use crate::layout::FAIL_IN;
 use crate::layout::HASHES;
 use crate::layout::HEADS_AT;
 use crate::layout::LINK_SIZE;
 use crate::layout::LINKS_AT;
+use crate::layout::PARENT_IN;
+use crate::layout::SIZE_IN;
 use crate::layout::START_AT;
+use crate::walk::link_field;
 use crate::walk::size_of;
+use notation::layout::FOLDER_FIRST_IN;
 use notation::layout::FOLDER_SIZE;
 use notation::layout::FOLDERS_AT;
+use notation::layout::LABEL_LENGTH_IN;
 use notation::layout::LABEL_SIZE;
+use notation::layout::LABEL_STEP_IN;
 use notation::layout::LABELS_AT;
 use notation::layout::MAX_ALL_STEPS;
+use notation::layout::PATH_BEGIN_IN;
+use notation::layout::PATH_LENGTH_IN;
 use notation::layout::PATH_SIZE;
+use notation::layout::PATH_STEPS_IN;
 use notation::layout::PATHS_AT;
+use notation::layout::STEP_KINDS;
 use notation::layout::STEPS_AT;
+use notation::layout::WORD_SIZE;
 use notation::limits::MAX_LABELS;
 use notation::limits::MAX_NUMBER;
 use notation::limits::MAX_PATHS;
@@ -55,7 +67,7 @@ fn folder_shaped(a: &[u8], i: usize) -> bool
     let at = FOLDERS_AT + FOLDER_SIZE * i;
     both(
         between(1, MAX_NUMBER, word_at(a, at)),
-        word_at(a, at + 2) <= paths(a),
+        word_at(a, at + FOLDER_FIRST_IN) <= paths(a),
     )
 }
 
@@ -64,8 +76,8 @@ fn path_shaped(a: &[u8], i: usize) -> bool
     ensures { λ r. ⌜ r ≡ pathShaped (now (a .entry)) i ⌝ }
 {
     let at = PATHS_AT + PATH_SIZE * i;
-    let count = word_at(a, at + 2);
-    let inside = word_at(a, at + 4) + word_at(a, at + 6) <= text_len(a);
+    let count = word_at(a, at + PATH_STEPS_IN);
+    let inside = word_at(a, at + PATH_BEGIN_IN) + word_at(a, at + PATH_LENGTH_IN) <= text_len(a);
     both(
         between(1, MAX_STEPS, count),
         both(word_at(a, at) + count <= steps(a), inside),
@@ -76,7 +88,7 @@ fn step_shaped(a: &[u8], i: usize) -> bool
     requires { ⌜ i < 65536 ⌝ }
     ensures { λ r. ⌜ r ≡ stepShaped (now (a .entry)) i ⌝ }
 {
-    byte_at(a, STEPS_AT + i) < 4
+    byte_at(a, STEPS_AT + i) < STEP_KINDS
 }
 
 fn label_shaped(a: &[u8], i: usize) -> bool
@@ -84,11 +96,11 @@ fn label_shaped(a: &[u8], i: usize) -> bool
     ensures { λ r. ⌜ r ≡ labelShaped (now (a .entry)) i ⌝ }
 {
     let at = LABELS_AT + LABEL_SIZE * i;
-    let size = word_at(a, at + 2);
+    let size = word_at(a, at + LABEL_LENGTH_IN);
     let inside = word_at(a, at) + size <= text_len(a);
     both(
         inside,
-        both(size <= MAX_NAME, word_at(a, at + 4) < steps(a)),
+        both(size <= MAX_NAME, word_at(a, at + LABEL_STEP_IN) < steps(a)),
     )
 }
 
@@ -96,23 +108,25 @@ fn head_shaped(a: &[u8], h: usize) -> bool
     requires { ⌜ h < hashes ⌝ }
     ensures { λ r. ⌜ r ≡ headShaped (now (a .entry)) h ⌝ }
 {
-    word_at(a, HEADS_AT + 2 * h) <= labels(a)
+    word_at(a, HEADS_AT + WORD_SIZE * h) <= labels(a)
 }
 
 fn link_shaped(a: &[u8], l: usize) -> bool
     requires { ⌜ l < 65536 ⌝ }
     ensures { λ r. ⌜ r ≡ linkShaped (now (a .entry)) l ⌝ }
 {
-    let at = LINKS_AT + LINK_SIZE * l;
     let top = labels(a);
-    let next = word_at(a, at);
-    let fail = word_at(a, at + 4);
-    let size = word_at(a, at + 6);
+    let next = word_at(a, LINKS_AT + LINK_SIZE * l);
+    let fail = link_field(a, l, FAIL_IN);
+    let size = link_field(a, l, SIZE_IN);
     let onward = either(next == 0, both(l + 1 < next, next <= top));
     let short = both(size <= MAX_STEPS + 1, size_of(a, fail) < size);
     both(
         onward,
-        both(word_at(a, at + 2) <= top + 1, both(fail <= top + 1, short)),
+        both(
+            link_field(a, l, PARENT_IN) <= top + 1,
+            both(fail <= top + 1, short),
+        ),
     )
 }
 

@@ -10,19 +10,61 @@ use Rattle.notation.specs.Print.{printAxis, printStep, printPath, printF
 use Rattle.notation.specs.Form.{pathsOf, stepsOf}
 use Rattle.text.specs.Bytes.{le16, padded, joined}
 
--- sizes of the entries
+-- bytes of a number
+abbrev pub wordSize : ℕ
+wordSize = 2
+
+-- fields and entries: a field begins where the one before it ends, the first with its entry, and an entry ends with its last field
+
+-- of a folder: its number, the place of its first path
+abbrev pub folderFirstIn : ℕ
+folderFirstIn = wordSize
+
 unfoldable pub folderSize : ℕ
-folderSize = 4
+folderSize = folderFirstIn + wordSize
+
+-- of a path: its first step, its count of steps, where its text begins, how long that is
+abbrev pub pathStepsIn : ℕ
+pathStepsIn = wordSize
+
+abbrev pub pathBeginIn : ℕ
+pathBeginIn = pathStepsIn + wordSize
+
+abbrev pub pathLengthIn : ℕ
+pathLengthIn = pathBeginIn + wordSize
 
 unfoldable pub pathSize : ℕ
-pathSize = 8
+pathSize = pathLengthIn + wordSize
+
+-- of a label: where its bytes begin, their count, its step
+abbrev pub labelLengthIn : ℕ
+labelLengthIn = wordSize
+
+abbrev pub labelStepIn : ℕ
+labelStepIn = labelLengthIn + wordSize
 
 unfoldable pub labelSize : ℕ
-labelSize = 6
+labelSize = labelStepIn + wordSize
 
--- offsets: five counts, the text, the folders, the paths, the steps, the labels
+-- the counts
+abbrev pub textLenAt : ℕ
+textLenAt = 0
+
+abbrev pub folderCountAt : ℕ
+folderCountAt = textLenAt + wordSize
+
+abbrev pub pathCountAt : ℕ
+pathCountAt = folderCountAt + wordSize
+
+abbrev pub stepCountAt : ℕ
+stepCountAt = pathCountAt + wordSize
+
+abbrev pub labelCountAt : ℕ
+labelCountAt = stepCountAt + wordSize
+
+-- the text, the folders, the paths, the steps, the labels
 unfoldable pub textAt : ℕ
-textAt = 10
+textAt = labelCountAt + wordSize
 
 unfoldable pub foldersAt : ℕ
 unfolding textAt maxSetBytes
@@ -52,14 +94,20 @@ folderEntry number first = le16 number ++ le16 first
 abbrev pub pathEntry : ℕ → ℕ → ℕ → ℕ → List ℕ
 pathEntry first count at size = le16 first ++ (le16 count ++ (le16 at ++ le16 size))
 
--- a step: 1 for `//`, and 2 more for `*`
+-- a step: 1 for `//`, and 2 more for `*`, so four kinds
+abbrev pub starKind : ℕ
+starKind = 2
+
+abbrev pub stepKinds : ℕ
+stepKinds = 2 * starKind
+
 abbrev pub axisBit : Axis → ℕ
 axisBit child = 0
 axisBit descendant = 1
 
 abbrev pub starBit : Test → ℕ
 starBit (label n) = 0
-starBit star = 2
+starBit star = starKind
 
 abbrev pub stepEntry : Step → List ℕ
 stepEntry (step a t) = (axisBit a + starBit t) ∷ []

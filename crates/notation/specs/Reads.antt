@@ -6,7 +6,7 @@ use lib.Dec.{leb, ltb, eqb}
 use lib.ListN.{length, getD, take, drop}
 use Rattle.notation.specs.Limits.{maxSetBytes, maxPaths, maxSteps, maxLabels}
 use Rattle.notation.specs.Sets.{Axis, child, descendant, Test, label, star, folder, FolderSet}
-use Rattle.notation.specs.Layout.{folderSize, pathSize, labelSize, textAt, foldersAt, pathsAt, stepsAt, labelsAt, setSize}
+use Rattle.notation.specs.Layout.{folderFirstIn, folderSize, pathStepsIn, pathBeginIn, pathLengthIn, pathSize, labelLengthIn, labelStepIn, labelSize, textLenAt, folderCountAt, pathCountAt, stepCountAt, labelCountAt, textAt, foldersAt, pathsAt, stepsAt, labelsAt, setSize, starKind}
 use Rattle.notation.specs.declared.FolderNumber.{FolderNumber}
 use Rattle.notation.specs.declared.PathPlace.{PathPlace}
 use Rattle.notation.specs.declared.reads.FolderAt.{FolderAt}
@@ -21,19 +21,19 @@ word16 part at = getD part at 0 + 256 * getD part (at + 1) 0
 
 -- the counts as stored
 abbrev pub textLen : List ℕ → ℕ
-textLen part = word16 part 0
+textLen part = word16 part textLenAt
 
 abbrev pub folderCount : List ℕ → ℕ
-folderCount part = word16 part 2
+folderCount part = word16 part folderCountAt
 
 abbrev pub pathCount : List ℕ → ℕ
-pathCount part = word16 part 4
+pathCount part = word16 part pathCountAt
 
 abbrev pub stepCount : List ℕ → ℕ
-stepCount part = word16 part 6
+stepCount part = word16 part stepCountAt
 
 abbrev pub labelCount : List ℕ → ℕ
-labelCount part = word16 part 8
+labelCount part = word16 part labelCountAt
 
 -- the part is whole, and i is below the stored count and below the table's capacity
 unfoldable pub present : List ℕ → ℕ → ℕ → ℕ → Bool
@@ -54,7 +54,7 @@ abbrev pub storedNumber : List ℕ → ℕ → ℕ
 storedNumber part i = word16 part (folderEntryAt i)
 
 abbrev pub storedFirst : List ℕ → ℕ → ℕ
-storedFirst part i = word16 part (folderEntryAt i + 2)
+storedFirst part i = word16 part (folderEntryAt i + folderFirstIn)
 
 abbrev pub hasFolder : List ℕ → ℕ → Bool
 hasFolder part i = present part (folderCount part) maxPaths i
@@ -69,12 +69,24 @@ folderAt part i =
     (FolderAt.Folder (record { 0 = storedNumber part i }) (record { 0 = storedFirst part i }) (pathsEnd part i - storedFirst part i))
     FolderAt.Missing
 
--- first step, count of steps, and where in the text the path stands
+-- of path i: its first step, its count of steps, where its text begins, how long that is
+abbrev pub pathFirst : List ℕ → ℕ → ℕ
+pathFirst part i = word16 part (pathEntryAt i)
+
+abbrev pub pathSteps : List ℕ → ℕ → ℕ
+pathSteps part i = word16 part (pathEntryAt i + pathStepsIn)
+
+abbrev pub pathBegin : List ℕ → ℕ → ℕ
+pathBegin part i = word16 part (pathEntryAt i + pathBeginIn)
+
+abbrev pub pathLength : List ℕ → ℕ → ℕ
+pathLength part i = word16 part (pathEntryAt i + pathLengthIn)
+
 unfoldable pub pathAt : List ℕ → PathPlace → PathAt
 pathAt part place =
-    let at = pathEntryAt (place .0) in
-    cond (present part (pathCount part) maxPaths (place .0))
-    (PathAt.Path (word16 part at) (word16 part (at + 2)) (word16 part (at + 4)) (word16 part (at + 6)))
+    let i = place .0 in
+    cond (present part (pathCount part) maxPaths i)
+    (PathAt.Path (pathFirst part i) (pathSteps part i) (pathBegin part i) (pathLength part i))
     PathAt.Missing
 
 -- what a step's entry says of its axis and its test
@@ -91,15 +103,23 @@ unfoldable pub stepAt : List ℕ → ℕ → StepAt
 stepAt part i =
     let kind = getD part (stepsAt + i) 0 in
     cond (present part (stepCount part) (maxPaths * maxSteps) i)
-    (StepAt.Step (eqb (kind % 2) 1) (eqb (kind / 2 % 2) 1))
+    (StepAt.Step (eqb (kind % 2) 1) (eqb (kind / starKind % 2) 1))
     StepAt.Missing
 
--- where in the text the label stands, and its step
+-- of label i: where in the text it begins, how long it is, and its step
+abbrev pub labelBegin : List ℕ → ℕ → ℕ
+labelBegin part i = word16 part (labelEntryAt i)
+
+abbrev pub labelLength : List ℕ → ℕ → ℕ
+labelLength part i = word16 part (labelEntryAt i + labelLengthIn)
+
+abbrev pub labelStep : List ℕ → ℕ → ℕ
+labelStep part i = word16 part (labelEntryAt i + labelStepIn)
+
 unfoldable pub labelAt : List ℕ → ℕ → LabelAt
 labelAt part i =
-    let at = labelEntryAt i in
     cond (present part (labelCount part) maxLabels i)
-    (LabelAt.Label (word16 part at) (word16 part (at + 2)) (word16 part (at + 4)))
+    (LabelAt.Label (labelBegin part i) (labelLength part i) (labelStep part i))
     LabelAt.Missing
 
 -- the largest number of an answer; each is a number of two bytes

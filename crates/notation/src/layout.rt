@@ -8,26 +8,49 @@ use crate::limits::MAX_STEPS;
 // Steps of all paths together.
 pub const MAX_ALL_STEPS: usize = MAX_PATHS * MAX_STEPS;
 
-// The entries of the tables; an entry of a step is one byte.
-pub const FOLDER_SIZE: usize = 4;
+// A number.
+pub const WORD_SIZE: usize = 2;
 
-pub const PATH_SIZE: usize = 8;
+// Fields and entries: a field begins where the one before it ends, the first with its entry, and an entry ends with its last field. Of a
+// folder: its number, the place of its first path.
+pub const FOLDER_FIRST_IN: usize = WORD_SIZE;
 
-pub const LABEL_SIZE: usize = 6;
+pub const FOLDER_SIZE: usize = FOLDER_FIRST_IN + WORD_SIZE;
+
+// Of a path: its first step, its count of steps, where its text begins, how long that is.
+pub const PATH_STEPS_IN: usize = WORD_SIZE;
+
+pub const PATH_BEGIN_IN: usize = PATH_STEPS_IN + WORD_SIZE;
+
+pub const PATH_LENGTH_IN: usize = PATH_BEGIN_IN + WORD_SIZE;
+
+pub const PATH_SIZE: usize = PATH_LENGTH_IN + WORD_SIZE;
+
+// Of a label: where its bytes begin, their count, its step.
+pub const LABEL_LENGTH_IN: usize = WORD_SIZE;
+
+pub const LABEL_STEP_IN: usize = LABEL_LENGTH_IN + WORD_SIZE;
+
+pub const LABEL_SIZE: usize = LABEL_STEP_IN + WORD_SIZE;
+
+// A step: 1 for `//`, and 2 more for `*`, so four kinds.
+pub const STAR_KIND: usize = 2;
+
+pub const STEP_KINDS: usize = 2 * STAR_KIND;
 
 // The counts.
 pub const TEXT_LEN_AT: usize = 0;
 
-pub const FOLDER_COUNT_AT: usize = 2;
+pub const FOLDER_COUNT_AT: usize = TEXT_LEN_AT + WORD_SIZE;
 
-pub const PATH_COUNT_AT: usize = 4;
+pub const PATH_COUNT_AT: usize = FOLDER_COUNT_AT + WORD_SIZE;
 
-pub const STEP_COUNT_AT: usize = 6;
+pub const STEP_COUNT_AT: usize = PATH_COUNT_AT + WORD_SIZE;
 
-pub const LABEL_COUNT_AT: usize = 8;
+pub const LABEL_COUNT_AT: usize = STEP_COUNT_AT + WORD_SIZE;
 
-// The text and the tables.
-pub const TEXT_AT: usize = 10;
+// The text and the tables; an entry of a step is one byte.
+pub const TEXT_AT: usize = LABEL_COUNT_AT + WORD_SIZE;
 
 pub const FOLDERS_AT: usize = TEXT_AT + MAX_SET_BYTES;
 

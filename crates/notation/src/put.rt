@@ -2,9 +2,12 @@
 use crate::layout::FOLDER_SIZE;
 use crate::layout::FOLDERS_AT;
 use crate::layout::LABEL_SIZE;
+use crate::layout::LABEL_STEP_IN;
 use crate::layout::LABELS_AT;
+use crate::layout::PATH_BEGIN_IN;
 use crate::layout::PATH_SIZE;
 use crate::layout::PATHS_AT;
+use crate::layout::STAR_KIND;
 use crate::layout::STEPS_AT;
 use crate::scan::Mode;
 use crate::scan::Scan;
@@ -20,7 +23,7 @@ ghost use lib.Dec.{eqb};
 ghost use lib.ListN.{length};
 ghost use Rattle.text.specs.Names.{inName};
 ghost use Rattle.notation.specs.Limits.{maxPaths, maxSteps, maxLabels};
-ghost use Rattle.notation.specs.Layout.{setSize};
+ghost use Rattle.notation.specs.Layout.{starKind, setSize};
 ghost use Rattle.notation.specs.Code.Put.{putFolder, putStep, putPath, putTest, putLabel, put, Within};
 ghost use Rattle.notation.specs.Code.Scan.{folderRead, pathRead, labelRead, starRead, counted};
 
@@ -46,7 +49,7 @@ fn put_label(part: &mut [u8], t: Tally)
     let at = LABELS_AT + LABEL_SIZE * t.labels;
     let size = minus(t.at, t.from);
     put_pair(part, at, t.from, size);
-    put16(part, at + 4, t.steps);
+    put16(part, at + LABEL_STEP_IN, t.steps);
 }
 
 fn put_path(part: &mut [u8], t: Tally)
@@ -57,7 +60,7 @@ fn put_path(part: &mut [u8], t: Tally)
     let count = minus(t.steps + 1, t.first);
     let size = minus(t.at, t.begin);
     put_pair(part, at, t.first, count);
-    put_pair(part, at + 4, t.begin, size);
+    put_pair(part, at + PATH_BEGIN_IN, t.begin, size);
 }
 
 // A step has ended, and its path where this byte is the path's bracket.
@@ -93,9 +96,9 @@ fn put_name(part: &mut [u8], t: Tally, b: u8)
 
 fn put_star(part: &mut [u8], t: Tally, b: u8)
     requires { ⌜ (Within (pathRead b (starRead t))) × (t .deep < 2) × (setSize ≤ length (now part)) ⌝ }
-    ensures { λ _. ⌜ now (part .exit) ≡ putTest b (t .deep + 2) t (now (part .entry)) ⌝ }
+    ensures { λ _. ⌜ now (part .exit) ≡ putTest b (t .deep + starKind) t (now (part .entry)) ⌝ }
 {
-    put_test(part, t, t.deep + 2, b);
+    put_test(part, t, t.deep + STAR_KIND as u8, b);
 }
 
 // What one byte of the text adds to the tables.

@@ -1,6 +1,9 @@
 // Reading a set: its text is judged, and an accepted one is laid out in a buffer.
+use crate::layout::LABEL_COUNT_AT;
+use crate::layout::PATH_COUNT_AT;
 use crate::layout::SET_SIZE;
 use crate::layout::TEXT_AT;
+use crate::layout::TEXT_LEN_AT;
 use crate::put;
 use crate::scan;
 use crate::scan::Scan;
@@ -39,9 +42,9 @@ fn put_counts(part: &mut [u8], size: usize, t: Tally)
     requires { ⌜ setSize ≤ length (now part) ⌝ }
     ensures { λ _. ⌜ now (part .exit) ≡ sets (now (part .entry)) 0 (tallied size t) ⌝ }
 {
-    store::put_pair(part, 0, size, t.folders);
-    store::put_pair(part, 4, t.paths, t.steps);
-    store::put16(part, 8, t.labels);
+    store::put_pair(part, TEXT_LEN_AT, size, t.folders);
+    store::put_pair(part, PATH_COUNT_AT, t.paths, t.steps);
+    store::put16(part, LABEL_COUNT_AT, t.labels);
 }
 
 fn clear_set(part: &mut [u8])

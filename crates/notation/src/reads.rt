@@ -8,16 +8,23 @@ ghost use Rattle.notation.specs.Reads.{word16, textLen, folderCount, pat
 use crate::FolderNumber;
 use crate::PathPlace;
 use crate::layout::FOLDER_COUNT_AT;
+use crate::layout::FOLDER_FIRST_IN;
 use crate::layout::FOLDER_SIZE;
 use crate::layout::FOLDERS_AT;
 use crate::layout::LABEL_COUNT_AT;
+use crate::layout::LABEL_LENGTH_IN;
 use crate::layout::LABEL_SIZE;
+use crate::layout::LABEL_STEP_IN;
 use crate::layout::LABELS_AT;
 use crate::layout::MAX_ALL_STEPS;
+use crate::layout::PATH_BEGIN_IN;
 use crate::layout::PATH_COUNT_AT;
+use crate::layout::PATH_LENGTH_IN;
 use crate::layout::PATH_SIZE;
+use crate::layout::PATH_STEPS_IN;
 use crate::layout::PATHS_AT;
 use crate::layout::SET_SIZE;
+use crate::layout::STAR_KIND;
 use crate::layout::STEP_COUNT_AT;
 use crate::layout::STEPS_AT;
 use crate::layout::TEXT_AT;
@@ -134,7 +141,7 @@ fn paths_end(part: &[u8], i: usize) -> usize
 {
     let next = i + 1;
     if has(part, folders(part), MAX_PATHS, next) {
-        word_at(part, FOLDERS_AT + FOLDER_SIZE * next + 2)
+        word_at(part, FOLDERS_AT + FOLDER_SIZE * next + FOLDER_FIRST_IN)
     } else {
         paths(part)
     }
@@ -146,7 +153,7 @@ pub fn folder_at(part: &[u8], i: usize) -> FolderAt
     if has(part, folders(part), MAX_PATHS, i) {
         let at = FOLDERS_AT + FOLDER_SIZE * i;
         let number = word_at(part, at);
-        let first = word_at(part, at + 2);
+        let first = word_at(part, at + FOLDER_FIRST_IN);
         FolderAt::Folder {
             number: FolderNumber(number),
             first: PathPlace(first),
@@ -165,9 +172,9 @@ pub fn path_at(part: &[u8], place: PathPlace) -> PathAt
         let from = PATHS_AT + PATH_SIZE * i;
         PathAt::Path {
             first: word_at(part, from),
-            steps: word_at(part, from + 2),
-            at: word_at(part, from + 4),
-            size: word_at(part, from + 6),
+            steps: word_at(part, from + PATH_STEPS_IN),
+            at: word_at(part, from + PATH_BEGIN_IN),
+            size: word_at(part, from + PATH_LENGTH_IN),
         }
     } else {
         PathAt::Missing
@@ -181,7 +188,7 @@ pub fn step_at(part: &[u8], i: usize) -> StepAt
         let kind = byte_at(part, STEPS_AT + i);
         StepAt::Step {
             descendant: kind % 2 == 1,
-            star: kind / 2 % 2 == 1,
+            star: kind / STAR_KIND % 2 == 1,
         }
     } else {
         StepAt::Missing
@@ -195,8 +202,8 @@ pub fn label_at(part: &[u8], i: usize) -> LabelAt
         let from = LABELS_AT + LABEL_SIZE * i;
         LabelAt::Label {
             at: word_at(part, from),
-            size: word_at(part, from + 2),
-            step: word_at(part, from + 4),
+            size: word_at(part, from + LABEL_LENGTH_IN),
+            step: word_at(part, from + LABEL_STEP_IN),
         }
     } else {
         LabelAt::Missing

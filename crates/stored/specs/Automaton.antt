@@ -2,16 +2,16 @@
 -- is the definitions written down; numbers take two bytes, the lower first, and spare bytes are 0.
 -- The layout is the program's choice: which tables there are, where they stand and which number a word has. What every choice has in common:
 -- its tables mean the shared machine (Compiled), the set's text is written back from it, and its runs meet demand 3 (Demand3).
-use Prim.Native.Nat.{ℕ, zero, suc, _+_, _*_, _%_}
+use Prim.Native.Nat.{ℕ, zero, suc, _+_, _*_, _/_, _%_}
 use mathlib.Core.Bool.{Bool, true, false, not, _&&_, cond}
 use mathlib.Core.List.{List, [], _∷_, _++_, map}
 use lib.Dec.{eqb}
-use lib.ListN.{length}
+use lib.ListN.{length, getD}
 use Rattle.text.specs.Names.{Name}
-use Rattle.notation.specs.Limits.{maxLabels}
+use Rattle.notation.specs.Limits.{maxPaths, maxSteps, maxLabels}
 use Rattle.notation.specs.Sets.{Step, Path, FolderSet, axisOf, testOf}
 use Rattle.notation.specs.Form.{pathsOf, stepsOf, labelsOf}
-use Rattle.notation.specs.Layout.{setSize, setPart}
+use Rattle.notation.specs.Layout.{wordSize, setSize, setPart}
 use Rattle.text.specs.Bytes.{le16, joined, padded}
 use Rattle.notation.specs.Reads.{isDescendant, isStar}
 use Rattle.theory.specs.Words.{document, name, Word, sameSymbol, before, labelWords, begins}
@@ -22,12 +22,48 @@ use Rattle.theory.specs.Prefix.{failure}
 unfoldable pub hashes : ℕ
 hashes = 256
 
+-- of a label's links: the next label of its chain, the parent, the failure link, the length of its word
+abbrev pub parentIn : ℕ
+parentIn = wordSize
+
+abbrev pub failIn : ℕ
+failIn = parentIn + wordSize
+
+abbrev pub sizeIn : ℕ
+sizeIn = failIn + wordSize
+
 unfoldable pub linkSize : ℕ
-linkSize = 8
+linkSize = sizeIn + wordSize
 
 -- bytes of a mask: one bit a step
 unfoldable pub maskSize : ℕ
-maskSize = 256
+unfolding maxPaths maxSteps
+maskSize = maxPaths * maxSteps / 8
+
+-- the masks in the order in which they stand: `*`; `/` and `//` of a step that is not the first; `//` and `/` of a first step; the last step
+abbrev pub starMask : ℕ
+starMask = 0
+
+abbrev pub childMask : ℕ
+childMask = starMask + 1
+
+abbrev pub descendantMask : ℕ
+descendantMask = childMask + 1
+
+abbrev pub anywhereMask : ℕ
+anywhereMask = descendantMask + 1
+
+abbrev pub rootMask : ℕ
+rootMask = anywhereMask + 1
+
+abbrev pub lastMask : ℕ
+lastMask = rootMask + 1
+
+abbrev pub maskCount : ℕ
+maskCount = lastMask + 1
+
+abbrev pub allMasks : ℕ
+allMasks = maskCount * maskSize
 
 unfoldable pub headsAt : ℕ
 unfolding setSize
@@ -35,7 +71,7 @@ headsAt = setSize
 
 unfoldable pub linksAt : ℕ
 unfolding headsAt hashes
-linksAt = headsAt + 2 * hashes
+linksAt = headsAt + wordSize * hashes
 
 unfoldable pub masksAt : ℕ
 unfolding linksAt linkSize maxLabels
@@ -43,15 +79,26 @@ masksAt = linksAt + linkSize * maxLabels
 
 unfoldable pub startAt : ℕ
 unfolding masksAt maskSize
-startAt = masksAt + 6 * maskSize
+startAt = masksAt + allMasks
 
 unfoldable pub automatonSize : ℕ
 automatonSize = 65536
 
+-- the chain head of a hash, the links of a label, a mask
+abbrev pub headEntryAt : ℕ → ℕ
+headEntryAt h = headsAt + wordSize * h
+
+abbrev pub linkEntryAt : ℕ → ℕ
+linkEntryAt l = linksAt + linkSize * l
+
+abbrev pub maskAt : ℕ → ℕ
+maskAt m = masksAt + maskSize * m
+
 -- a hash of a name
 unfoldable pub hashFrom : ℕ → Name → ℕ
+unfolding hashes
 hashFrom h [] = h
-hashFrom h (b ∷ n) = hashFrom ((31 * h + b) % 256) n
+hashFrom h (b ∷ n) = hashFrom ((31 * h + b) % hashes) n
 
 abbrev pub hash : Name → ℕ
 hash n = hashFrom 0 n
@@ -120,11 +167,17 @@ nexts k (n ∷ names) = find (hasHash (hash n)) (suc (suc k)) names ∷ nexts (s
 
 -- a label's links: the next label of its chain, the states of its word without the last symbol and of the longest proper end of its
 -- word that begins a keyword, and the length of its word
-pub data Link : Type 0 where
-  link : ℕ → ℕ → ℕ → ℕ → Link
+pub record Link : Type 0 where
+  pub next : ℕ
+  pub parent : ℕ
+  pub fail : ℕ
+  pub size : ℕ
+
+abbrev pub link : ℕ → ℕ → ℕ → ℕ → Link
+link next parent fail size = record { next = next; parent = parent; fail = fail; size = size }
 
 abbrev pub linkEntry : Link → List ℕ
-linkEntry (link next parent fail size) = le16 next ++ (le16 parent ++ (le16 fail ++ le16 size))
+linkEntry k = le16 (k .next) ++ (le16 (k .parent) ++ (le16 (k .fail) ++ le16 (k .size)))
 
 unfoldable pub linksOf : FolderSet → List ℕ → List Word → List Link
 linksOf s [] words = []
@@ -153,7 +206,6 @@ rolesIn (p ∷ ps) = rolesFrom true p ++ rolesIn ps
 abbrev pub roles : FolderSet → List Role
 roles s = rolesIn (pathsOf s)
 
--- `*`; `/` and `//` of a step that is not the first; `//` and `/` of a first step; the last step
 abbrev pub isStarRole : Role → Bool
 isStarRole (role s first last) = isStar (testOf s)
 
@@ -196,18 +248,17 @@ roleAt f (r ∷ rs) (suc i) = roleAt f rs i
 abbrev pub mask : (Role → Bool) → FolderSet → List ℕ
 mask f s = bitBytes (roleAt f (roles s)) maskSize
 
-unfoldable pub masks : FolderSet → List ℕ
-masks s = mask isStarRole s ++ (mask isChildRole s ++ (mask isDescendantRole s ++ (mask isAnywhereRole s ++ (mask isRootRole s ++ mask isLastRole s))))
-
 -- the test that mask m holds of each step
 abbrev pub maskTest : ℕ → Role → Bool
-maskTest zero r = isStarRole r
-maskTest (suc zero) r = isChildRole r
-maskTest (suc (suc zero)) r = isDescendantRole r
-maskTest (suc (suc (suc zero))) r = isAnywhereRole r
-maskTest (suc (suc (suc (suc zero)))) r = isRootRole r
-maskTest (suc (suc (suc (suc (suc zero))))) r = isLastRole r
-maskTest (suc (suc (suc (suc (suc (suc m)))))) r = false
+maskTest m = getD (isStarRole ∷ isChildRole ∷ isDescendantRole ∷ isAnywhereRole ∷ isRootRole ∷ isLastRole ∷ []) m (λ r. false)
+
+-- so many masks, from mask m on
+unfoldable pub masksFrom : ℕ → ℕ → FolderSet → List ℕ
+masksFrom zero m s = []
+masksFrom (suc left) m s = mask (maskTest m) s ++ masksFrom left (suc m) s
+
+abbrev pub masks : FolderSet → List ℕ
+masks s = masksFrom maskCount starMask s
 
 -- the bytes of the tables
 unfoldable pub headBytes : List ℕ → List ℕ

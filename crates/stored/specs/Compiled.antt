@@ -8,12 +8,12 @@ use lib.ListN.{length, getD, take}
 use Rattle.text.specs.Names.{Name, sameName}
 use Rattle.notation.specs.Sets.{child, label, star, step, FolderSet, testOf}
 use Rattle.notation.specs.Form.{pathsOf, labelsOf}
-use Rattle.notation.specs.Reads.{word16, pathCount, stepCount, labelCount, labelEntryAt}
+use Rattle.notation.specs.Reads.{labelStep, pathCount, stepCount, labelCount}
 use Rattle.theory.specs.Words.{Word, begins}
 use Rattle.theory.specs.Prefix.{IsPrefix, failure}
 use Rattle.theory.specs.Walk.{followedBy, Walked, movesOf, arrivedAt, walk}
 use Rattle.theory.specs.Calls.{fresh}
-use Rattle.stored.specs.Automaton.{maskSize, masksAt, allSteps, allLabels, stateOf, roles, roleAt, startState, maskTest}
+use Rattle.stored.specs.Automaton.{maskSize, maskCount, maskAt, allSteps, allLabels, stateOf, roles, roleAt, startState, maskTest}
 use Rattle.stored.specs.Tables.{startOf, sizeOf, failOf, goto, walkOver}
 use Rattle.stored.specs.Bits.{bitIn}
 use Rattle.stored.specs.Chain.{chainLabels}
@@ -38,7 +38,7 @@ pub record Compiled (s : FolderSet) (a : List ℕ) : Type 0 where
   pub paths : pathCount a ≡ length (pathsOf s)
   pub steps : stepCount a ≡ length (allSteps s)
   pub labels : labelCount a ≡ length (allLabels s)
-  pub owner : (l : ℕ) → l < length (allLabels s) → LabelStep s l (word16 a (labelEntryAt l + 4))
+  pub owner : (l : ℕ) → l < length (allLabels s) → LabelStep s l (labelStep a l)
   -- goto finds the word with one symbol more exactly when it begins a keyword
   pub goes : (w : Word) → IsPrefix s w → (e : Name) → begins s (followedBy w e) ≡ true → goto a (stateOf s w) e ≡ stateOf s (followedBy w e)
   pub stops : (w : Word) → IsPrefix s w → (e : Name) → begins s (followedBy w e) ≡ false → goto a (stateOf s w) e ≡ 0
@@ -54,7 +54,7 @@ pub record Compiled (s : FolderSet) (a : List ℕ) : Type 0 where
   -- a name's chain has exactly the labels with that name
   pub chain : (e : Name) → chainLabels a e ≡ placesOf e 0 (allLabels s)
   -- bit i of mask m is the mask's test of step i
-  pub masks : (m : ℕ) → m < 6 → (i : ℕ) → i < 8 * maskSize → bitIn a (masksAt + maskSize * m) i ≡ roleAt (maskTest m) (roles s) i
+  pub masks : (m : ℕ) → m < maskCount → (i : ℕ) → i < 8 * maskSize → bitIn a (maskAt m) i ≡ roleAt (maskTest m) (roles s) i
   -- a fresh run's state
   pub start : startOf a ≡ startState s
   pub begin : startState s ≡ stateOf s (fresh s .current)

@@ -1,11 +1,11 @@
 -- What the calls on a run need of automaton and run: buffers of their size that pass the shape test.
-use Prim.Native.Nat.{ℕ, _+_, _*_, _≤_, _<_}
+use Prim.Native.Nat.{ℕ, _*_, _≤_, _<_}
 use mathlib.Core.Path.{_≡_}
 use mathlib.Core.Bool.{true}
 use mathlib.Core.List.{List}
 use lib.ListN.{length}
 use Rattle.notation.specs.Limits.{maxPaths, maxSteps}
-use Rattle.notation.specs.Reads.{word16, stepCount, labelCount, labelEntryAt}
+use Rattle.notation.specs.Reads.{stepCount, labelCount, labelStep}
 use Rattle.stored.specs.Automaton.{automatonSize}
 use Rattle.stored.specs.Walkable.{Walkable}
 use Rattle.stored.specs.Shape.{automatonShaped}
@@ -23,7 +23,7 @@ pub record Ready (a run : List ℕ) : Type 0 where
 pub record Openable (a : List ℕ) : Type 0 where
   pub walkable : Walkable a
   pub steps : stepCount a ≤ maxPaths * maxSteps
-  pub step : (l : ℕ) → l < labelCount a → word16 a (labelEntryAt l + 4) < stepCount a
+  pub step : (l : ℕ) → l < labelCount a → labelStep a l < stepCount a
   pub size : automatonSize ≤ length a
 
 -- what a report's calls keep from token to token: automaton, run and counters of their size that pass the shape test

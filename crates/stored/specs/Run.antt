@@ -10,6 +10,7 @@ use lib.ListN.{length}
 use Rattle.text.specs.Names.{Name, maxName}
 use Rattle.notation.specs.Sets.{Path, FolderSet}
 use Rattle.notation.specs.Form.{pathsOf}
+use Rattle.notation.specs.Layout.{wordSize}
 use Rattle.text.specs.Bytes.{le16, joined, padded}
 use Rattle.notation.specs.Activity.{active, seen}
 use Rattle.theory.specs.Prefix.{prefixOf}
@@ -18,8 +19,11 @@ use Rattle.theory.specs.Calls.{State, openNames}
 
 -- sizes and offsets
 
+abbrev pub depthAt : ℕ
+depthAt = 0
+
 unfoldable pub matchesAt : ℕ
-matchesAt = 2
+matchesAt = depthAt + wordSize
 
 unfoldable pub rowsAt : ℕ
 unfolding matchesAt maskSize
@@ -35,7 +39,7 @@ stateIn = nameIn + maxName
 
 unfoldable pub activeIn : ℕ
 unfolding stateIn
-activeIn = stateIn + 2
+activeIn = stateIn + wordSize
 
 unfoldable pub seenIn : ℕ
 unfolding activeIn maskSize

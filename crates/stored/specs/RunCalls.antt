@@ -7,14 +7,14 @@ use lib.ListN.{length, getD, take, drop, replicate}
 use lib.Seq.{sets}
 use Rattle.text.specs.Names.{Name, nameForm, tooLong, maxName, sameName}
 use Rattle.text.specs.Bytes.{le16, padded}
-use Rattle.notation.specs.Reads.{word16, stepCount, labelCount, labelEntryAt}
+use Rattle.notation.specs.Reads.{word16, stepCount, labelCount, labelStep}
 use Rattle.theory.specs.Limits.{maxDepth, maxOpens}
-use Rattle.stored.specs.Automaton.{maskSize, masksAt, automatonSize, byteOf, tabulate}
+use Rattle.stored.specs.Automaton.{maskSize, starMask, childMask, descendantMask, anywhereMask, rootMask, lastMask, automatonSize, maskAt, byteOf, tabulate}
 use Rattle.stored.specs.Tables.{startOf, walkOver}
 use Rattle.stored.specs.Chain.{chainLabels}
 use Rattle.stored.specs.Bits.{bitIn}
 use Rattle.stored.specs.Shape.{automatonShaped, allBelow}
-use Rattle.stored.specs.Run.{matchesAt, nameIn, stateIn, activeIn, seenIn, rowAt, rowSize, runSize}
+use Rattle.stored.specs.Run.{depthAt, matchesAt, nameIn, stateIn, activeIn, seenIn, rowAt, rowSize, runSize}
 use Rattle.stored.specs.declared.counters.Counters.{Counters}
 use Rattle.stored.specs.declared.walk.Walk.{Walk}
 use Rattle.text.specs.Refusals.{shortBuffer, badShape, syntaxError, nameTooLong, notOneRoot, tooDeep, overCapacity, mismatchedClose}
@@ -24,7 +24,7 @@ use Rattle.text.specs.Order.{Condition, gives, given}
 -- what is stored of a run
 
 unfoldable pub depthOf : List ℕ → ℕ
-depthOf run = word16 run 0
+depthOf run = word16 run depthAt
 
 abbrev pub nameLength : List ℕ → ℕ → ℕ
 nameLength run d = getD run (rowAt d) 0
@@ -44,9 +44,9 @@ seenAt run d i = bitIn run (rowAt d + seenIn) i
 abbrev pub matchedAt : List ℕ → ℕ → Bool
 matchedAt run i = bitIn run matchesAt i
 
--- the masks of an automaton: 0 `*`, 1 child, 2 descendant, 3 first by `//`, 4 first by `/`, 5 last
+-- bit i of a mask
 abbrev pub maskBit : List ℕ → ℕ → ℕ → Bool
-maskBit a m i = bitIn a (masksAt + maskSize * m) i
+maskBit a m i = bitIn a (maskAt m) i
 
 -- the shape test of a run on an automaton, and of the counters
 
@@ -122,7 +122,7 @@ usedBytes a = (stepCount a + 7) / 8
 
 -- step i takes e: it is `*`, or one of the labels of that name
 unfoldable pub candidate : List ℕ → Name → ℕ → Bool
-candidate a e i = maskBit a 0 i || any (λ l. eqb (word16 a (labelEntryAt l + 4)) i) (chainLabels a e)
+candidate a e i = maskBit a starMask i || any (λ l. eqb (labelStep a l) i) (chainLabels a e)
 
 -- the step before
 abbrev pub shifted : (ℕ → Bool) → ℕ → Bool
@@ -131,8 +131,8 @@ shifted f (suc i) = f i
 
 unfoldable pub permitted : List ℕ → List ℕ → ℕ → ℕ → Bool
 permitted a run d i =
-    (maskBit a 1 i && shifted (activeAt run d) i) || ((maskBit a 2 i && shifted (seenAt run d) i)
-    || (maskBit a 3 i || (eqb d 0 && maskBit a 4 i)))
+    (maskBit a childMask i && shifted (activeAt run d) i) || ((maskBit a descendantMask i && shifted (seenAt run d) i)
+    || (maskBit a anywhereMask i || (eqb d 0 && maskBit a rootMask i)))
 
 unfoldable pub nowActive : List ℕ → List ℕ → Name → ℕ → Bool
 nowActive a run e i = candidate a e i && permitted a run (depthOf run) i
@@ -141,7 +141,7 @@ unfoldable pub nowSeen : List ℕ → List ℕ → Name → ℕ → Bool
 nowSeen a run e i = seenAt run (depthOf run) i || nowActive a run e i
 
 unfoldable pub nowMatched : List ℕ → List ℕ → Name → ℕ → Bool
-nowMatched a run e i = matchedAt run i || (nowActive a run e i && maskBit a 5 i)
+nowMatched a run e i = matchedAt run i || (nowActive a run e i && maskBit a lastMask i)
 
 abbrev pub usedBits : List ℕ → (ℕ → Bool) → List ℕ
 usedBits a f = tabulate (byteOf f) (usedBytes a)
@@ -167,14 +167,18 @@ withRow run d row = take (rowAt d) run ++ (row ++ drop (rowAt d + rowSize) run)
 unfoldable pub openRun : List ℕ → List ℕ → Name → List ℕ
 openRun a run e =
     sets (sets (withRow run (suc (depthOf run)) (rowOpened a run e)) matchesAt (usedBits a (nowMatched a run e)))
-    0 (le16 (suc (depthOf run)))
+    depthAt (le16 (suc (depthOf run)))
+
+-- counters after an open of so many failure moves
+abbrev pub afterOpen : Counters → ℕ → Counters
+afterOpen c moves = record { opens = c .opens + 1; closes = c .closes; moves = c .moves + moves }
 
 unfoldable pub openCounters : List ℕ → List ℕ → Counters → Name → Counters
-openCounters a run c e = record { opens = c .opens + 1; closes = c .closes; moves = c .moves + openWalk a run e .moves }
+openCounters a run c e = afterOpen c (openWalk a run e .moves)
 
 -- what an accepted close leaves: its row is zero
 unfoldable pub closeRun : List ℕ → List ℕ
-closeRun run = sets (withRow run (depthOf run) (replicate rowSize 0)) 0 (le16 (pred (depthOf run)))
+closeRun run = sets (withRow run (depthOf run) (replicate rowSize 0)) depthAt (le16 (pred (depthOf run)))
 
 unfoldable pub closeCounters : Counters → Counters
 closeCounters c = record { opens = c .opens; closes = c .closes + 1; moves = c .moves }

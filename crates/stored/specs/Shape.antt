@@ -7,8 +7,8 @@ use lib.Dec.{leb, ltb, eqb}
 use lib.ListN.{getD}
 use Rattle.text.specs.Names.{within, maxName}
 use Rattle.notation.specs.Limits.{maxSetBytes, maxNumber, maxPaths, maxSteps, maxLabels}
-use Rattle.notation.specs.Layout.{stepsAt}
-use Rattle.notation.specs.Reads.{word16, textLen, folderCount, pathCount, stepCount, labelCount, pathEntryAt, labelEntryAt, storedNumber, storedFirst}
+use Rattle.notation.specs.Layout.{stepKinds, stepsAt}
+use Rattle.notation.specs.Reads.{textLen, folderCount, pathCount, stepCount, labelCount, storedNumber, storedFirst, pathFirst, pathSteps, pathBegin, pathLength, labelBegin, labelLength, labelStep}
 use Rattle.stored.specs.Automaton.{hashes}
 use Rattle.stored.specs.Tables.{headAt, nextAt, parentAt, failAt, sizeAt, startOf, sizeOf}
 
@@ -28,18 +28,15 @@ folderShaped a i = within 1 maxNumber (storedNumber a i) && leb (storedFirst a i
 -- a path has 1 to 16 of the stored steps, and its text lies within the set's
 abbrev pub pathShaped : List ℕ → ℕ → Bool
 pathShaped a i =
-    let at = pathEntryAt i in
-    within 1 maxSteps (word16 a (at + 2)) && (leb (word16 a at + word16 a (at + 2)) (stepCount a)
-    && leb (word16 a (at + 4) + word16 a (at + 6)) (textLen a))
+    within 1 maxSteps (pathSteps a i) && (leb (pathFirst a i + pathSteps a i) (stepCount a) && leb (pathBegin a i + pathLength a i) (textLen a))
 
 abbrev pub stepShaped : List ℕ → ℕ → Bool
-stepShaped a i = ltb (getD a (stepsAt + i) 0) 4
+stepShaped a i = ltb (getD a (stepsAt + i) 0) stepKinds
 
 -- a label's bytes lie within the set's text and are no more than a name's; its step is one of the stored steps
 abbrev pub labelShaped : List ℕ → ℕ → Bool
 labelShaped a i =
-    let at = labelEntryAt i in
-    leb (word16 a at + word16 a (at + 2)) (textLen a) && (leb (word16 a (at + 2)) maxName && ltb (word16 a (at + 4)) (stepCount a))
+    leb (labelBegin a i + labelLength a i) (textLen a) && (leb (labelLength a i) maxName && ltb (labelStep a i) (stepCount a))
 
 abbrev pub headShaped : List ℕ → ℕ → Bool
 headShaped a h = leb (headAt a h) (labelCount a)

@@ -1,29 +1,29 @@
 -- What is stored in an automaton's tables, of any bytes, and the walk over them. For the automaton of a set these are the shared machine's
 -- (laws); for any other bytes they are what the calls answer by.
-use Prim.Native.Nat.{ℕ, zero, suc, _+_, _*_}
+use Prim.Native.Nat.{ℕ, zero, suc, _+_}
 use mathlib.Core.Bool.{Bool, not, _&&_, cond}
 use mathlib.Core.List.{List}
 use lib.Dec.{eqb}
 use Rattle.text.specs.Names.{Name, sameName}
 use Rattle.notation.specs.Limits.{maxLabels}
 use Rattle.notation.specs.Reads.{word16, labelName}
-use Rattle.stored.specs.Automaton.{headsAt, linksAt, linkSize, startAt, hash}
+use Rattle.stored.specs.Automaton.{parentIn, failIn, sizeIn, startAt, headEntryAt, linkEntryAt, hash}
 use Rattle.stored.specs.declared.walk.Walk.{Walk}
 
 abbrev pub headAt : List ℕ → ℕ → ℕ
-headAt a h = word16 a (headsAt + 2 * h)
+headAt a h = word16 a (headEntryAt h)
 
 abbrev pub nextAt : List ℕ → ℕ → ℕ
-nextAt a l = word16 a (linksAt + linkSize * l)
+nextAt a l = word16 a (linkEntryAt l)
 
 abbrev pub parentAt : List ℕ → ℕ → ℕ
-parentAt a l = word16 a (linksAt + linkSize * l + 2)
+parentAt a l = word16 a (linkEntryAt l + parentIn)
 
 abbrev pub failAt : List ℕ → ℕ → ℕ
-failAt a l = word16 a (linksAt + linkSize * l + 4)
+failAt a l = word16 a (linkEntryAt l + failIn)
 
 abbrev pub sizeAt : List ℕ → ℕ → ℕ
-sizeAt a l = word16 a (linksAt + linkSize * l + 6)
+sizeAt a l = word16 a (linkEntryAt l + sizeIn)
 
 abbrev pub startOf : List ℕ → ℕ
 startOf a = word16 a startAt

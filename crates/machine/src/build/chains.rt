@@ -3,6 +3,7 @@ use crate::hash::hash_of;
 use crate::layout::HEADS_AT;
 use crate::layout::LINK_SIZE;
 use crate::layout::LINKS_AT;
+use notation::layout::WORD_SIZE;
 use notation::limits::MAX_LABELS;
 use notation::reads;
 use text::store::put16;
@@ -20,9 +21,9 @@ fn link_label(part: &mut [u8], l: usize)
     ensures { λ _. ⌜ now (part .exit) ≡ linked l (now (part .entry)) ⌝ }
 {
     let h = hash_of(reads::label_name(part, l));
-    let head = reads::word_at(part, HEADS_AT + 2 * h);
+    let head = reads::word_at(part, HEADS_AT + WORD_SIZE * h);
     put16(part, LINKS_AT + LINK_SIZE * l, head);
-    put16(part, HEADS_AT + 2 * h, l + 1);
+    put16(part, HEADS_AT + WORD_SIZE * h, l + 1);
 }
 
 fn label_count(part: &[u8]) -> usize

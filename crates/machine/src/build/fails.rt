@@ -5,14 +5,17 @@ ghost use Rattle.notation.specs.Limits.{maxSteps};
 ghost use Rattle.notation.specs.Reads.{labelCount};
 ghost use Rattle.stored.specs.Code.Fails.{failTo, failedIf, failedBelow, failedTo, Growing};
 use crate::hash::hash_of;
+use crate::layout::FAIL_IN;
 use crate::layout::LINK_SIZE;
 use crate::layout::LINKS_AT;
+use crate::layout::PARENT_IN;
+use crate::layout::SIZE_IN;
 use crate::walk::fail_of;
+use crate::walk::link_field;
 use crate::walk::walk_from;
 use notation::limits::MAX_STEPS;
 use notation::reads::label_name;
 use notation::reads::labels;
-use notation::reads::word_at;
 use text::store::put16;
 
 // The state of the failure link of label `l`: the open's walk from its parent's.
@@ -20,7 +23,7 @@ fn fail_to(a: &[u8], l: usize) -> usize
     requires { ⌜ Growing (now a) × (l < labelCount (now a)) ⌝ }
     ensures { λ r. ⌜ r ≡ failTo (now (a .entry)) l ⌝ }
 {
-    let parent = word_at(a, LINKS_AT + LINK_SIZE * l + 2);
+    let parent = link_field(a, l, PARENT_IN);
     if parent == 0 {
         return 0;
     }
@@ -33,9 +36,9 @@ fn fail_label(a: &mut [u8], n: usize, l: usize)
     requires { ⌜ Growing (now a) × (l < labelCount (now a)) ⌝ }
     ensures { λ _. ⌜ now (a .exit) ≡ failedIf n l (now (a .entry)) ⌝ }
 {
-    if word_at(a, LINKS_AT + LINK_SIZE * l + 6) == n {
+    if link_field(a, l, SIZE_IN) == n {
         let q = fail_to(a, l);
-        put16(a, LINKS_AT + LINK_SIZE * l + 4, q);
+        put16(a, LINKS_AT + LINK_SIZE * l + FAIL_IN, q);
     }
 }
 

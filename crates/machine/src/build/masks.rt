@@ -1,8 +1,14 @@
-// The masks: for each step in set order a bit in each of six rows of bits. And the initial state.
+// The masks: for each step in set order a bit in each of them. And the initial state.
 use crate::bits::wide;
 use crate::bits::with_bit;
+use crate::layout::ANYWHERE_MASK;
+use crate::layout::CHILD_MASK;
+use crate::layout::DESCENDANT_MASK;
+use crate::layout::LAST_MASK;
 use crate::layout::MASK_SIZE;
 use crate::layout::MASKS_AT;
+use crate::layout::ROOT_MASK;
+use crate::layout::STAR_MASK;
 use crate::layout::START_AT;
 use notation::PathPlace;
 use notation::reads;
@@ -14,7 +20,7 @@ ghost use mathlib.Core.Path.{_≡_};
 ghost use mathlib.Core.Bool.{true};
 ghost use Prim.Native.Nat.{_+_, _*_, _≤_, _<_};
 ghost use lib.ListN.{length};
-ghost use Rattle.stored.specs.Automaton.{automatonSize, maskSize, bit};
+ghost use Rattle.stored.specs.Automaton.{maskSize, maskCount, automatonSize, bit};
 ghost use Rattle.stored.specs.Code.Masks.{flagged, axisMask, flagRole, flagStep, flagSteps, flagPath, withMasks, childAt, rooted, anyRooted, withStart};
 ghost use Rattle.notation.specs.Reads.{stepAt, pathCount};
 
@@ -22,7 +28,7 @@ const STEP_BITS: usize = 8 * MASK_SIZE;
 
 // Bit i of mask m.
 fn flag(part: &mut [u8], on: bool, m: usize, i: usize)
-    requires { ⌜ (m < 6) × (i < 8 * maskSize) × (automatonSize ≤ length (now part)) ⌝ }
+    requires { ⌜ (m < maskCount) × (i < 8 * maskSize) × (automatonSize ≤ length (now part)) ⌝ }
     ensures { λ _. ⌜ now (part .exit) ≡ flagged on m i (now (part .entry)) ⌝ }
 {
     if on {
@@ -34,12 +40,12 @@ fn flag(part: &mut [u8], on: bool, m: usize, i: usize)
 
 // The mask of a step's axis.
 fn axis_mask(first: bool, deep: bool) -> usize
-    ensures { λ r. ⌜ (r ≡ axisMask first deep) × (r < 6) ⌝ }
+    ensures { λ r. ⌜ (r ≡ axisMask first deep) × (r < maskCount) ⌝ }
 {
     if first {
-        if deep { 3 } else { 4 }
+        if deep { ANYWHERE_MASK } else { ROOT_MASK }
     } else {
-        if deep { 2 } else { 1 }
+        if deep { DESCENDANT_MASK } else { CHILD_MASK }
     }
 }
 
@@ -49,9 +55,9 @@ fn flag_role(part: &mut [u8], i: usize, deep: bool, star: bool, first: bool, las
     ensures { λ _. ⌜ now (part .exit) ≡ flagRole i deep star first last (now (part .entry)) ⌝ }
 {
     let axis = axis_mask(first, deep);
-    flag(part, star, 0, i);
+    flag(part, star, STAR_MASK, i);
     flag(part, true, axis, i);
-    flag(part, last, 5, i);
+    flag(part, last, LAST_MASK, i);
 }
 
 fn flag_step(part: &mut [u8], i: usize, first: bool, last: bool)

@@ -2,6 +2,8 @@
 use crate::hash::hash_of;
 use crate::layout::LINK_SIZE;
 use crate::layout::LINKS_AT;
+use crate::layout::PARENT_IN;
+use crate::layout::SIZE_IN;
 use crate::walk::goto_state;
 use crate::walk::size_of;
 use notation::PathPlace;
@@ -70,8 +72,8 @@ fn store_word(part: &mut [u8], l: usize, q: usize)
 {
     let size = size_of(part, q) + 1;
     let from = LINKS_AT + LINK_SIZE * l;
-    put16(part, from + 2, q);
-    put16(part, from + 6, size);
+    put16(part, from + PARENT_IN, q);
+    put16(part, from + SIZE_IN, size);
 }
 
 // The state after label `l` where `q` is the one before it.

@@ -1,4 +1,5 @@
 // A close: the innermost element's row becomes zero.
+use crate::run::layout::DEPTH_AT;
 use crate::run::layout::ROW_SIZE;
 use crate::run::lent;
 use crate::run::refusals;
@@ -27,7 +28,7 @@ fn close_on(run: &mut [u8])
     let at = rows::row_at(d);
     let end = at + ROW_SIZE;
     row::clear_row(&mut run[at..end]);
-    put16(run, 0, d - 1);
+    put16(run, DEPTH_AT, d - 1);
 }
 
 // The close, for callers that know that automaton, run and counters pass the shape test.
@@ -45,11 +46,7 @@ pub fn close_usable(a: &[u8], run: &mut [u8], counters: Counters, e: &[u8]) -> C
     close_on(run);
     ClosedBy {
         refusal: 0,
-        counters: Counters {
-            opens: counters.opens,
-            closes: counters.closes + 1,
-            moves: counters.moves,
-        },
+        counters: counters.after_close(),
     }
 }
 

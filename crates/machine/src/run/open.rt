@@ -2,6 +2,7 @@
 use crate::hash::hash_of;
 use crate::layout::MASK_SIZE;
 use crate::run::candidates;
+use crate::run::layout::DEPTH_AT;
 use crate::run::layout::MATCHES_AT;
 use crate::run::layout::ROW_SIZE;
 use crate::run::lent;
@@ -65,7 +66,7 @@ fn write(a: &[u8], run: &mut [u8], e: &[u8], h: usize, d: usize, state: usize)
     );
     store(run, d, e, state, &active, &seen);
     copy(run, MATCHES_AT, &matched[..used]);
-    put16(run, 0, d + 1);
+    put16(run, DEPTH_AT, d + 1);
 }
 
 // An open that is accepted: for callers that know the shape of automaton and run, and that the name may be opened.
@@ -96,11 +97,7 @@ pub fn open_usable(a: &[u8], run: &mut [u8], counters: Counters, e: &[u8]) -> Op
     let moves = walked.moves;
     OpenedBy {
         answer: Opened::Accepted(moves),
-        counters: Counters {
-            opens: counters.opens + 1,
-            closes: counters.closes,
-            moves: counters.moves + moves,
-        },
+        counters: counters.after_open(moves),
     }
 }
 

@@ -1,4 +1,5 @@
 // The shape test of a run and of its counters.
+use crate::run::layout::DEPTH_AT;
 use crate::run::layout::MAX_DEPTH;
 use crate::run::layout::MAX_OPENS;
 use crate::run::rows::name_length;
@@ -15,7 +16,7 @@ ghost use Rattle.stored.specs.RunCalls.{depthOf, rowShaped, runShaped, counters
 pub fn depth(run: &[u8]) -> usize
     ensures { λ r. ⌜ (r ≡ depthOf (now (run .entry))) × (r < 65536) ⌝ }
 {
-    reads::word_at(run, 0)
+    reads::word_at(run, DEPTH_AT)
 }
 
 fn row_shaped(a: &[u8], run: &[u8], d: usize) -> bool

@@ -65,11 +65,7 @@ pub fn start_by(a: &[u8], run: &mut [u8], counters: Counters) -> Started
     start_on(a, run);
     Started {
         refusal: 0,
-        counters: Counters {
-            opens: 0,
-            closes: 0,
-            moves: 0,
-        },
+        counters: Counters::none(),
     }
 }
 

@@ -1,7 +1,13 @@
 // The bits of an open, a byte of eight steps at a time: the active steps, the steps seen, and the matches.
 use crate::bits;
+use crate::layout::ANYWHERE_MASK;
+use crate::layout::CHILD_MASK;
+use crate::layout::DESCENDANT_MASK;
+use crate::layout::LAST_MASK;
 use crate::layout::MASK_SIZE;
 use crate::layout::MASKS_AT;
+use crate::layout::ROOT_MASK;
+use crate::layout::STAR_MASK;
 use crate::run::layout::ACTIVE_IN;
 use crate::run::layout::MATCHES_AT;
 use crate::run::layout::SEEN_IN;
@@ -14,7 +20,7 @@ ghost use lib.Dec.{eqb};
 ghost use lib.ListN.{length, getD};
 ghost use lib.Seq.{sets};
 ghost use Rattle.theory.specs.Limits.{maxDepth};
-ghost use Rattle.stored.specs.Automaton.{maskSize, automatonSize, bitBytes};
+ghost use Rattle.stored.specs.Automaton.{maskSize, starMask, anywhereMask, rootMask, lastMask, maskCount, automatonSize, bitBytes};
 ghost use Rattle.stored.specs.Bits.{bitOf, bitIn, bitAt};
 ghost use Rattle.stored.specs.Run.{runSize};
 ghost use Rattle.stored.specs.RunCalls.{maskBit, shifted, permitted, seenAt, matchedAt, usedBytes};
@@ -44,7 +50,7 @@ fn byte(bytes: &[u8], i: usize) -> usize
 
 // Byte j of mask m.
 fn mask_byte(a: &[u8], m: usize, j: usize) -> usize
-    requires { ⌜ (automatonSize ≤ length (now a)) × ((m < 6) × (j < maskSize)) ⌝ }
+    requires { ⌜ (automatonSize ≤ length (now a)) × ((m < maskCount) × (j < maskSize)) ⌝ }
     ensures { λ r. ⌜ (r < 256) × ((k : ℕ) → k < 8 → bitOf r k ≡ maskBit (now (a .entry)) m (8 * j + k)) ⌝ }
 {
     byte(a, MASKS_AT + MASK_SIZE * m + j)
@@ -76,11 +82,11 @@ fn shifted_byte(run: &[u8], base: usize, j: usize) -> usize
 // Byte j of the first steps that an element may take: those by `//`, and at depth 1 those by `/`.
 fn first_byte(a: &[u8], d: usize, j: usize) -> usize
     requires { ⌜ (automatonSize ≤ length (now a)) × (j < maskSize) ⌝ }
-    ensures { λ r. ⌜ (r < 256) × ((k : ℕ) → k < 8 → bitOf r k ≡ (maskBit (now (a .entry)) 3 (8 * j + k) || (eqb d 0 && maskBit (now (a .entry)) 4 (8 * j + k)))) ⌝ }
+    ensures { λ r. ⌜ (r < 256) × ((k : ℕ) → k < 8 → bitOf r k ≡ (maskBit (now (a .entry)) anywhereMask (8 * j + k) || (eqb d 0 && maskBit (now (a .entry)) rootMask (8 * j + k)))) ⌝ }
 {
-    let anywhere = mask_byte(a, 3, j);
+    let anywhere = mask_byte(a, ANYWHERE_MASK, j);
     if d == 0 {
-        return bits::either(anywhere, mask_byte(a, 4, j));
+        return bits::either(anywhere, mask_byte(a, ROOT_MASK, j));
     }
     anywhere
 }
@@ -91,17 +97,23 @@ fn permitted_byte(a: &[u8], run: &[u8], d: usize, j: usize) -> usize
     ensures { λ r. ⌜ (r < 256) × ((k : ℕ) → k < 8 → bitOf r k ≡ permitted (now (a .entry)) (now (run .entry)) d (8 * j + k)) ⌝ }
 {
     let at = rows::row_at(d);
-    let child = bits::both(mask_byte(a, 1, j), shifted_byte(run, at + ACTIVE_IN, j));
-    let descendant = bits::both(mask_byte(a, 2, j), shifted_byte(run, at + SEEN_IN, j));
+    let child = bits::both(
+        mask_byte(a, CHILD_MASK, j),
+        shifted_byte(run, at + ACTIVE_IN, j),
+    );
+    let descendant = bits::both(
+        mask_byte(a, DESCENDANT_MASK, j),
+        shifted_byte(run, at + SEEN_IN, j),
+    );
     bits::either(child, bits::either(descendant, first_byte(a, d, j)))
 }
 
 // Byte j of the active steps: the candidates (`*`, and the labels taken) that are permitted.
 fn active_byte(a: &[u8], run: &[u8], taken: &[u8], d: usize, j: usize) -> usize
     requires { ⌜ (automatonSize ≤ length (now a)) × ((runSize ≤ length (now run)) × ((maskSize ≤ length (now taken)) × ((d ≤ maxDepth) × (j < maskSize)))) ⌝ }
-    ensures { λ r. ⌜ (r < 256) × ((k : ℕ) → k < 8 → bitOf r k ≡ ((maskBit (now (a .entry)) 0 (8 * j + k) || bitAt (now (taken .entry)) (8 * j + k)) && permitted (now (a .entry)) (now (run .entry)) d (8 * j + k))) ⌝ }
+    ensures { λ r. ⌜ (r < 256) × ((k : ℕ) → k < 8 → bitOf r k ≡ ((maskBit (now (a .entry)) starMask (8 * j + k) || bitAt (now (taken .entry)) (8 * j + k)) && permitted (now (a .entry)) (now (run .entry)) d (8 * j + k))) ⌝ }
 {
-    let candidates = bits::either(mask_byte(a, 0, j), byte(taken, j));
+    let candidates = bits::either(mask_byte(a, STAR_MASK, j), byte(taken, j));
     bits::both(candidates, permitted_byte(a, run, d, j))
 }
 
@@ -116,9 +128,9 @@ fn seen_byte(run: &[u8], d: usize, j: usize, active: usize) -> usize
 // Byte j of the matches: those before, and the active steps that are the last of their path.
 fn match_byte(a: &[u8], run: &[u8], j: usize, active: usize) -> usize
     requires { ⌜ (automatonSize ≤ length (now a)) × ((runSize ≤ length (now run)) × ((j < maskSize) × (active < 256))) ⌝ }
-    ensures { λ r. ⌜ (r < 256) × ((k : ℕ) → k < 8 → bitOf r k ≡ (matchedAt (now (run .entry)) (8 * j + k) || (bitOf active k && maskBit (now (a .entry)) 5 (8 * j + k)))) ⌝ }
+    ensures { λ r. ⌜ (r < 256) × ((k : ℕ) → k < 8 → bitOf r k ≡ (matchedAt (now (run .entry)) (8 * j + k) || (bitOf active k && maskBit (now (a .entry)) lastMask (8 * j + k)))) ⌝ }
 {
-    let ended = bits::both(active, mask_byte(a, 5, j));
+    let ended = bits::both(active, mask_byte(a, LAST_MASK, j));
     bits::either(bits_byte(run, MATCHES_AT, j), ended)
 }
 

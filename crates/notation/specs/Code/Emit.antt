@@ -4,7 +4,7 @@ use mathlib.Core.Bool.{cond}
 use mathlib.Core.List.{List, [], _∷_, _++_}
 use lib.Dec.{eqb}
 use Rattle.text.specs.Names.{inName}
-use Rattle.notation.specs.Layout.{Tables, folderEntry, pathEntry, labelEntry, layout}
+use Rattle.notation.specs.Layout.{Tables, folderEntry, pathEntry, labelEntry, layout, starKind}
 use Rattle.notation.specs.Code.Scan.{scanned, start}
 use Rattle.notation.specs.declared.scan.Mode.{Mode}
 use Rattle.notation.specs.declared.scan.Mode.the-variants.{Header, LineStart, Word, NumberStart, Number, PathOpen, PathStart, Slash, Slashes, Label, Star, PathEnd, LineEnd, LastLine, Done, Malformed}
@@ -43,7 +43,7 @@ emitted PathStart b t x = x
 emitted Slash b t x = x
 emitted Slashes b t x = x
 emitted Label b t x = cond (inName b) x (withStep (t .deep) b t (withLabel t x))
-emitted Star b t x = withStep (t .deep + 2) b t x
+emitted Star b t x = withStep (t .deep + starKind) b t x
 emitted PathEnd b t x = x
 emitted LineEnd b t x = x
 emitted LastLine b t x = x

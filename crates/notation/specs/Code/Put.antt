@@ -9,7 +9,7 @@ use Rattle.notation.specs.Limits.{maxPaths, maxSteps, maxLabels}
 use Rattle.text.specs.Names.{inName}
 use Rattle.notation.specs.Code.Scan.{scanned}
 use Rattle.text.specs.Bytes.{le16}
-use Rattle.notation.specs.Layout.{folderSize, pathSize, labelSize, foldersAt, pathsAt, stepsAt, labelsAt, folderEntry, pathEntry, labelEntry}
+use Rattle.notation.specs.Layout.{folderSize, pathSize, labelSize, foldersAt, pathsAt, stepsAt, labelsAt, folderEntry, pathEntry, labelEntry, starKind}
 use Rattle.notation.specs.declared.scan.Mode.{Mode}
 use Rattle.notation.specs.declared.scan.Mode.the-variants.{Header, LineStart, Word, NumberStart, Number, PathOpen, PathStart, Slash, Slashes, Label, Star, PathEnd, LineEnd, LastLine, Done, Malformed}
 use Rattle.notation.specs.declared.scan.Tally.{Tally}
@@ -43,7 +43,7 @@ put PathStart b t part = part
 put Slash b t part = part
 put Slashes b t part = part
 put Label b t part = cond (inName b) part (putTest b (t .deep) t (putLabel t part))
-put Star b t part = putTest b (t .deep + 2) t part
+put Star b t part = putTest b (t .deep + starKind) t part
 put PathEnd b t part = part
 put LineEnd b t part = part
 put LastLine b t part = part

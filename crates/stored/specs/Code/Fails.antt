@@ -1,6 +1,6 @@
 -- The pass over an automaton's bytes that makes the failure links, by increasing word length. It follows the code; a law says that what it
 -- leaves is the failure links of the automaton's definition.
-use Prim.Native.Nat.{ℕ, zero, suc, _+_, _*_, _≤_, _<_}
+use Prim.Native.Nat.{ℕ, zero, suc, _+_, _≤_, _<_}
 use mathlib.Core.Path.{_≡_}
 use mathlib.Core.Bool.{cond}
 use mathlib.Core.List.{List}
@@ -9,7 +9,7 @@ use lib.ListN.{length}
 use lib.Seq.{sets}
 use Rattle.text.specs.Bytes.{le16}
 use Rattle.notation.specs.Reads.{labelCount, labelName}
-use Rattle.stored.specs.Automaton.{automatonSize, linksAt, linkSize}
+use Rattle.stored.specs.Automaton.{failIn, automatonSize, linkEntryAt}
 use Rattle.stored.specs.Tables.{parentAt, sizeAt, sizeOf, failOf, walkOver}
 use Rattle.stored.specs.Walkable.{Walkable}
 
@@ -18,7 +18,7 @@ unfoldable pub failTo : List ℕ → ℕ → ℕ
 failTo a l = cond (eqb (parentAt a l) 0) 0 (walkOver a (failOf a (parentAt a l)) (labelName a l) .state)
 
 abbrev pub failed : ℕ → List ℕ → List ℕ
-failed l a = sets a (linksAt + linkSize * l + 4) (le16 (failTo a l))
+failed l a = sets a (linkEntryAt l + failIn) (le16 (failTo a l))
 
 -- the failure link of label l, if its word has n symbols
 unfoldable pub failedIf : ℕ → ℕ → List ℕ → List ℕ

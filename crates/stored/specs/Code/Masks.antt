@@ -11,7 +11,7 @@ use Rattle.notation.specs.Reads.{pathAt, stepAt, pathCount}
 use Rattle.notation.specs.declared.reads.PathAt.{PathAt}
 use Rattle.notation.specs.declared.reads.StepAt.{StepAt}
 use Rattle.stored.specs.Bits.{withBit}
-use Rattle.stored.specs.Automaton.{maskSize, masksAt, startAt, bit}
+use Rattle.stored.specs.Automaton.{maskSize, starMask, childMask, descendantMask, anywhereMask, rootMask, lastMask, masksAt, startAt, bit}
 
 -- bit i of mask m is set if `on`
 unfoldable pub flagged : Bool → ℕ → ℕ → List ℕ → List ℕ
@@ -21,14 +21,14 @@ flagged on m i part =
 
 -- the mask of a step's axis: `/` or `//`, of a first step or another
 abbrev pub axisMask : Bool → Bool → ℕ
-axisMask true true = 3
-axisMask true false = 4
-axisMask false true = 2
-axisMask false false = 1
+axisMask true true = anywhereMask
+axisMask true false = rootMask
+axisMask false true = descendantMask
+axisMask false false = childMask
 
 -- a step in the masks
 unfoldable pub flagRole : ℕ → Bool → Bool → Bool → Bool → List ℕ → List ℕ
-flagRole i deep star first last part = flagged last 5 i (flagged true (axisMask first deep) i (flagged star 0 i part))
+flagRole i deep star first last part = flagged last lastMask i (flagged true (axisMask first deep) i (flagged star starMask i part))
 
 abbrev pub flagStepAt : StepAt → ℕ → Bool → Bool → List ℕ → List ℕ
 flagStepAt (StepAt.Step deep star) i first last part = flagRole i deep star first last part

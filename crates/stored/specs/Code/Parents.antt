@@ -1,6 +1,6 @@
 -- The pass over an automaton's bytes that stores each label's parent and the length of its word, step by step in set order. It follows the
 -- code; a law says that it stores those of the automaton's definition.
-use Prim.Native.Nat.{ℕ, zero, suc, _+_, _*_, _≤_, _<_}
+use Prim.Native.Nat.{ℕ, zero, suc, _+_, _≤_, _<_}
 use mathlib.Core.Bool.{Bool, true, false, cond}
 use mathlib.Core.List.{List}
 use lib.Dec.{eqb, ltb}
@@ -10,7 +10,7 @@ use Rattle.text.specs.Bytes.{le16}
 use Rattle.notation.specs.Reads.{labelName, pathAt, stepAt}
 use Rattle.notation.specs.declared.reads.PathAt.{PathAt}
 use Rattle.notation.specs.declared.reads.StepAt.{StepAt}
-use Rattle.stored.specs.Automaton.{linksAt, linkSize}
+use Rattle.stored.specs.Automaton.{parentIn, sizeIn, linkEntryAt}
 use Rattle.stored.specs.Tables.{sizeOf, goto}
 use Rattle.stored.specs.Walkable.{Searchable}
 use Rattle.stored.specs.declared.place.Place.{Place}
@@ -41,7 +41,7 @@ emptied at = record { labels = at .labels; paths = at .paths; state = 0 }
 
 -- a label: its parent is the state before it, its word one symbol longer
 abbrev pub wordStored : ℕ → ℕ → List ℕ → List ℕ
-wordStored l q a = sets (sets a (linksAt + linkSize * l + 2) (le16 q)) (linksAt + linkSize * l + 6) (le16 (sizeOf a q + 1))
+wordStored l q a = sets (sets a (linkEntryAt l + parentIn) (le16 q)) (linkEntryAt l + sizeIn) (le16 (sizeOf a q + 1))
 
 abbrev pub followed : Place → List ℕ → Passed
 followed at a = record {

@@ -24,7 +24,7 @@ zeros m n a e f g = rw (← e, ← f) g
 
 returns : tie.Need-returns
 unfolding setSize automatonSize
-returns c = zeros 26122 65536 (c .before .before .before .before .before .args .part .now) refl refl (c .before .before .clear-between .ensures)
+returns c = zeros setSize automatonSize (c .before .before .before .before .before .args .part .now) refl refl (c .before .before .clear-between .ensures)
 
 pub clear-tables-spec : {M : Type 1} → statement M
 clear-tables-spec = tie.close (tie.spec clear-between-requires same-length returns)

@@ -71,7 +71,7 @@ returns-3 : tie.Need-returns-3
 unfolding maxSetBytes textAt
 returns-3 c = let b = c .before .before .before .before .before .before in
     let in-room : b .args .at + b .args .size ≤ maxSetBytes = c .before .before .before .if1 .left in
-    let n : 10 + b .args .at + b .args .size - (10 + b .args .at) ≡ b .args .size = omega arith in
+    let n : textAt + b .args .at + b .args .size - (textAt + b .args .at) ≡ b .args .size = omega arith in
     rw (whole (b .args .a .now) (b .args .at) (b .args .size) (b .pre .0) in-room) (rw n at (c .same-name2 .ensures))
 
 pub text-is-spec : {M : Type 1} → statement M

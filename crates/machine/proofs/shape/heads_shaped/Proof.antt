@@ -11,12 +11,13 @@ use Rattle.machine.proofs.shape.heads_shaped.Statement.{statement}
 use Rattle.machine.proofs.shape.heads_shaped.Tie as tie
 
 abbrev Inv-loop : tie.InvT-loop
-Inv-loop a i₀ i = (i ≤ 256) × (allBelow i (headShaped a) ≡ true)
+Inv-loop a i₀ i = (i ≤ hashes) × (allBelow i (headShaped a) ≡ true)
 
 abbrev μ-loop : tie.MeasureT-loop
-μ-loop a i₀ i = 256 - i
+μ-loop a i₀ i = hashes - i
 
 loop-holds : tie.Need-loop-holds Inv-loop μ-loop
+unfolding hashes
 loop-holds c = (omega arith, all-none (headShaped (c .before .args .a .now)))
 
 head-shaped-requires : tie.Need-head-shaped-requires Inv-loop μ-loop
@@ -28,9 +29,11 @@ unfolding hashes
 returns c = sym (all-fails hashes (headShaped (c .before .before .before .before .before .args .a .now)) (c .before .before .before .loop .i) (omega arith) (sym (c .before .head-shaped .ensures) ∙ not-true (c .before .head-shaped .result) (c .if1 .taken)))
 
 add-i : tie.Need-add-i Inv-loop μ-loop
+unfolding hashes
 add-i c = omega arith
 
 loop-less : tie.Need-loop-less Inv-loop μ-loop
+unfolding hashes
 loop-less c = omega arith
 
 loop-again : tie.Need-loop-again Inv-loop μ-loop
@@ -39,7 +42,7 @@ loop-again c = (omega arith, all-more (c .before .before .before .loop .i) (head
 
 returns-2 : tie.Need-returns-2 Inv-loop μ-loop
 unfolding hashes
-returns-2 c = let e : c .before .loop .i ≡ 256 = omega arith in
+returns-2 c = let e : c .before .loop .i ≡ hashes = omega arith in
     sym (rw e at (c .before .loop .inv .1))
 
 pub heads-shaped-spec : {M : Type 1} → statement M

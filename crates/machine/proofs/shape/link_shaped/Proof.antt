@@ -7,29 +7,23 @@ use Rattle.stored.proofs.Laws.Shapes.Tested.{and-by, or-by, leb-by, ltb-by, eqb
 use Rattle.machine.proofs.shape.link_shaped.Statement.{statement}
 use Rattle.machine.proofs.shape.link_shaped.Tie as tie
 
-mul-at : tie.Need-mul-at
-mul-at c = search needs
-
-add-at : tie.Need-add-at
-add-at c = search needs
-
 labels-requires : tie.Need-labels-requires
 labels-requires c κs = search needs
 
-word-at-requires : tie.Need-word-at-requires
-word-at-requires c κs = search needs
+mul-word-at : tie.Need-mul-word-at
+mul-word-at c = search needs
 
 add-word-at : tie.Need-add-word-at
 add-word-at c = search needs
 
-word-at-requires-2 : tie.Need-word-at-requires-2
-word-at-requires-2 c κs = search needs
+word-at-requires : tie.Need-word-at-requires
+word-at-requires c κs = search needs
 
-add-word-at-2 : tie.Need-add-word-at-2
-add-word-at-2 c = search needs
+link-field-requires : tie.Need-link-field-requires
+link-field-requires c κs = search needs
 
-word-at-requires-3 : tie.Need-word-at-requires-3
-word-at-requires-3 c κs = search needs
+link-field-requires-2 : tie.Need-link-field-requires-2
+link-field-requires-2 c κs = search needs
 
 add-both : tie.Need-add-both
 add-both c = search needs
@@ -49,11 +43,8 @@ size-of-requires c κs = search needs
 both-requires-2 : tie.Need-both-requires-2
 both-requires-2 c κs = search needs
 
-add-word-at-3 : tie.Need-add-word-at-3
-add-word-at-3 c = search needs
-
-word-at-requires-4 : tie.Need-word-at-requires-4
-word-at-requires-4 c κs = search needs
+link-field-requires-3 : tie.Need-link-field-requires-3
+link-field-requires-3 c κs = search needs
 
 add-both-3 : tie.Need-add-both-3
 add-both-3 c = search needs
@@ -76,30 +67,27 @@ returns c =
     and-by (c .both5 .ensures)
     (or-by (c .before .before .before .before .before .before .either .ensures) (eqb-by (c .before .before .before .before .before .before .before .before .before .before .word-at .ensures .0) refl)
     (and-by (c .before .before .before .before .before .before .before .both .ensures) (ltb-by (succ-by refl) (c .before .before .before .before .before .before .before .before .before .before .word-at .ensures .0)) (leb-by (c .before .before .before .before .before .before .before .before .before .before .word-at .ensures .0) (c .before .before .before .before .before .before .before .before .before .before .before .labels .ensures .0))))
-    (and-by (c .before .both4 .ensures) (leb-by (c .before .before .before .word-at4 .ensures .0) (succ-by (c .before .before .before .before .before .before .before .before .before .before .before .labels .ensures .0)))
-    (and-by (c .before .before .both3 .ensures) (leb-by (c .before .before .before .before .before .before .before .before .before .word-at2 .ensures .0) (succ-by (c .before .before .before .before .before .before .before .before .before .before .before .labels .ensures .0)))
-    (and-by (c .before .before .before .before .both2 .ensures) (leb-by (c .before .before .before .before .before .before .before .before .word-at3 .ensures .0) refl) (ltb-by (size-by (c .before .before .before .before .before .before .before .before .before .before .before .before .before .args .a .now) (c .before .before .before .before .before .size-of .ensures .0) (c .before .before .before .before .before .before .before .before .before .word-at2 .ensures .0)) (c .before .before .before .before .before .before .before .before .word-at3 .ensures .0)))))
+    (and-by (c .before .both4 .ensures) (leb-by (c .before .before .before .link-field3 .ensures .0) (succ-by (c .before .before .before .before .before .before .before .before .before .before .before .labels .ensures .0)))
+    (and-by (c .before .before .both3 .ensures) (leb-by (c .before .before .before .before .before .before .before .before .before .link-field .ensures .0) (succ-by (c .before .before .before .before .before .before .before .before .before .before .before .labels .ensures .0)))
+    (and-by (c .before .before .before .before .both2 .ensures) (leb-by (c .before .before .before .before .before .before .before .before .link-field2 .ensures .0) refl) (ltb-by (size-by (c .before .before .before .before .before .before .before .before .before .before .before .before .before .args .a .now) (c .before .before .before .before .before .size-of .ensures .0) (c .before .before .before .before .before .before .before .before .before .link-field .ensures .0)) (c .before .before .before .before .before .before .before .before .link-field2 .ensures .0)))))
 
 pub link-shaped-spec : {M : Type 1} → statement M
 link-shaped-spec =
     tie.close
     (tie.spec
-    mul-at
-    add-at
     labels-requires
-    word-at-requires
+    mul-word-at
     add-word-at
-    word-at-requires-2
-    add-word-at-2
-    word-at-requires-3
+    word-at-requires
+    link-field-requires
+    link-field-requires-2
     add-both
     both-requires
     either-requires
     add-both-2
     size-of-requires
     both-requires-2
-    add-word-at-3
-    word-at-requires-4
+    link-field-requires-3
     add-both-3
     add-both-4
     both-requires-3

@@ -1,6 +1,5 @@
 -- `walk::size_of`: the length of a label's word; the empty word has 0, `#` 1.
 use Rattle.stored.specs.Tables.{sizeAt, sizeOf}
-use Rattle.stored.specs.Automaton.{linkSize, linksAt}
 use native.Mathlib.Omega.{arith}
 use mathlib.Core.List.{List}
 use mathlib.Core.Path.{_≡_, refl, sym, _∙_}
@@ -21,26 +20,16 @@ of-label a zero h = absurd (omega arith)
 of-label a (suc zero) h = absurd (omega arith)
 of-label a (suc (suc l)) h = let s : suc (suc l) - 2 ≡ l = omega arith in rw s
 
-mul-word-at : tie.Need-mul-word-at
-mul-word-at c = search needs
-
-add-word-at : tie.Need-add-word-at
-add-word-at c = search needs
-
-add-word-at-2 : tie.Need-add-word-at-2
-add-word-at-2 c = search needs
-
-word-at-requires : tie.Need-word-at-requires
-word-at-requires c κs = search needs
+link-field-requires : tie.Need-link-field-requires
+link-field-requires c κs = search needs
 
 returns : tie.Need-returns
 unfolding sizeOf
 returns c = (small (c .before .before .args .a .now) (c .before .before .args .q) (c .if1 .taken), omega arith)
 
 returns-2 : tie.Need-returns-2
-unfolding linksAt linkSize
-returns-2 c = (c .word-at .ensures .0 ∙ sym (of-label (c .before .before .before .args .a .now) (c .before .before .before .args .q) (c .before .if1 .left)), c .word-at .ensures .1)
+returns-2 c = (c .link-field .ensures .0 ∙ sym (of-label (c .before .before .before .args .a .now) (c .before .before .before .args .q) (c .before .if1 .left)), c .link-field .ensures .1)
 
 pub size-of-spec : {M : Type 1} → statement M
 size-of-spec =
-    tie.close (tie.spec mul-word-at add-word-at add-word-at-2 word-at-requires returns returns-2)
+    tie.close (tie.spec link-field-requires returns returns-2)

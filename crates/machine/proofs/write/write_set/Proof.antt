@@ -10,6 +10,7 @@ use Rattle.notation.specs.Limits.{maxSetBytes}
 use Rattle.notation.specs.Reads.{textOf}
 use Rattle.stored.specs.Automaton.{automatonSize}
 use Rattle.text.specs.Order.{first, given}
+use Rattle.text.specs.Refusals.{shortBuffer, badShape, numberOf}
 use Rattle.stored.specs.Shape.{automatonShaped}
 use Rattle.stored.specs.Build.{SetWritten}
 use Rattle.text.specs.declared.written.Written.{Written}
@@ -17,36 +18,38 @@ use borrow.Author.Needs.{needs}
 use Rattle.machine.proofs.write.write_set.Statement.{statement}
 use Rattle.machine.proofs.write.write_set.Tie as tie
 
-short : (a out : List ℕ) → length a < 65536 → SetWritten a out (Written.Refused 1) out
+short : (a out : List ℕ) → length a < automatonSize → SetWritten a out (Written.Refused (numberOf shortBuffer)) out
 unfolding given first automatonSize
-short a out h = let t = lt-ltb (length a) 65536 h in record { answers = rw t; leaves = rw t }
+short a out h = let t = lt-ltb (length a) automatonSize h in record { answers = rw t; leaves = rw t }
 
-short-out : (a out : List ℕ) → 65536 ≤ length a → length out < 16384 → SetWritten a out (Written.Refused 1) out
+short-out : (a out : List ℕ) → automatonSize ≤ length a → length out < maxSetBytes → SetWritten a out (Written.Refused (numberOf shortBuffer)) out
 unfolding given first automatonSize maxSetBytes
 short-out a out k h =
-    let t = le-ltb (length a) 65536 k in
-    let u = lt-ltb (length out) 16384 h in
+    let t = le-ltb (length a) automatonSize k in
+    let u = lt-ltb (length out) maxSetBytes h in
     record { answers = rw (t, u); leaves = rw (t, u) }
 
-strange : (a out : List ℕ) → 65536 ≤ length a → 16384 ≤ length out → automatonShaped a ≡ false → SetWritten a out (Written.Refused 14) out
+bad-shape : (a out : List ℕ) → automatonSize ≤ length a → maxSetBytes ≤ length out → automatonShaped a ≡ false → SetWritten a out (Written.Refused (numberOf badShape)) out
 unfolding given first automatonSize maxSetBytes
-strange a out k h s =
-    let t = le-ltb (length a) 65536 k in
-    let u = le-ltb (length out) 16384 h in
+bad-shape a out k h s =
+    let t = le-ltb (length a) automatonSize k in
+    let u = le-ltb (length out) maxSetBytes h in
     record { answers = rw (t, u, s); leaves = rw (t, u, s) }
 
-written : (a out text after : List ℕ) → 65536 ≤ length a → 16384 ≤ length out → automatonShaped a ≡ true → text ≡ textOf a → after ≡ sets out 0 text
+written : (a out text after : List ℕ) → automatonSize ≤ length a → maxSetBytes ≤ length out → automatonShaped a ≡ true → text ≡ textOf a → after ≡ sets out 0 text
     → SetWritten a out (Written.Bytes (length text)) after
 unfolding given first automatonSize maxSetBytes
 written a out text after k h s e f =
-    let t = le-ltb (length a) 65536 k in
-    let u = le-ltb (length out) 16384 h in
+    let t = le-ltb (length a) automatonSize k in
+    let u = le-ltb (length out) maxSetBytes h in
     record { answers = rw (t, u, s, e); leaves = rw (t, u, s) (rw e at f) }
 
 returns : tie.Need-returns
+unfolding automatonSize maxSetBytes
 returns c = short _ _ (c .if1 .taken)
 
 returns-2 : tie.Need-returns-2
+unfolding automatonSize maxSetBytes
 returns-2 c = short-out _ _ (c .before .if1 .left) (c .if2 .taken)
 
 automaton-shaped-requires : tie.Need-automaton-shaped-requires
@@ -62,10 +65,12 @@ same-length : tie.Need-same-length
 same-length c = search needs
 
 returns-3 : tie.Need-returns-3
+unfolding automatonSize maxSetBytes
 returns-3 c = written _ _ _ _ (c .before .before .before .before .before .before .before .before .if1 .left) (c .before .before .before .before .before .before .before .if2 .left) (sym (c .before .before .before .before .before .before .automaton-shaped .ensures) ∙ c .before .before .before .before .before .if3 .taken) (c .before .before .before .before .text .ensures) (c .before .before .copy .ensures)
 
 returns-4 : tie.Need-returns-4
-returns-4 c = strange _ _ (c .before .before .before .if1 .left) (c .before .before .if2 .left) (sym (c .before .automaton-shaped .ensures) ∙ c .if3 .left)
+unfolding automatonSize maxSetBytes
+returns-4 c = bad-shape _ _ (c .before .before .before .if1 .left) (c .before .before .if2 .left) (sym (c .before .automaton-shaped .ensures) ∙ c .if3 .left)
 
 pub write-set-spec : {M : Type 1} → statement M
 write-set-spec =

@@ -1,4 +1,4 @@
--- The bytes of a read set while it is being filled: its layout, with any ten bytes in the place of the five counts.
+-- The bytes of a read set while it is being filled: its layout, with any bytes in the place of the counts.
 use Prim.Native.Nat.{ℕ, _+_, _*_, _≤_}
 use native.Mathlib.Omega.{arith}
 use mathlib.Core.Path.{_≡_, refl, sym, ap, _∙_}
@@ -39,19 +39,14 @@ pub record Room (x : Tables) : Type 0 where
   pub steps : length (joined (x .steps)) ≤ maxPaths * maxSteps
   pub labels : length (joined (x .labels)) ≤ labelSize * maxLabels
 
-text-at : 10 ≡ textAt
-unfolding textAt
-text-at = refl
-
 -- the parts' sizes make up the whole
 sizes : textAt + (maxSetBytes + (folderSize * maxPaths + (pathSize * maxPaths + (maxPaths * maxSteps + labelSize * maxLabels)))) ≡ setSize
 unfolding setSize labelsAt stepsAt pathsAt foldersAt textAt
 sizes = omega arith
 
-pub length-assembled : (head text : List ℕ) (x : Tables) → length head ≡ 10 → length text ≤ maxSetBytes → Room x → length (assembled head text x) ≡ setSize
+pub length-assembled : (head text : List ℕ) (x : Tables) → length head ≡ textAt → length text ≤ maxSetBytes → Room x → length (assembled head text x) ≡ setSize
 unfolding assembled
-length-assembled head text x ten h r =
-    let e : length head ≡ textAt = ten ∙ text-at in
+length-assembled head text x e h r =
     let hf : length (folderBytes x) ≡ folderSize * maxPaths = length-padded _ _ (r .folders) in
     let hp : length (pathBytes x) ≡ pathSize * maxPaths = length-padded _ _ (r .paths) in
     let hs : length (stepBytes x) ≡ maxPaths * maxSteps = length-padded _ _ (r .steps) in
@@ -112,10 +107,10 @@ abbrev pub moreLabels : List ℕ → Tables → Tables
 moreLabels e x = record { folders = x .folders; paths = x .paths; steps = x .steps; labels = x .labels ++ (e ∷ []) }
 
 -- an entry stored behind a table's last is one entry more
-module _ (head text rest : List ℕ) (ten : length head ≡ 10) (short : length text ≤ maxSetBytes) (x : Tables) where
+module _ (head text rest : List ℕ) (front : length head ≡ textAt) (short : length text ≤ maxSetBytes) (x : Tables) where
   before-folders : length (beforeFolders head text) ≡ foldersAt
-  unfolding foldersAt textAt
-  before-folders = simp (length-append, ten, length-padded maxSetBytes text short)
+  unfolding foldersAt
+  before-folders = simp (length-append, front, length-padded maxSetBytes text short)
 
   pub add-folder : (e : List ℕ) (at : ℕ) → at ≡ foldersAt + length (joined (x .folders))
       → length (joined (x .folders)) + length e ≤ folderSize * maxPaths
@@ -161,11 +156,11 @@ module _ (head text rest : List ℕ) (ten : length head ≡ 10) (short : length 
             (fill (beforeLabels head text x) (labelSize * maxLabels) (joined (x .labels)) e rest labelsAt at before-labels i h)
 
 -- the counts are written last
-pub head-put : (head text rest : List ℕ) (x : Tables) → length head ≡ 10 → sets (assembled head text x ++ rest) 0 (counts text x) ≡ layout text x ++ rest
-unfolding assembled layout
-head-put head text rest x ten =
+pub head-put : (head text rest : List ℕ) (x : Tables) → length head ≡ textAt → sets (assembled head text x ++ rest) 0 (counts text x) ≡ layout text x ++ rest
+unfolding assembled layout textAt
+head-put head text rest x front =
     let back = padded maxSetBytes text ++ (folderBytes x ++ (pathBytes x ++ (stepBytes x ++ labelBytes x))) in
-    rw (append-assoc head back rest, append-assoc (counts text x) back rest) (sets-front head (back ++ rest) (counts text x) ten)
+    rw (append-assoc head back rest, append-assoc (counts text x) back rest) (sets-front head (back ++ rest) (counts text x) front)
 
 -- zeros beside zeros; a table of no entries; all of a set with no text
 zeros : (a b c d e f : ℕ)
@@ -182,9 +177,6 @@ all-zeros =
     (zeros textAt maxSetBytes (folderSize * maxPaths) (pathSize * maxPaths) (maxPaths * maxSteps) (labelSize * maxLabels) ∙ ap (λ n. replicate n 0) sizes)
 
 -- the text is written first, over zeros
-text-put : (text : List ℕ) → length text ≤ maxSetBytes → assembled (replicate textAt 0) text noTables ≡ sets (replicate setSize 0) textAt text
+pub cleared-is : (text : List ℕ) → length text ≤ maxSetBytes → assembled (replicate textAt 0) text noTables ≡ sets (replicate setSize 0) textAt text
 unfolding assembled
-text-put text short = rw (← all-zeros) (sym (fill (replicate textAt 0) maxSetBytes [] text _ textAt textAt (length-replicate textAt 0) (omega arith) (omega arith)))
-
-pub cleared-is : (text : List ℕ) → length text ≤ maxSetBytes → assembled (replicate 10 0) text noTables ≡ sets (replicate setSize 0) textAt text
-cleared-is text short = ap (λ n. assembled (replicate n 0) text noTables) text-at ∙ text-put text short
+cleared-is text short = rw (← all-zeros) (sym (fill (replicate textAt 0) maxSetBytes [] text _ textAt textAt (length-replicate textAt 0) (omega arith) (omega arith)))

@@ -17,14 +17,14 @@ use Rattle.notation.proofs.Laws.Fill.Sized.{Sized, sized-start, sized-n
 use Rattle.notation.proofs.Laws.Scan.Counts.{within-more}
 use Rattle.notation.proofs.Laws.Fill.Put.{put-is}
 
-module _ (head text rest : List ℕ) (ten : length head ≡ 10) (fits : length text ≤ maxSetBytes) where
+module _ (head text rest : List ℕ) (front : length head ≡ textAt) (fits : length text ≤ maxSetBytes) where
   filled : (l : List ℕ) (s : Scan) (x : Tables) → Sized (s .tally) x → Within (scan s l .tally)
       → (putAll s l (assembled head text x ++ rest) ≡ assembled head text (emit s x l) ++ rest) × Sized (scan s l .tally) (emit s x l)
   unfolding putAll emit scan
   filled [] s x sized w = (refl, sized)
   filled (b ∷ l) s x sized w =
       let more = filled l (scanned s b) (emitted (s .mode) b (s .tally) x) (sized-next s b x sized) w in
-      (ap (putAll (scanned s b) l) (put-is (s .mode) b (s .tally) x head text rest ten fits sized (within-more s b l w)) ∙ more .0, more .1)
+      (ap (putAll (scanned s b) l) (put-is (s .mode) b (s .tally) x head text rest front fits sized (within-more s b l w)) ∙ more .0, more .1)
 
 -- the counts written last are those of the tables
 same-counts : (text : List ℕ) (t : Tally) (x : Tables) → Sized t x → tallied (length text) t ≡ counts text x
@@ -46,12 +46,12 @@ pub part-is : (text rest : List ℕ) → length text ≤ maxSetBytes → Within 
     → sets (putAll start text (sets (replicate setSize 0 ++ rest) textAt text)) 0 (tallied (length text) (scan start text .tally)) ≡ partRead text ++ rest
 unfolding tablesRead partRead
 part-is text rest fits w =
-    let head : List ℕ = replicate 10 0 in
-    let done = filled head text rest refl fits text start noTables sized-start w in
+    let head : List ℕ = replicate textAt 0 in
+    let done = filled head text rest (length-replicate textAt 0) fits text start noTables sized-start w in
     let begun : sets (replicate setSize 0 ++ rest) textAt text ≡ assembled head text noTables ++ rest =
     sets-left text (replicate setSize 0) rest textAt (rw length-replicate (room text fits))
     ∙ ap (λ (l : List ℕ). l ++ rest) (sym (cleared-is text fits)) in
     ap (λ (l : List ℕ). sets (putAll start text l) 0 (tallied (length text) (scan start text .tally))) begun
     ∙ ap (λ (l : List ℕ). sets l 0 (tallied (length text) (scan start text .tally))) (done .0)
     ∙ ap (sets (assembled head text (tablesRead text) ++ rest) 0) (same-counts text (scan start text .tally) (tablesRead text) (done .1))
-    ∙ head-put head text rest (tablesRead text) refl
+    ∙ head-put head text rest (tablesRead text) (length-replicate textAt 0)

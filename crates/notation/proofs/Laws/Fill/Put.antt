@@ -10,7 +10,7 @@ use lib.ListN.{length}
 use lib.Seq.{sets}
 use Rattle.notation.specs.Limits.{maxSetBytes, maxPaths, maxSteps, maxLabels}
 use Rattle.text.specs.Names.{inName}
-use Rattle.notation.specs.Layout.{folderSize, pathSize, labelSize, foldersAt, pathsAt, stepsAt, labelsAt, folderEntry, pathEntry, labelEntry, Tables}
+use Rattle.notation.specs.Layout.{folderSize, pathSize, labelSize, textAt, foldersAt, pathsAt, stepsAt, labelsAt, folderEntry, pathEntry, labelEntry, Tables, starKind}
 use Rattle.text.specs.Bytes.{joined}
 use Rattle.notation.specs.Code.Scan.{counted, folderRead, labelRead, pathRead}
 use Rattle.notation.specs.Code.Emit.{withFolder, withStep, withLabel, emitted}
@@ -30,12 +30,12 @@ fits-more size n limit used more u e h =
     let parts : size * (n + 1) ≡ size * n + size = rw (mul-add size n 1, mul-one size) in
     omega arith
 
-module _ (head text rest : List ℕ) (ten : length head ≡ 10) (short : length text ≤ maxSetBytes) (t : Tally) where
+module _ (head text rest : List ℕ) (front : length head ≡ textAt) (short : length text ≤ maxSetBytes) (t : Tally) where
   folder-is : (n : ℕ) (x : Tables) → length (joined (x .folders)) ≡ folderSize * t .folders → t .folders + 1 ≤ maxPaths
       → putFolder n t (assembled head text x ++ rest) ≡ assembled head text (withFolder n t x) ++ rest
   unfolding putFolder
   folder-is n x e more =
-      add-folder head text rest ten short x (folderEntry n (t .paths)) (foldersAt + folderSize * t .folders)
+      add-folder head text rest front short x (folderEntry n (t .paths)) (foldersAt + folderSize * t .folders)
       (ap (λ k. foldersAt + k) (sym e))
       (fits-more folderSize (t .folders) maxPaths _ _ e (folder-length n (t .paths)) more)
 
@@ -43,7 +43,7 @@ module _ (head text rest : List ℕ) (ten : length head ≡ 10) (short : length 
       → putLabel t (assembled head text x ++ rest) ≡ assembled head text (withLabel t x) ++ rest
   unfolding putLabel
   label-is x r e more =
-      add-label head text rest ten short x (r .folders) (r .paths) (r .steps) (labelEntry (t .from) (t .at - t .from) (t .steps))
+      add-label head text rest front short x (r .folders) (r .paths) (r .steps) (labelEntry (t .from) (t .at - t .from) (t .steps))
       (labelsAt + labelSize * t .labels)
       (ap (λ k. labelsAt + k) (sym e))
       (fits-more labelSize (t .labels) maxLabels _ _ e (label-length (t .from) (t .at - t .from) (t .steps)) more)
@@ -53,13 +53,13 @@ module _ (head text rest : List ℕ) (ten : length head ≡ 10) (short : length 
         → putStep kind t (assembled head text x ++ rest) ≡ assembled head text (moreSteps (kind ∷ []) x) ++ rest
     unfolding putStep
     step-is kind hp e more =
-        add-step head text rest ten short x hf hp (kind ∷ []) (stepsAt + t .steps) (ap (λ k. stepsAt + k) (sym e)) (omega arith)
+        add-step head text rest front short x hf hp (kind ∷ []) (stepsAt + t .steps) (ap (λ k. stepsAt + k) (sym e)) (omega arith)
 
     path-or-none : (c : Bool) (e : List ℕ) → length e ≡ pathSize → length (joined (x .paths)) ≡ pathSize * t .paths → t .paths + cond c 1 0 ≤ maxPaths
         → cond c (sets (assembled head text x ++ rest) (pathsAt + pathSize * t .paths) e) (assembled head text x ++ rest)
         ≡ assembled head text (record { folders = x .folders; paths = x .paths ++ cond c (e ∷ []) []; steps = x .steps; labels = x .labels }) ++ rest
     path-or-none true e size is more =
-        add-path head text rest ten short x hf e (pathsAt + pathSize * t .paths)
+        add-path head text rest front short x hf e (pathsAt + pathSize * t .paths)
         (ap (λ k. pathsAt + k) (sym is))
         (fits-more pathSize (t .paths) maxPaths _ _ is size more)
     path-or-none false e size is more = rw (append-nil (x .paths))
@@ -78,36 +78,36 @@ module _ (head text rest : List ℕ) (ten : length head ≡ 10) (short : length 
       hp
       paths)
 
-pub put-is : (m : Mode) (b : ℕ) (t : Tally) (x : Tables) (head text rest : List ℕ) → length head ≡ 10 → length text ≤ maxSetBytes
+pub put-is : (m : Mode) (b : ℕ) (t : Tally) (x : Tables) (head text rest : List ℕ) → length head ≡ textAt → length text ≤ maxSetBytes
     → Sized t x → Within (counted m b t) → put m b t (assembled head text x ++ rest) ≡ assembled head text (emitted m b t x) ++ rest
 unfolding put emitted counted
-put-is (Header k) b t x head text rest ten short h w = refl
-put-is LineStart b t x head text rest ten short h w = refl
-put-is (Word k) b t x head text rest ten short h w = refl
-put-is NumberStart b t x head text rest ten short h w = refl
-put-is (Number n) b t x head text rest ten short h w =
+put-is (Header k) b t x head text rest front short h w = refl
+put-is LineStart b t x head text rest front short h w = refl
+put-is (Word k) b t x head text rest front short h w = refl
+put-is NumberStart b t x head text rest front short h w = refl
+put-is (Number n) b t x head text rest front short h w =
     cases (eqb b 32)
     (λ e.
     let after : Within (folderRead n t) = rw e at w in
-    rw e (folder-is head text rest ten short t n x (h .folderBytes) (after .folders)))
+    rw e (folder-is head text rest front short t n x (h .folderBytes) (after .folders)))
     (λ e. rw e)
-put-is PathOpen b t x head text rest ten short h w = refl
-put-is PathStart b t x head text rest ten short h w = refl
-put-is Slash b t x head text rest ten short h w = refl
-put-is Slashes b t x head text rest ten short h w = refl
-put-is Label b t x head text rest ten short h w =
+put-is PathOpen b t x head text rest front short h w = refl
+put-is PathStart b t x head text rest front short h w = refl
+put-is Slash b t x head text rest front short h w = refl
+put-is Slashes b t x head text rest front short h w = refl
+put-is Label b t x head text rest front short h w =
     cases (inName b)
     (λ e. rw e)
     (λ e.
     let after : Within (pathRead b (labelRead t)) = rw e at w in
     let r : Room x = room t x h (within-before Label b t w) in
-    rw (e, label-is head text rest ten short t x r (h .labelBytes) (after .labels))
-    (ended-is head text rest ten short t (t .deep) b (withLabel t x) (r .folders) (h .pathBytes) (h .stepBytes) (within-before Label b t w .paths) (after .paths) (after .steps)))
-put-is Star b t x head text rest ten short h w =
+    rw (e, label-is head text rest front short t x r (h .labelBytes) (after .labels))
+    (ended-is head text rest front short t (t .deep) b (withLabel t x) (r .folders) (h .pathBytes) (h .stepBytes) (within-before Label b t w .paths) (after .paths) (after .steps)))
+put-is Star b t x head text rest front short h w =
     let r : Room x = room t x h (within-before Star b t w) in
-    ended-is head text rest ten short t (t .deep + 2) b x (r .folders) (h .pathBytes) (h .stepBytes) (within-before Star b t w .paths) (w .paths) (w .steps)
-put-is PathEnd b t x head text rest ten short h w = refl
-put-is LineEnd b t x head text rest ten short h w = refl
-put-is LastLine b t x head text rest ten short h w = refl
-put-is Done b t x head text rest ten short h w = refl
-put-is Malformed b t x head text rest ten short h w = refl
+    ended-is head text rest front short t (t .deep + starKind) b x (r .folders) (h .pathBytes) (h .stepBytes) (within-before Star b t w .paths) (w .paths) (w .steps)
+put-is PathEnd b t x head text rest front short h w = refl
+put-is LineEnd b t x head text rest front short h w = refl
+put-is LastLine b t x head text rest front short h w = refl
+put-is Done b t x head text rest front short h w = refl
+put-is Malformed b t x head text rest front short h w = refl

@@ -8,7 +8,7 @@ use mathlib.Core.List.{List, [], _∷_, _++_, append-nil}
 use lib.Dec.{eqb}
 use lib.ListN.{length, length-append}
 use Rattle.text.specs.Names.{inName}
-use Rattle.notation.specs.Layout.{folderSize, pathSize, labelSize, folderEntry, pathEntry, labelEntry, Tables}
+use Rattle.notation.specs.Layout.{folderSize, pathSize, labelSize, folderEntry, pathEntry, labelEntry, Tables, starKind}
 use Rattle.text.specs.Bytes.{joined}
 use Rattle.notation.specs.Code.Scan.{counted, scanned, start, folderRead, pathBegun, deepened, labelBegun, labelRead, starRead, pathRead}
 use Rattle.notation.specs.Code.Emit.{withFolder, withStep, withLabel, emitted, noTables}
@@ -150,7 +150,7 @@ sized-more Slash b t x h =
     sized-either (eqb b 47) (sized-as t (deepened t) x refl refl refl refl h) (sized-as t (labelBegun t) x refl refl refl refl h)
 sized-more Slashes b t x h = sized-as t (labelBegun t) x refl refl refl refl h
 sized-more Label b t x h = sized-cond (inName b) h (sized-label (t .deep) b t x h)
-sized-more Star b t x h = sized-star (t .deep + 2) b t x h
+sized-more Star b t x h = sized-star (t .deep + starKind) b t x h
 sized-more PathEnd b t x h = h
 sized-more LineEnd b t x h = h
 sized-more LastLine b t x h = h

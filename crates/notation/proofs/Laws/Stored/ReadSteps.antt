@@ -9,7 +9,7 @@ use lib.ListN.{length, getD, length-map}
 use Rattle.notation.specs.Limits.{maxPaths, maxSteps}
 use Rattle.notation.specs.Sets.{child, descendant, label, star, Step, step, FolderSet, axisOf, testOf}
 use Rattle.notation.specs.Print.{print}
-use Rattle.notation.specs.Layout.{stepsAt, stepEntry, tablesOf, setPart}
+use Rattle.notation.specs.Layout.{stepsAt, stepEntry, tablesOf, setPart, starKind}
 use Rattle.notation.specs.Reads.{stepAt, isDescendant, isStar}
 use Rattle.notation.specs.declared.reads.StepAt.{StepAt}
 use Rattle.notation.proofs.Laws.Stored.Stands.{Stands, read}
@@ -20,7 +20,7 @@ use Rattle.notation.proofs.Laws.Refused.Fitting.{Fitting, roomy, one-by
 use Rattle.notation.proofs.Laws.Stored.Reads.{allSteps, steps-read, there, gone}
 
 -- the two bits of a step's byte
-kind-step : (x : Step) (b : ℕ) → b ≡ getD (stepEntry x) 0 0 → StepAt.Step (eqb (b % 2) 1) (eqb (b / 2 % 2) 1) ≡ StepAt.Step (isDescendant (axisOf x)) (isStar (testOf x))
+kind-step : (x : Step) (b : ℕ) → b ≡ getD (stepEntry x) 0 0 → StepAt.Step (eqb (b % 2) 1) (eqb (b / starKind % 2) 1) ≡ StepAt.Step (isDescendant (axisOf x)) (isStar (testOf x))
 kind-step (step child (label n)) b e = rw e
 kind-step (step child star) b e = rw e
 kind-step (step descendant (label n)) b e = rw e

@@ -8,7 +8,7 @@ use lib.ListN.{length, getD, take, drop, length-map}
 use Rattle.notation.specs.Limits.{maxSetBytes}
 use Rattle.notation.specs.Sets.{FolderSet}
 use Rattle.notation.specs.Print.{print}
-use Rattle.notation.specs.Layout.{Tables, textAt, layout, tablesOf, setPart}
+use Rattle.notation.specs.Layout.{Tables, wordSize, textLenAt, textAt, layout, tablesOf, setPart}
 use Rattle.text.specs.Bytes.{le16, joined}
 use Rattle.notation.specs.Reads.{word16}
 use Rattle.notation.proofs.Laws.Stored.Stands.{Stands, read, slice}
@@ -27,19 +27,19 @@ word-read {part} v at h s =
 abbrev pub words : List ℕ → List ℕ
 words vs = joined (map le16 vs)
 
-pub words-read : {part : List ℕ} (place : ℕ) (vs : List ℕ) (i : ℕ) → i < length vs → getD vs i 0 < 65536 → Stands place (words vs) part → word16 part (place + 2 * i) ≡ getD vs i 0
+pub words-read : {part : List ℕ} (place : ℕ) (vs : List ℕ) (i : ℕ) → i < length vs → getD vs i 0 < 65536 → Stands place (words vs) part → word16 part (place + wordSize * i) ≡ getD vs i 0
 words-read place vs i h k s =
     let m : i < length (map le16 vs) = rw (length-map vs le16) h in
-    word-read (getD vs i 0) (place + 2 * i) k (rw (← map-at le16 0 vs i h) (entry i (map-width le16 2 (λ v. refl) vs) m s))
+    word-read (getD vs i 0) (place + wordSize * i) k (rw (← map-at le16 0 vs i h) (entry i (map-width le16 wordSize (λ v. refl) vs) m s))
 
 pub words-head : {part : List ℕ} (place v : ℕ) (vs : List ℕ) → v < 65536 → Stands place (words (v ∷ vs)) part → word16 part place ≡ v
 words-head place v vs k s = rw add-zero at (words-read place (v ∷ vs) 0 (suc-le-suc zero-le) k s)
 
 -- the stored length and text say the text
-stored-text : (text : List ℕ) (t : Tables) → length text < 65536 → take (word16 (layout text t ++ []) 0) (drop textAt (layout text t ++ [])) ≡ text
+stored-text : (text : List ℕ) (t : Tables) → length text < 65536 → take (word16 (layout text t ++ []) textLenAt) (drop textAt (layout text t ++ [])) ≡ text
 unfolding joined
 stored-text text t h =
-    rw (words-head 0 (length text) (length (t .folders) ∷ length (t .paths) ∷ length (t .steps) ∷ length (t .labels) ∷ []) h (counts-stand text t []))
+    rw (words-head textLenAt (length text) (length (t .folders) ∷ length (t .paths) ∷ length (t .steps) ∷ length (t .labels) ∷ []) h (counts-stand text t []))
     (slice (text-stands text t []))
 
 -- equal tables only from equal texts
@@ -47,5 +47,5 @@ pub same-text : (s t : FolderSet) → length (print s) ≤ maxSetBytes → lengt
 unfolding setPart maxSetBytes
 same-text s t hs ht e =
     sym (stored-text (print s) (tablesOf s) (omega arith))
-    ∙ ap (λ (l : List ℕ). take (word16 (l ++ []) 0) (drop textAt (l ++ []))) e
+    ∙ ap (λ (l : List ℕ). take (word16 (l ++ []) textLenAt) (drop textAt (l ++ []))) e
     ∙ stored-text (print t) (tablesOf t) (omega arith)

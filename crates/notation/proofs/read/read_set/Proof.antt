@@ -1,38 +1,33 @@
 use Rattle.notation.proofs.Laws.Refused.Within.{accepted-within}
 use Rattle.notation.proofs.Laws.Refused.ReadAnswer.{read-short, read-refused, read-filled}
 use Rattle.notation.specs.Layout.{setSize}
-use Prim.Native.Nat.{ℕ, _<_, _≤_}
 use mathlib.Core.Path.{sym, _∙_}
 use borrow.Author.Needs.{needs}
 use Rattle.notation.proofs.read.read_set.Statement.{statement}
 use Rattle.notation.proofs.read.read_set.Tie as tie
 
-short : (n : ℕ) → n < 26122 → n < setSize
-unfolding setSize
-short n h = h
-
-whole : (n : ℕ) → 26122 ≤ n → setSize ≤ n
-unfolding setSize
-whole n h = h
-
 returns : tie.Need-returns
-returns c = read-short _ _ (short _ (c .if1 .taken))
+unfolding setSize
+returns c = read-short _ _ (c .if1 .taken)
 
 refusal-requires : tie.Need-refusal-requires
 refusal-requires c κs = search needs
 
 returns-2 : tie.Need-returns-2
-returns-2 c = read-refused _ _ (whole _ (c .before .before .if1 .left)) _ (c .before .refusal .ensures) (c .if2 .taken)
+unfolding setSize
+returns-2 c = read-refused _ _ (c .before .before .if1 .left) _ (c .before .refusal .ensures) (c .if2 .taken)
 
 fill-requires : tie.Need-fill-requires
+unfolding setSize
 fill-requires c κs = let ok = accepted-within (c .before .before .before .before .before .before .args .text .now) (sym (c .before .before .refusal .ensures) ∙ c .before .if2 .left) in
-    (ok .0, ok .1, whole _ (c .before .before .before .if1 .left))
+    (ok .0, ok .1, c .before .before .before .if1 .left)
 
 same-length : tie.Need-same-length
 same-length c = search needs
 
 returns-3 : tie.Need-returns-3
-returns-3 c = read-filled _ _ (whole _ (c .before .before .before .before .before .before .if1 .left)) _ (sym (c .before .before .before .before .before .refusal .ensures) ∙ c .before .before .before .before .if2 .left) (c .before .before .fill .ensures)
+unfolding setSize
+returns-3 c = read-filled _ _ (c .before .before .before .before .before .before .if1 .left) _ (sym (c .before .before .before .before .before .refusal .ensures) ∙ c .before .before .before .before .if2 .left) (c .before .before .fill .ensures)
 
 pub read-set-spec : {M : Type 1} → statement M
 read-set-spec =

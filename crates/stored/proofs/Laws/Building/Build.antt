@@ -1,5 +1,5 @@
 -- From a read set's bytes to its automaton: the passes one after the other.
-use Prim.Native.Nat.{ℕ, _+_, _-_, _*_}
+use Prim.Native.Nat.{ℕ, _+_, _-_}
 use native.Mathlib.Omega.{arith}
 use mathlib.Core.Path.{_≡_, sym, ap, _∙_}
 use mathlib.Core.List.{List, _++_, append-assoc}
@@ -12,7 +12,7 @@ use Rattle.notation.specs.Layout.{setSize, setPart, tablesOf}
 use Rattle.notation.proofs.Laws.Stored.Sections.{layout-length}
 use Rattle.notation.proofs.Laws.Refused.Fitting.{Fitting, roomy}
 use Rattle.notation.proofs.Laws.Refused.AcceptedSet.{accepted-fits}
-use Rattle.stored.specs.Automaton.{hashes, maskSize, automatonSize, allLabels, heads, Link, assembled, automatonOf}
+use Rattle.stored.specs.Automaton.{hashes, automatonSize, allLabels, heads, Link, assembled, automatonOf, allMasks}
 use Rattle.stored.specs.Walkable.{Searchable}
 use Rattle.stored.specs.Code.Fails.{Growing}
 use Rattle.stored.specs.Code.Masks.{withMasks, withStart}
@@ -38,14 +38,14 @@ module _ {text : List ℕ} (s : FolderSet) (acc : Accepted text s) (rest : List 
 
   -- no masks yet, and what stands behind the automaton
   zeros : List ℕ
-  zeros = replicate (6 * maskSize) 0
+  zeros = replicate allMasks 0
 
   behind : List ℕ
   behind = drop (automatonSize - setSize) rest
 
-  zeros-length : length zeros ≡ 6 * maskSize
+  zeros-length : length zeros ≡ allMasks
   unfolding zeros
-  zeros-length = length-replicate (6 * maskSize) 0
+  zeros-length = length-replicate allMasks 0
 
   stage : List Link → List ℕ
   stage ls = assembled s (heads (allLabels s)) ls zeros 0 ++ behind

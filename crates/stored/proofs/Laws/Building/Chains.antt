@@ -1,5 +1,5 @@
 -- The pass that makes the chains leaves the heads and the next fields of the definition.
-use Prim.Native.Nat.{ℕ, zero, suc, _+_, _*_, _≤_, _<_}
+use Prim.Native.Nat.{ℕ, zero, suc, _+_, _≤_, _<_}
 use native.Mathlib.Nat.{le-refl}
 use native.Mathlib.Numerals.{add-one}
 use native.Mathlib.Omega.{arith}
@@ -13,7 +13,7 @@ use Rattle.notation.specs.Limits.{maxLabels}
 use Rattle.notation.specs.Sets.{FolderSet}
 use Rattle.text.specs.Bytes.{le16}
 use Rattle.notation.proofs.Laws.Refused.Fitting.{Fitting}
-use Rattle.stored.specs.Automaton.{hashes, maskSize, headsAt, linksAt, linkSize, hash, find, allLabels, hasHash, tabulate, heads, nexts, Link, assembled}
+use Rattle.stored.specs.Automaton.{hashes, hash, find, allLabels, hasHash, tabulate, heads, nexts, Link, assembled, allMasks, headEntryAt, linkEntryAt}
 use Rattle.stored.specs.Code.Chains.{linkedBy, linked, chained}
 use Rattle.stored.proofs.Laws.Bytes.Tabulate.{find-below, tabulate-length, tabulate-at, tabulate-set, tabulate-constant}
 use Rattle.stored.proofs.Laws.Tables.Goto.{hash-small}
@@ -66,7 +66,7 @@ module _ (names : List Name) (l : ℕ) (h : l < length names) where
       rw (q, getD-at (take l ls) k tail noLink l n, drop-cons names l [] h, drop-cons ls l noLink b)
       (set-at (take l ls) k tail (withNext (headFrom names (suc l) (hash e)) k) l n)
 
-module _ (s : FolderSet) (fit : Fitting s) (ls : List Link) (ms : List ℕ) (f : ℕ) (rest : List ℕ) (links : length ls ≡ length (allLabels s)) (masks : length ms ≡ 6 * maskSize) where
+module _ (s : FolderSet) (fit : Fitting s) (ls : List Link) (ms : List ℕ) (f : ℕ) (rest : List ℕ) (links : length ls ≡ length (allLabels s)) (masks : length ms ≡ allMasks) where
   stage : ℕ → List ℕ
   stage k = assembled s (headsFrom (allLabels s) k) (linksFrom (allLabels s) ls k) ms f ++ rest
 
@@ -102,9 +102,9 @@ module _ (s : FolderSet) (fit : Fitting s) (ls : List Link) (ms : List ℕ) (f :
       let m : getD hs (hash x) 0 ≡ v = tabulate-at (headFrom names (suc l)) hashes (hash x) (hash-small x) in
       let b : l < length ks = omega (arith, links-same (suc l), links) in
       ap (λ (n : Name). linkedBy (hash n) l (stage (suc l))) (label-bytes s fit hs ks ms f rest l h)
-      ∙ ap (λ (w : ℕ). sets (sets (stage (suc l)) (linksAt + linkSize * l) (le16 w)) (headsAt + 2 * hash x) (le16 (l + 1)))
+      ∙ ap (λ (w : ℕ). sets (sets (stage (suc l)) (linkEntryAt l) (le16 w)) (headEntryAt (hash x)) (le16 (l + 1)))
       (head-read s fit hs ks ms f z rest (hash x) (hash-small x) (rw m (small l (hash x) h)) ∙ m)
-      ∙ ap (λ (a : List ℕ). sets a (headsAt + 2 * hash x) (le16 (l + 1))) (next-put s fit hs ks ms f z rest l v b)
+      ∙ ap (λ (a : List ℕ). sets a (headEntryAt (hash x)) (le16 (l + 1))) (next-put s fit hs ks ms f z rest l v b)
       ∙ head-put s fit hs (set ks l k) ms f z' rest (hash x) (l + 1) (hash-small x)
       ∙ rw (add-one l, head-step names l h, link-step names l h ls links)
 

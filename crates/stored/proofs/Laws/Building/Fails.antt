@@ -1,5 +1,5 @@
 -- The pass that makes the failure links leaves those of the definition: the links are then the links of the set.
-use Prim.Native.Nat.{ℕ, zero, suc, _+_, _*_, _≤_, _<_}
+use Prim.Native.Nat.{ℕ, zero, suc, _+_, _≤_, _<_}
 use mathlib.Core.Path.{_≡_, refl, sym, _∙_, ap}
 use mathlib.Core.Bool.{true, false}
 use mathlib.Core.Logic.{_⊎_, inr}
@@ -18,33 +18,17 @@ use Rattle.notation.proofs.Laws.Refused.Fitting.{Fitting}
 use Rattle.theory.specs.Words.{Symbol, name, Word}
 use Rattle.theory.specs.Prefix.{IsPrefix, failure}
 use Rattle.theory.specs.Walk.{followedBy}
-use Rattle.stored.specs.Automaton.{maskSize, linksAt, linkSize, allLabels, allWords, stateOf, shortened, heads, nexts, Link, link, linksOf, links, assembled}
+use Rattle.stored.specs.Automaton.{allLabels, allWords, stateOf, shortened, heads, nexts, Link, link, linksOf, links, assembled, failIn, allMasks, linkEntryAt}
 use Rattle.stored.specs.Tables.{parentAt, sizeAt, sizeOf}
 use Rattle.stored.specs.Code.Fails.{failTo, failed, failedIf, failedBelow, failedTo}
 use Rattle.text.proofs.Laws.Tests.{cases}
 use Rattle.theory.proofs.Laws.Keywords.Prefix.{failure-is}
 use Rattle.theory.proofs.Laws.Keywords.Walk.{failure-extends, failure-single}
-use Rattle.stored.proofs.Laws.Tables.Assembled.{nextOf, parentOf, failureOf, lengthOf, withFailure, noLink, fail-put}
+use Rattle.stored.proofs.Laws.Tables.Assembled.{withFailure, noLink, fail-put}
 use Rattle.stored.proofs.Laws.Tables.States.{StateKind, ofEmpty, ofRoot, ofLabel, state-kind, state-empty, words-count, word-ends, label-parent, shortened-followed}
 use Rattle.stored.proofs.Laws.Tables.Goto.{Linked}
 use Rattle.stored.proofs.Laws.Tables.Walked.{FailsTo, fail-word, walk-over}
 use Rattle.stored.proofs.Laws.Building.Staged.{wordAt, failureAt, Links, Short, word-size, stage, sized, staged, count-here, size-here, fail-here, size-state}
-
--- a link with another failure keeps the rest
-same-next : (v : ℕ) (k : Link) → nextOf (withFailure v k) ≡ nextOf k
-same-next v (link n p x z) = refl
-
-same-parent : (v : ℕ) (k : Link) → parentOf (withFailure v k) ≡ parentOf k
-same-parent v (link n p x z) = refl
-
-same-length : (v : ℕ) (k : Link) → lengthOf (withFailure v k) ≡ lengthOf k
-same-length v (link n p x z) = refl
-
-new-failure : (v : ℕ) (k : Link) → failureOf (withFailure v k) ≡ v
-new-failure v (link n p x z) = refl
-
-whole : (k : Link) → k ≡ link (nextOf k) (parentOf k) (failureOf k) (lengthOf k)
-whole (link n p x z) = refl
 
 -- the links of the definition, by their place
 nexts-length : (k : ℕ) (names : List Name) → length (nexts k names) ≡ length names
@@ -96,14 +80,14 @@ fail-to-word s a k (t ∷ u) e l p n i fails size =
 -- the links with the failure links of the words of fewer than n symbols, and of those of n symbols below label l
 record Stage (s : FolderSet) (n l : ℕ) (ls : List Link) : Type 0 where
   links : Links s ls
-  lower : (k : ℕ) → k < length (allLabels s) → length (wordAt s k) < n → failureOf (getD ls k noLink) ≡ failureAt s k
-  upto : (k : ℕ) → k < length (allLabels s) → k < l → length (wordAt s k) ≡ n → failureOf (getD ls k noLink) ≡ failureAt s k
+  lower : (k : ℕ) → k < length (allLabels s) → length (wordAt s k) < n → getD ls k noLink .fail ≡ failureAt s k
+  upto : (k : ℕ) → k < length (allLabels s) → k < l → length (wordAt s k) ≡ n → getD ls k noLink .fail ≡ failureAt s k
 
-module _ (s : FolderSet) (fit : Fitting s) (short : Short s) (ms : List ℕ) (f : ℕ) (masks : length ms ≡ 6 * maskSize) (rest : List ℕ) where
+module _ (s : FolderSet) (fit : Fitting s) (short : Short s) (ms : List ℕ) (f : ℕ) (masks : length ms ≡ allMasks) (rest : List ℕ) where
   at : List Link → List ℕ
   at ls = stage s fit short ms f masks rest ls
 
-  module _ (ls : List Link) (k : Links s ls) (l : ℕ) (h : l < length (allLabels s)) (lower : (j : ℕ) → j < length (allLabels s) → length (wordAt s j) < length (wordAt s l) → failureOf (getD ls j noLink) ≡ failureAt s j) where
+  module _ (ls : List Link) (k : Links s ls) (l : ℕ) (h : l < length (allLabels s)) (lower : (j : ℕ) → j < length (allLabels s) → length (wordAt s j) < length (wordAt s l) → getD ls j noLink .fail ≡ failureAt s j) where
     fails-below : FailsTo s (at ls) (length (shortened (wordAt s l)))
     unfolding at
     fails-below j i b = fail-here s fit short ms f masks rest ls k j i ∙ lower j i (omega (arith, word-size s l h))
@@ -144,18 +128,18 @@ module _ (s : FolderSet) (fit : Fitting s) (short : Short s) (ms : List ℕ) (f 
     unfolding new
     new-links = record {
       count = length-set ls l _ ∙ t .links .count;
-      next = by-place (λ j k. nextOf k ≡ getD (nexts 0 (allLabels s)) j 0) (same-next _ (getD ls l noLink) ∙ t .links .next l h) (t .links .next);
-      parent = by-place (λ j k. parentOf k ≡ stateOf s (shortened (wordAt s j))) (same-parent _ (getD ls l noLink) ∙ t .links .parent l h) (t .links .parent);
-      fail = by-place (λ j k. (failureOf k ≡ 0) ⊎ (failureOf k ≡ failureAt s j)) (inr (new-failure _ (getD ls l noLink))) (t .links .fail);
-      size = by-place (λ j k. lengthOf k ≡ length (wordAt s j)) (same-length _ (getD ls l noLink) ∙ t .links .size l h) (t .links .size);
+      next = by-place (λ j k. k .next ≡ getD (nexts 0 (allLabels s)) j 0) (t .links .next l h) (t .links .next);
+      parent = by-place (λ j k. k .parent ≡ stateOf s (shortened (wordAt s j))) (t .links .parent l h) (t .links .parent);
+      fail = by-place (λ j k. (k .fail ≡ 0) ⊎ (k .fail ≡ failureAt s j)) (inr refl) (t .links .fail);
+      size = by-place (λ j k. k .size ≡ length (wordAt s j)) (t .links .size l h) (t .links .size);
     }
 
     new-stage : Stage s n (suc l) new
     new-stage = record {
       links = new-links;
-      lower = by-place (λ j k. length (wordAt s j) < n → failureOf k ≡ failureAt s j) (λ b. new-failure _ (getD ls l noLink)) (t .lower);
+      lower = by-place (λ j k. length (wordAt s j) < n → k .fail ≡ failureAt s j) (λ b. refl) (t .lower);
       upto = λ j i b. cases (eqb j l)
-          (λ y. let e : j ≡ l = eqb-true j l y in λ z. rw (e, here) (new-failure _ (getD ls l noLink)))
+          (λ y. let e : j ≡ l = eqb-true j l y in λ z. rw (e, here))
           (λ y. let d : j ≡ l → ⊥ = eqb-false j l y in λ z. rw (there j d) (t .upto j i (omega arith) z));
     }
 
@@ -163,7 +147,7 @@ module _ (s : FolderSet) (fit : Fitting s) (short : Short s) (ms : List ℕ) (f 
     unfolding at new
     stored =
         let v = fail-to-is ls (t .links) l h (λ j i b. t .lower j i (omega (arith, size))) in
-        ap (λ (x : ℕ). sets (at ls) (linksAt + linkSize * l + 4) (le16 x)) v
+        ap (λ (x : ℕ). sets (at ls) (linkEntryAt l + failIn) (le16 x)) v
         ∙ fail-put s fit (heads (allLabels s)) ls ms f (sized s fit short ms f masks rest ls (t .links)) rest l (failureAt s l) inside
 
   step : (n l : ℕ) → l < length (allLabels s) → (ls : List Link) → Stage s n l ls → (new : List Link) × (failedIf n l (at ls) ≡ at new) × Stage s n (suc l) new
@@ -223,8 +207,9 @@ module _ (s : FolderSet) (fit : Fitting s) (short : Short s) (ms : List ℕ) (f 
       same : (l : ℕ) → l < length ls → getD ls l noLink ≡ getD (links s) l noLink
       same l i =
           let h : l < length (allLabels s) = rw (t .links .count) at i in
-          whole (getD ls l noLink)
-          ∙ (rw (t .links .next l h, t .links .parent l h, t .lower l h (omega (arith, short l h)), t .links .size l h) (sym (links-at s l h)))
+          let k = getD ls l noLink in
+          let whole : k ≡ link (k .next) (k .parent) (k .fail) (k .size) = refl in
+          whole ∙ (rw (t .links .next l h, t .links .parent l h, t .lower l h (omega (arith, short l h)), t .links .size l h) (sym (links-at s l h)))
 
   -- the pass on links that have all but the failure links
   pub fails-is : (ls : List Link) → Links s ls → failedTo (length (allLabels s)) (suc maxSteps) (assembled s (heads (allLabels s)) ls ms f ++ rest) ≡ assembled s (heads (allLabels s)) (links s) ms f ++ rest

@@ -1,21 +1,24 @@
 -- The pass that makes the failure links keeps the tables walkable: the link that it stores leads to a shorter word.
-use Prim.Native.Nat.{ℕ, zero, suc, _+_, _*_, _/_, _%_, _≤_, _<_}
+use Prim.Native.Nat.{ℕ, zero, suc, _+_, _/_, _%_, _≤_, _<_}
 use mathlib.Core.Path.{_≡_, refl, sym, _∙_, ap}
 use mathlib.Core.Bool.{Bool, true, false, not, _&&_}
 use mathlib.Core.List.{List}
 use native.Mathlib.Omega.{arith}
 use lib.Dec.{eqb}
-use lib.ListN.{length, set, length-set}
-use lib.Seq.{sets, length-sets, getD-set-same, getD-set-other}
+use lib.ListN.{length, set}
+use lib.Seq.{sets, length-sets, getD-set-other}
 use borrow.Author.Tests.{eqb-true, eqb-false}
 use Rattle.text.specs.Names.{Name, sameName}
 use Rattle.notation.specs.Limits.{maxLabels}
 use Rattle.text.specs.Bytes.{le16}
+use Rattle.notation.specs.Layout.{wordSize}
 use Rattle.notation.specs.Reads.{word16, labelCount, labelName}
-use Rattle.stored.specs.Automaton.{hashes, hash, automatonSize, headsAt, linksAt, linkSize}
+use Rattle.stored.specs.Automaton.{hashes, parentIn, failIn, sizeIn, linkSize, linksAt, automatonSize, linkEntryAt, hash}
 use Rattle.stored.specs.Tables.{headAt, nextAt, parentAt, failAt, sizeAt, sizeOf, failOf, follows, gotoFrom, goto, walkFrom, walkOver}
 use Rattle.stored.specs.Code.Fails.{failTo, failed, failedIf, failedBelow, failedTo, Growing}
 use Rattle.text.proofs.Laws.Tests.{cases, both}
+use Rattle.stored.proofs.Laws.Bytes.Beside.{word-stored}
+use Rattle.stored.proofs.Laws.Building.Elsewhere.{count-kept, head-kept, next-kept}
 use Rattle.stored.proofs.Laws.Tables.Goto.{hash-small}
 use Rattle.stored.proofs.Laws.Tables.Fuel.{fail-state, fail-shorter, over-state}
 
@@ -26,16 +29,6 @@ kept a at v j p q r t =
     let e0 = getD-set-other (set a at (v % 256)) (suc at) j (v / 256 % 256) 0 q ∙ getD-set-other a at j (v % 256) 0 p in
     let e1 = getD-set-other (set a at (v % 256)) (suc at) (j + 1) (v / 256 % 256) 0 t ∙ getD-set-other a at (j + 1) (v % 256) 0 r in
     omega (arith, e0, e1)
-
--- and the one that was
-stored : (a : List ℕ) (at v : ℕ) → at + 2 ≤ length a → v < 65536 → word16 (sets a at (le16 v)) at ≡ v
-unfolding word16
-stored a at v h b =
-    let n : at ≡ suc at → ⊥ = λ e. omega arith in
-    let one : at + 1 ≡ suc at = omega arith in
-    let e0 = getD-set-other (set a at (v % 256)) (suc at) at (v / 256 % 256) 0 n ∙ getD-set-same a at (v % 256) 0 (omega arith) in
-    let e1 = getD-set-same (set a at (v % 256)) (suc at) (v / 256 % 256) 0 (rw (length-set a at (v % 256)) (omega arith)) in
-    rw one (omega (arith, e0, e1))
 
 -- a walk arrives at a word that is at most one symbol longer
 module _ (a : List ℕ) (g : Growing a) (e : Name) where
@@ -89,37 +82,38 @@ module _ (a : List ℕ) (g : Growing a) (l : ℕ) (i : l < labelCount a) where
         fail-shorter a (g .walkable .falling) (parentAt a l) (g .parent l i) (eqb-false (parentAt a l) 0 t),
       )))
 
+  fail-fits : failIn + wordSize ≤ linkSize
+  unfolding linkSize
+  fail-fits = omega arith
+
   same-count : labelCount (failed l a) ≡ labelCount a
-  unfolding linksAt linkSize
-  same-count = kept a (linksAt + linkSize * l + 4) (failTo a l) 8 (λ e. omega arith) (λ e. omega arith) (λ e. omega arith) (λ e. omega arith)
+  same-count = count-kept a l failIn (failTo a l) (omega arith) fail-fits
 
   same-head : (h : ℕ) → h < hashes → headAt (failed l a) h ≡ headAt a h
-  unfolding linksAt linkSize headsAt hashes
-  same-head h b = kept a (linksAt + linkSize * l + 4) (failTo a l) (headsAt + 2 * h) (λ e. omega arith) (λ e. omega arith) (λ e. omega arith) (λ e. omega arith)
+  same-head = head-kept a l failIn (failTo a l) (omega arith) fail-fits
 
   same-next : (m : ℕ) → nextAt (failed l a) m ≡ nextAt a m
-  unfolding linksAt linkSize
-  same-next m = kept a (linksAt + linkSize * l + 4) (failTo a l) (linksAt + linkSize * m) (λ e. omega arith) (λ e. omega arith) (λ e. omega arith) (λ e. omega arith)
+  same-next = next-kept a l failIn (failTo a l) (omega arith) fail-fits
 
   same-parent : (m : ℕ) → parentAt (failed l a) m ≡ parentAt a m
   unfolding linksAt linkSize
-  same-parent m = kept a (linksAt + linkSize * l + 4) (failTo a l) (linksAt + linkSize * m + 2) (λ e. omega arith) (λ e. omega arith) (λ e. omega arith) (λ e. omega arith)
+  same-parent m = kept a (linkEntryAt l + failIn) (failTo a l) (linkEntryAt m + parentIn) (λ e. omega arith) (λ e. omega arith) (λ e. omega arith) (λ e. omega arith)
 
   same-size : (m : ℕ) → sizeAt (failed l a) m ≡ sizeAt a m
   unfolding linksAt linkSize
-  same-size m = kept a (linksAt + linkSize * l + 4) (failTo a l) (linksAt + linkSize * m + 6) (λ e. omega arith) (λ e. omega arith) (λ e. omega arith) (λ e. omega arith)
+  same-size m = kept a (linkEntryAt l + failIn) (failTo a l) (linkEntryAt m + sizeIn) (λ e. omega arith) (λ e. omega arith) (λ e. omega arith) (λ e. omega arith)
 
   other-fail : (m : ℕ) → (m ≡ l → ⊥) → failAt (failed l a) m ≡ failAt a m
   unfolding linksAt linkSize
-  other-fail m n = kept a (linksAt + linkSize * l + 4) (failTo a l) (linksAt + linkSize * m + 4) (λ e. n (omega arith)) (λ e. omega arith) (λ e. omega arith) (λ e. n (omega arith))
+  other-fail m n = kept a (linkEntryAt l + failIn) (failTo a l) (linkEntryAt m + failIn) (λ e. n (omega arith)) (λ e. omega arith) (λ e. omega arith) (λ e. n (omega arith))
 
-  fits : linksAt + linkSize * l + 4 + 2 ≤ length a
+  fits : linkEntryAt l + failIn + wordSize ≤ length a
   unfolding linksAt linkSize automatonSize maxLabels
   fits = omega (arith, g .room, g .walkable .searchable .few)
 
   this-fail : failAt (failed l a) l ≡ failTo a l
   unfolding maxLabels
-  this-fail = stored a (linksAt + linkSize * l + 4) (failTo a l) fits (omega (arith, fail-within, g .walkable .searchable .few))
+  this-fail = word-stored a (linkEntryAt l + failIn) (failTo a l) fits (omega (arith, fail-within, g .walkable .searchable .few))
 
   same-sizes : (q : ℕ) → sizeOf (failed l a) q ≡ sizeOf a q
   unfolding sizeOf
@@ -138,7 +132,7 @@ module _ (a : List ℕ) (g : Growing a) (l : ℕ) (i : l < labelCount a) where
   -- the tables stay so
   failed-grows : Growing (failed l a)
   failed-grows = record {
-    room = rw (length-sets a (linksAt + linkSize * l + 4) (le16 (failTo a l))) (g .room);
+    room = rw (length-sets a (linkEntryAt l + failIn) (le16 (failTo a l))) (g .room);
     walkable = record {
       searchable = record {
         few = rw same-count (g .walkable .searchable .few);

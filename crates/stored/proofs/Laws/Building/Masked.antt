@@ -21,7 +21,7 @@ use Rattle.notation.proofs.Laws.Stored.Reads.{paths-read}
 use Rattle.notation.proofs.Laws.Stored.LabelTable.{noStep, steps-append}
 use Rattle.notation.proofs.Laws.Stored.ReadSteps.{step-read}
 use Rattle.notation.proofs.Laws.Stored.ReadPaths.{path-read}
-use Rattle.stored.specs.Automaton.{maskSize, allSteps, Link, Role, role, rolesFrom, rolesIn, roles, masks, bitBytes, byteOf, assembled}
+use Rattle.stored.specs.Automaton.{maskSize, allSteps, Link, Role, role, rolesFrom, rolesIn, roles, masks, bitBytes, byteOf, assembled, maskCount, allMasks}
 use Rattle.stored.specs.Bits.{withBit}
 use Rattle.stored.specs.Code.Masks.{flagged, axisMask, flagRole, flagStep, flagSteps, flagPath, flagPaths, withMasks}
 use Rattle.stored.proofs.Laws.Bytes.Tabulate.{tabulate-length}
@@ -49,15 +49,15 @@ bits-append i (r ∷ rs) ts b =
     let e : suc i + length rs ≡ i + suc (length rs) = omega arith in
     bits-append (suc i) rs ts (flagBits i r b) ∙ ap (λ (j : ℕ). roleBits j ts (roleBits (suc i) rs (flagBits i r b))) e
 
-pub bit-in : (m i : ℕ) → m < 6 → i < 8 * maskSize → place m i < 8 * (6 * maskSize)
+pub bit-in : (m i : ℕ) → m < maskCount → i < 8 * maskSize → place m i < 8 * allMasks
 unfolding maskSize
 bit-in m i k h = omega arith
 
-pub byte-in : (m i : ℕ) → m < 6 → i < 8 * maskSize → place m i / 8 < 6 * maskSize
+pub byte-in : (m i : ℕ) → m < maskCount → i < 8 * maskSize → place m i / 8 < allMasks
 unfolding maskSize
 byte-in m i k h = omega arith
 
-axis-small : (first deep : Bool) → axisMask first deep < 6
+axis-small : (first deep : Bool) → axisMask first deep < maskCount
 axis-small true true = omega arith
 axis-small true false = omega arith
 axis-small false true = omega arith
@@ -94,21 +94,21 @@ pub steps-here : (s : FolderSet) (pre : List Path) (p : Path) (ps : List Path) �
 unfolding stepsOf
 steps-here s pre p ps e = ap stepsOf e ∙ steps-append pre (p ∷ ps)
 
-module _ (s : FolderSet) (fit : Fitting s) (hs : List ℕ) (ls : List Link) (f : ℕ) (sizes : (ms : List ℕ) → length ms ≡ 6 * maskSize → Sized hs ls ms) (rest : List ℕ) where
+module _ (s : FolderSet) (fit : Fitting s) (hs : List ℕ) (ls : List Link) (f : ℕ) (sizes : (ms : List ℕ) → length ms ≡ allMasks → Sized hs ls ms) (rest : List ℕ) where
   -- the bytes with a row of bits for masks
   abbrev bytes : (ℕ → Bool) → List ℕ
-  bytes b = assembled s hs ls (bitBytes b (6 * maskSize)) f ++ rest
+  bytes b = assembled s hs ls (bitBytes b allMasks) f ++ rest
 
-  sized : (b : ℕ → Bool) → Sized hs ls (bitBytes b (6 * maskSize))
-  sized b = sizes (bitBytes b (6 * maskSize)) (tabulate-length (byteOf b) (6 * maskSize))
+  sized : (b : ℕ → Bool) → Sized hs ls (bitBytes b allMasks)
+  sized b = sizes (bitBytes b allMasks) (tabulate-length (byteOf b) allMasks)
 
-  flagged-bit : (on : Bool) (m i : ℕ) → m < 6 → i < 8 * maskSize → (b : ℕ → Bool) → flagged on m i (bytes b) ≡ bytes (flags on (place m i) b)
+  flagged-bit : (on : Bool) (m i : ℕ) → m < maskCount → i < 8 * maskSize → (b : ℕ → Bool) → flagged on m i (bytes b) ≡ bytes (flags on (place m i) b)
   unfolding flagged
   flagged-bit false m i k h b = refl
   flagged-bit true m i k h b =
-      rw (mask-read s fit hs ls (bitBytes b (6 * maskSize)) f (sized b) rest (place m i / 8) (byte-in m i k h))
-      (mask-put s fit hs ls (bitBytes b (6 * maskSize)) f (sized b) rest (place m i / 8) (withBit (getD (bitBytes b (6 * maskSize)) (place m i / 8) 0) (place m i % 8)) (byte-in m i k h)
-      ∙ ap (λ (l : List ℕ). assembled s hs ls l f ++ rest) (bits-with b (6 * maskSize) (place m i) (bit-in m i k h)))
+      rw (mask-read s fit hs ls (bitBytes b allMasks) f (sized b) rest (place m i / 8) (byte-in m i k h))
+      (mask-put s fit hs ls (bitBytes b allMasks) f (sized b) rest (place m i / 8) (withBit (getD (bitBytes b allMasks) (place m i / 8) 0) (place m i % 8)) (byte-in m i k h)
+      ∙ ap (λ (l : List ℕ). assembled s hs ls l f ++ rest) (bits-with b allMasks (place m i) (bit-in m i k h)))
 
   role-bits : (i : ℕ) → i < 8 * maskSize → (st : Step) (first last : Bool) (b : ℕ → Bool)
       → flagRole i (isDescendant (axisOf st)) (isStar (testOf st)) first last (bytes b) ≡ bytes (flagBits i (role st first last) b)
@@ -124,7 +124,7 @@ module _ (s : FolderSet) (fit : Fitting s) (hs : List ℕ) (ls : List Link) (f :
       → flagStep i first last (bytes b) ≡ bytes (flagBits i (role (getD (allSteps s) i noStep) first last) b)
   unfolding flagStep
   step-bits i h first last b =
-      let x = after-set s fit hs ls (bitBytes b (6 * maskSize)) f rest in
+      let x = after-set s fit hs ls (bitBytes b allMasks) f rest in
       let read : stepAt (bytes b) i ≡ StepAt.Step (isDescendant (axisOf (getD (allSteps s) i noStep))) (isStar (testOf (getD (allSteps s) i noStep))) = rw (x .1) (step-read s fit (x .0) i h) in
       let small : i < 8 * maskSize = omega (arith, fit .steps, all-small) in
       rw (lt-ltb i (8 * maskSize) small, read) (role-bits i small (getD (allSteps s) i noStep) first last b)
@@ -150,7 +150,7 @@ module _ (s : FolderSet) (fit : Fitting s) (hs : List ℕ) (ls : List Link) (f :
   path-here : (b : ℕ → Bool) (pre : List Path) (p : Path) (ps : List Path) → pathsOf s ≡ pre ++ (p ∷ ps)
       → (at : ℕ) × (pathAt (bytes b) (record { 0 = length pre }) ≡ PathAt.Path (length (stepsOf pre)) (length p) at (length (printPath p)))
   path-here b pre p ps e =
-      let x = after-set s fit hs ls (bitBytes b (6 * maskSize)) f rest in
+      let x = after-set s fit hs ls (bitBytes b allMasks) f rest in
       let r = path-in s fit (x .0) pre p ps e in
       (r .0, rw (x .1) (r .1))
 
@@ -184,14 +184,14 @@ module _ (s : FolderSet) (fit : Fitting s) (hs : List ℕ) (ls : List Link) (f :
       steps = omega (arith, ap length (steps-append pre (p ∷ [])), one-path p, length-append (stepsOf pre) (stepsOf (p ∷ [])), roles-length true p)
 
   -- so the pass over zeros gives the masks
-  pub masks-put : withMasks (assembled s hs ls (replicate (6 * maskSize) 0) f ++ rest) ≡ assembled s hs ls (masks s) f ++ rest
+  pub masks-put : withMasks (assembled s hs ls (replicate allMasks 0) f ++ rest) ≡ assembled s hs ls (masks s) f ++ rest
   unfolding withMasks
   masks-put =
-      rw (← bits-none (6 * maskSize), count)
+      rw (← bits-none allMasks, count)
       (all-bits-here (pathsOf s) [] (λ j. false) refl ∙ ap (λ (l : List ℕ). assembled s hs ls l f ++ rest) (start ∙ masks-are s (omega (arith, all-roles-length (pathsOf s), fit .steps, all-small))))
     where
       count : pathCount (bytes (λ j. false)) ≡ length (pathsOf s)
-      count = let x = after-set s fit hs ls (bitBytes (λ j. false) (6 * maskSize)) f rest in rw (x .1) (paths-read s fit (x .0))
+      count = let x = after-set s fit hs ls (bitBytes (λ j. false) allMasks) f rest in rw (x .1) (paths-read s fit (x .0))
 
-      start : bitBytes (roleBits (length (stepsOf [])) (roles s) (λ j. false)) (6 * maskSize) ≡ bitBytes (roleBits 0 (roles s) (λ j. false)) (6 * maskSize)
-      start = ap (λ (n : ℕ). bitBytes (roleBits n (roles s) (λ j. false)) (6 * maskSize)) no-steps
+      start : bitBytes (roleBits (length (stepsOf [])) (roles s) (λ j. false)) allMasks ≡ bitBytes (roleBits 0 (roles s) (λ j. false)) allMasks
+      start = ap (λ (n : ℕ). bitBytes (roleBits n (roles s) (λ j. false)) allMasks) no-steps

@@ -1,5 +1,5 @@
 -- The pass stores each label's parent and the length of its word, as the automaton's definition has them.
-use Prim.Native.Nat.{ℕ, suc, _+_, _*_, _≤_, _<_}
+use Prim.Native.Nat.{ℕ, suc, _+_, _≤_, _<_}
 use native.Mathlib.Omega.{arith}
 use mathlib.Core.Path.{_≡_, refl, sym, ap, ap₂, _∙_, subst}
 use mathlib.Core.Logic.{inl, inr}
@@ -24,18 +24,18 @@ use Rattle.notation.proofs.Laws.Stored.ReadPaths.{path-read, path-missing}
 use Rattle.theory.specs.Words.{document, name, Word, labelWords}
 use Rattle.theory.specs.Walk.{followedBy}
 use Rattle.theory.specs.Prefix.{IsPrefix}
-use Rattle.stored.specs.Automaton.{maskSize, linksAt, linkSize, Link, find, allSteps, allLabels, wordsIn, allWords, sameWord, stateIn, stateOf, shortened, heads, nexts, assembled}
+use Rattle.stored.specs.Automaton.{Link, find, allSteps, allLabels, wordsIn, allWords, sameWord, stateIn, stateOf, shortened, heads, nexts, assembled, parentIn, sizeIn, allMasks, linkEntryAt}
 use Rattle.stored.specs.Tables.{sizeAt, sizeOf, goto}
 use Rattle.stored.specs.Code.Parents.{startsAt, wordStored, labelled, tested, passedBy, passed, parented, outset}
 use Rattle.stored.specs.declared.place.Place.{Place}
 use Rattle.text.proofs.Laws.Tests.{cases, clash}
 use Rattle.stored.proofs.Laws.Bytes.Tabulate.{tabulate-length}
-use Rattle.stored.proofs.Laws.Tables.Assembled.{nextOf, parentOf, lengthOf, withParent, withLength, noLink, Sized, parent-put, size-put, size-read}
+use Rattle.stored.proofs.Laws.Tables.Assembled.{withParent, withLength, noLink, Sized, parent-put, size-put, size-read}
 use Rattle.stored.proofs.Laws.Tables.SetReads.{of-set, label-bytes, step-entry, step-count}
 use Rattle.stored.proofs.Laws.Tables.States.{same-word, word-same, shortened-followed, followed-last, words-count, word-ends, label-parent, state-followed}
 use Rattle.stored.proofs.Laws.Tables.Goto.{Chained, ParentAt, goto-word}
 use Rattle.stored.proofs.Laws.Tables.Linked.{chained-here, parent-here}
-use Rattle.stored.proofs.Laws.Building.Placed.{flagged, placed, flagged-next, flagged-parent, flagged-length, upTo, upTo-length, upTo-done, upTo-rest, upTo-step, upTo-all, find-first, words-short}
+use Rattle.stored.proofs.Laws.Building.Placed.{flagged, placed, upTo, upTo-length, upTo-done, upTo-rest, upTo-step, upTo-all, find-first, words-short}
 
 -- the word is empty, `#`, or that of a label below l
 data Seen (s : FolderSet) (l : ℕ) (w : Word) : Type 0 where
@@ -142,8 +142,8 @@ begin s i l begun w x v p ps h e q = record {
     steps-one [] y = omega (arith, length-append {A = Step} y [])
     steps-one (z ∷ g) y = omega (arith, length-append z (stepsOf (g ++ (y ∷ []))), length-append z (stepsOf g), steps-one g y)
 
-module _ (s : FolderSet) (fit : Fitting s) (ls : List Link) (ms : List ℕ) (f : ℕ) (rest : List ℕ) (count : length ls ≡ length (allLabels s)) (masks : length ms ≡ 6 * maskSize)
-    (next : (l : ℕ) → l < length (allLabels s) → nextOf (getD ls l noLink) ≡ getD (nexts 0 (allLabels s)) l 0) where
+module _ (s : FolderSet) (fit : Fitting s) (ls : List Link) (ms : List ℕ) (f : ℕ) (rest : List ℕ) (count : length ls ≡ length (allLabels s)) (masks : length ms ≡ allMasks)
+    (next : (l : ℕ) → l < length (allLabels s) → getD ls l noLink .next ≡ getD (nexts 0 (allLabels s)) l 0) where
   stage : ℕ → List ℕ
   stage l = assembled s (heads (allLabels s)) (upTo s ls l) ms f ++ rest
 
@@ -156,11 +156,11 @@ module _ (s : FolderSet) (fit : Fitting s) (ls : List Link) (ms : List ℕ) (f :
   sized : (ks : List Link) → length ks ≡ length (allLabels s) → Sized (heads (allLabels s)) ks ms
   sized ks e = record { heads = tabulate-length _ _; links = omega (arith, fit .labels, e); masks = masks }
 
-  nexts-kept : (l m : ℕ) → l ≤ length (allLabels s) → m < length (allLabels s) → nextOf (getD (upTo s ls l) m noLink) ≡ getD (nexts 0 (allLabels s)) m 0
+  nexts-kept : (l m : ℕ) → l ≤ length (allLabels s) → m < length (allLabels s) → getD (upTo s ls l) m noLink .next ≡ getD (nexts 0 (allLabels s)) m 0
   nexts-kept l m h k =
       cases (ltb m l)
-      (λ t. ap nextOf (upTo-done s ls counted l m (rw count h) (ltb-true m l t)) ∙ flagged-next s (getD (allWords s) m []) (getD ls m noLink) ∙ next m k)
-      (λ t. ap nextOf (upTo-rest s ls counted l m (rw count h) (ltb-false m l t)) ∙ next m k)
+      (λ t. ap (λ (k : Link). k .next) (upTo-done s ls counted l m (rw count h) (ltb-true m l t)) ∙ next m k)
+      (λ t. ap (λ (k : Link). k .next) (upTo-rest s ls counted l m (rw count h) (ltb-false m l t)) ∙ next m k)
 
   chains : (l : ℕ) → l ≤ length (allLabels s) → Chained s (stage l)
   unfolding stage
@@ -170,14 +170,14 @@ module _ (s : FolderSet) (fit : Fitting s) (ls : List Link) (ms : List ℕ) (f :
   unfolding stage
   parents l m h k =
       parent-here s fit (upTo s ls l) ms f (sized (upTo s ls l) (counts l)) rest (counts l) (λ m k. nexts-kept l m h k) m (omega arith)
-      (ap parentOf (upTo-done s ls counted l m (rw count h) k) ∙ flagged-parent s (getD (allWords s) m []) (getD ls m noLink))
+      (ap (λ (k : Link). k .parent) (upTo-done s ls counted l m (rw count h) k))
 
   -- the length of a word seen is stored
   size-at : (l m : ℕ) → l ≤ length (allLabels s) → m < l → sizeAt (stage l) m ≡ length (getD (allWords s) m [])
   unfolding stage maxLabels
   size-at l m h k =
-      let e : lengthOf (getD (upTo s ls l) m noLink) ≡ length (getD (allWords s) m []) =
-      ap lengthOf (upTo-done s ls counted l m (rw count h) k) ∙ flagged-length s (getD (allWords s) m []) (getD ls m noLink) in
+      let e : getD (upTo s ls l) m noLink .size ≡ length (getD (allWords s) m []) =
+      ap (λ (k : Link). k .size) (upTo-done s ls counted l m (rw count h) k) in
       size-read s fit (heads (allLabels s)) (upTo s ls l) ms f (sized (upTo s ls l) (counts l)) rest m (omega (arith, counts l))
       (omega (arith, e, words-short s m (omega (arith, words-count s)), fit .labels))
       ∙ e
@@ -215,8 +215,8 @@ module _ (s : FolderSet) (fit : Fitting s) (ls : List Link) (ms : List ℕ) (f :
         let n' : length ks' ≡ length (allLabels s) = length-set ks l p ∙ counts l in
         let size : sizeOf (stage l) (stateOf s w) + 1 ≡ length w + 1 = ap (λ (n : ℕ). n + 1) (size-here l w (omega arith) seen) in
         let m : withLength (length w + 1) p ≡ flagged s (getD (allWords s) l []) k = rw (word, shortened-followed w e, length-append w (name e ∷ [])) in
-        ap (λ (n : ℕ). sets (sets (stage l) (linksAt + linkSize * l + 2) (le16 (stateOf s w))) (linksAt + linkSize * l + 6) (le16 n)) size
-        ∙ ap (λ (a : List ℕ). sets a (linksAt + linkSize * l + 6) (le16 (length w + 1)))
+        ap (λ (n : ℕ). sets (sets (stage l) (linkEntryAt l + parentIn) (le16 (stateOf s w))) (linkEntryAt l + sizeIn) (le16 n)) size
+        ∙ ap (λ (a : List ℕ). sets a (linkEntryAt l + sizeIn) (le16 (length w + 1)))
         (parent-put s fit (heads (allLabels s)) ks ms f (sized ks (counts l)) rest l (stateOf s w) b
         ∙ ap (λ (x : Link). assembled s (heads (allLabels s)) (set ks l (withParent (stateOf s w) x)) ms f ++ rest) here)
         ∙ size-put s fit (heads (allLabels s)) ks' ms f (sized ks' n') rest l (length w + 1) (omega (arith, n'))

@@ -17,7 +17,7 @@ use Rattle.theory.specs.Walk.{followedBy}
 use Rattle.stored.specs.Automaton.{Link, link, find, wordsIn, allWords, stateOf, shortened}
 use Rattle.text.proofs.Laws.Tests.{cases}
 use Rattle.stored.proofs.Laws.Bytes.Finding.{find-here, find-later}
-use Rattle.stored.proofs.Laws.Tables.Assembled.{nextOf, parentOf, lengthOf, withParent, withLength, noLink}
+use Rattle.stored.proofs.Laws.Tables.Assembled.{withParent, withLength, noLink}
 
 -- a label's link with the parent and the length of its word
 abbrev pub flagged : FolderSet → Word → Link → Link
@@ -40,15 +40,6 @@ placed-at s [] ls l h k = absurd (not-suc-le-zero h)
 placed-at s (w ∷ ws) [] l h k = absurd (not-suc-le-zero k)
 placed-at s (w ∷ ws) (x ∷ ls) zero h k = refl
 placed-at s (w ∷ ws) (x ∷ ls) (suc l) h k = placed-at s ws ls l (le-of-suc-le-suc h) (le-of-suc-le-suc k)
-
-pub flagged-next : (s : FolderSet) (w : Word) (k : Link) → nextOf (flagged s w k) ≡ nextOf k
-flagged-next s w (link n p x z) = refl
-
-pub flagged-parent : (s : FolderSet) (w : Word) (k : Link) → parentOf (flagged s w k) ≡ stateOf s (shortened w)
-flagged-parent s w (link n p x z) = refl
-
-pub flagged-length : (s : FolderSet) (w : Word) (k : Link) → lengthOf (flagged s w k) ≡ length w
-flagged-length s w (link n p x z) = refl
 
 -- stored for the labels below l
 abbrev pub upTo : FolderSet → List Link → ℕ → List Link

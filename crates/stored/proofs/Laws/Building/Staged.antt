@@ -1,5 +1,5 @@
 -- An automaton in the making that has all its links but for some failure links, which are still 0: its tables can be walked.
-use Prim.Native.Nat.{ℕ, suc, _*_, _≤_, _<_}
+use Prim.Native.Nat.{ℕ, suc, _≤_, _<_}
 use mathlib.Core.Path.{_≡_, refl, _∙_, ap}
 use mathlib.Core.Logic.{_⊎_, inl, inr}
 use mathlib.Core.List.{List, [], _∷_, _++_}
@@ -11,12 +11,12 @@ use Rattle.notation.specs.Reads.{labelCount}
 use Rattle.notation.proofs.Laws.Refused.Fitting.{Fitting}
 use Rattle.theory.specs.Words.{name, Word}
 use Rattle.theory.specs.Prefix.{IsPrefix, failure}
-use Rattle.stored.specs.Automaton.{hashes, maskSize, automatonSize, allLabels, allWords, stateOf, shortened, heads, nexts, Link, assembled}
+use Rattle.stored.specs.Automaton.{hashes, automatonSize, allLabels, allWords, stateOf, shortened, heads, nexts, Link, assembled, allMasks}
 use Rattle.stored.specs.Tables.{failAt, sizeAt, sizeOf}
 use Rattle.stored.specs.Code.Fails.{Growing}
 use Rattle.theory.proofs.Laws.Keywords.Prefix.{failure-is}
 use Rattle.stored.proofs.Laws.Bytes.Tabulate.{tabulate-length}
-use Rattle.stored.proofs.Laws.Tables.Assembled.{nextOf, parentOf, failureOf, lengthOf, noLink, Sized, assembled-length, fail-read, size-read}
+use Rattle.stored.proofs.Laws.Tables.Assembled.{noLink, Sized, assembled-length, fail-read, size-read}
 use Rattle.stored.proofs.Laws.Tables.SetReads.{label-count}
 use Rattle.stored.proofs.Laws.Tables.States.{StateKind, ofEmpty, ofRoot, ofLabel, state-kind, word-ends, label-parent, shortened-followed, state-within}
 use Rattle.stored.proofs.Laws.Tables.Goto.{Linked}
@@ -32,10 +32,10 @@ failureAt s l = stateOf s (failure s (wordAt s l))
 -- the links are those of the set, but for failure links that are 0
 pub record Links (s : FolderSet) (ls : List Link) : Type 0 where
   pub count : length ls ≡ length (allLabels s)
-  pub next : (l : ℕ) → l < length (allLabels s) → nextOf (getD ls l noLink) ≡ getD (nexts 0 (allLabels s)) l 0
-  pub parent : (l : ℕ) → l < length (allLabels s) → parentOf (getD ls l noLink) ≡ stateOf s (shortened (wordAt s l))
-  pub fail : (l : ℕ) → l < length (allLabels s) → (failureOf (getD ls l noLink) ≡ 0) ⊎ (failureOf (getD ls l noLink) ≡ failureAt s l)
-  pub size : (l : ℕ) → l < length (allLabels s) → lengthOf (getD ls l noLink) ≡ length (wordAt s l)
+  pub next : (l : ℕ) → l < length (allLabels s) → getD ls l noLink .next ≡ getD (nexts 0 (allLabels s)) l 0
+  pub parent : (l : ℕ) → l < length (allLabels s) → getD ls l noLink .parent ≡ stateOf s (shortened (wordAt s l))
+  pub fail : (l : ℕ) → l < length (allLabels s) → (getD ls l noLink .fail ≡ 0) ⊎ (getD ls l noLink .fail ≡ failureAt s l)
+  pub size : (l : ℕ) → l < length (allLabels s) → getD ls l noLink .size ≡ length (wordAt s l)
 
 -- no word is longer than the longest path with `#`
 abbrev pub Short : FolderSet → Type 0
@@ -55,7 +55,7 @@ fail-prefix s (t ∷ w) h = (failure-is s t w .starts, failure-is s t w .proper)
 pub failure-prefix : (s : FolderSet) (l : ℕ) → l < length (allLabels s) → IsPrefix s (failure s (wordAt s l)) × (length (failure s (wordAt s l)) < length (wordAt s l))
 failure-prefix s l h = fail-prefix s (wordAt s l) (omega (arith, word-size s l h))
 
-module _ (s : FolderSet) (fit : Fitting s) (short : Short s) (ms : List ℕ) (f : ℕ) (masks : length ms ≡ 6 * maskSize) (rest : List ℕ) where
+module _ (s : FolderSet) (fit : Fitting s) (short : Short s) (ms : List ℕ) (f : ℕ) (masks : length ms ≡ allMasks) (rest : List ℕ) where
   abbrev pub stage : List Link → List ℕ
   stage ls = assembled s (heads (allLabels s)) ls ms f ++ rest
 
@@ -73,14 +73,14 @@ module _ (s : FolderSet) (fit : Fitting s) (short : Short s) (ms : List ℕ) (f 
     unfolding maxSteps
     size-here l h = size-read s fit (heads (allLabels s)) ls ms f sized rest l (rw (k .count) h) (rw (k .size l h) (omega (arith, short l h))) ∙ k .size l h
 
-    fail-small : (l : ℕ) → l < length (allLabels s) → failureOf (getD ls l noLink) ≤ suc (length (allLabels s))
+    fail-small : (l : ℕ) → l < length (allLabels s) → getD ls l noLink .fail ≤ suc (length (allLabels s))
     fail-small l h = go (k .fail l h)
       where
-        go : (failureOf (getD ls l noLink) ≡ 0) ⊎ (failureOf (getD ls l noLink) ≡ failureAt s l) → failureOf (getD ls l noLink) ≤ suc (length (allLabels s))
+        go : (getD ls l noLink .fail ≡ 0) ⊎ (getD ls l noLink .fail ≡ failureAt s l) → getD ls l noLink .fail ≤ suc (length (allLabels s))
         go (inl e) = omega arith
         go (inr e) = rw e (state-within s (failure s (wordAt s l)) (failure-prefix s l h .0))
 
-    pub fail-here : (l : ℕ) → l < length (allLabels s) → failAt (stage ls) l ≡ failureOf (getD ls l noLink)
+    pub fail-here : (l : ℕ) → l < length (allLabels s) → failAt (stage ls) l ≡ getD ls l noLink .fail
     unfolding maxLabels
     fail-here l h = fail-read s fit (heads (allLabels s)) ls ms f sized rest l (rw (k .count) h) (omega (arith, fail-small l h, fit .labels))
 
@@ -101,7 +101,7 @@ module _ (s : FolderSet) (fit : Fitting s) (short : Short s) (ms : List ℕ) (f 
     falls-here : (l : ℕ) → l < length (allLabels s) → sizeOf (stage ls) (failAt (stage ls) l) < sizeAt (stage ls) l
     falls-here l h = rw (fail-here l h, size-here l h) (go (k .fail l h))
       where
-        go : (failureOf (getD ls l noLink) ≡ 0) ⊎ (failureOf (getD ls l noLink) ≡ failureAt s l) → sizeOf (stage ls) (failureOf (getD ls l noLink)) < length (wordAt s l)
+        go : (getD ls l noLink .fail ≡ 0) ⊎ (getD ls l noLink .fail ≡ failureAt s l) → sizeOf (stage ls) (getD ls l noLink .fail) < length (wordAt s l)
         go (inl e) = rw (e, size-zero) (omega (arith, word-size s l h))
         go (inr e) = let p = failure-prefix s l h in rw (e, size-state (failure s (wordAt s l)) (p .0)) (p .1)
 

@@ -5,6 +5,7 @@ use mathlib.Core.List.{List, [], _∷_, _++_, append-assoc}
 use native.Mathlib.Omega.{arith}
 use lib.ListN.{length, getD, take, drop, set, length-append, length-drop, List·getD-append}
 use lib.Seq.{sets, sets-eq, length-take-le, getD-set-other, getD-take, getD-append-add, drop-set-lt, drop-append-add, drop-drop}
+use Rattle.notation.specs.Layout.{wordSize}
 use Rattle.text.specs.Bytes.{le16}
 use Rattle.notation.specs.Reads.{word16}
 use Rattle.notation.proofs.Laws.Stored.Stands.{Stands}
@@ -26,7 +27,7 @@ rest-behind (v ∷ vs) l i n h = rest-behind vs (set l i v) (suc i) n (omega ari
 stored-stands : (vs l : List ℕ) (i : ℕ) → i + length vs ≤ length l → Stands i vs (sets l i vs)
 stored-stands vs l i h = record { before = take i l; after = drop (i + length vs) l; split = sets-eq vs l i h ∙ append-assoc (take i l) vs (drop (i + length vs) l); size = length-take-le i l (omega arith) }
 
-pub word-stored : (l : List ℕ) (i v : ℕ) → i + 2 ≤ length l → v < 65536 → word16 (sets l i (le16 v)) i ≡ v
+pub word-stored : (l : List ℕ) (i v : ℕ) → i + wordSize ≤ length l → v < 65536 → word16 (sets l i (le16 v)) i ≡ v
 word-stored l i v h k = word-read v i k (stored-stands (le16 v) l i h)
 
 pub word-same : (l l' : List ℕ) (i j : ℕ) → getD l i 0 ≡ getD l' j 0 → getD l (i + 1) 0 ≡ getD l' (j + 1) 0 → word16 l i ≡ word16 l' j

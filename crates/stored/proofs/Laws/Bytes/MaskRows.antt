@@ -1,4 +1,4 @@
--- The six masks as one row of bits: how it is made step by step, and that it is the masks of the set.
+-- The masks as one row of bits: how it is made step by step, and that it is the masks of the set.
 use Prim.Native.Nat.{ℕ, zero, suc, _+_, _-_, _*_, _≤_, _<_}
 use mathlib.Core.Path.{_≡_, refl, sym, _∙_, ap, ap₂}
 use mathlib.Core.Bool.{Bool, true, false, _&&_, _||_}
@@ -8,9 +8,9 @@ use native.Mathlib.Omega.{arith}
 use borrow.Author.Tests.{eq-eqb, ne-eqb, eqb-true, eqb-false, le-leb, lt-leb, leb-true, leb-false}
 use lib.Dec.{eqb, leb}
 use lib.ListN.{length, replicate}
-use Rattle.notation.specs.Sets.{child, descendant, Test, step, FolderSet, axisOf, testOf}
+use Rattle.notation.specs.Sets.{Axis, child, descendant, Test, step, FolderSet, axisOf, testOf}
 use Rattle.notation.specs.Reads.{isDescendant, isStar}
-use Rattle.stored.specs.Automaton.{maskSize, tabulate, packed, byteOf, bitBytes, Role, role, roles, roleAt, mask, masks, isLastRole, maskTest}
+use Rattle.stored.specs.Automaton.{maskSize, starMask, childMask, descendantMask, anywhereMask, rootMask, lastMask, maskCount, allMasks, tabulate, packed, byteOf, bitBytes, Role, role, roles, roleAt, maskTest, masksFrom, masks}
 use Rattle.stored.specs.Code.Masks.{axisMask}
 use Rattle.text.proofs.Laws.Tests.{cases, both, both-true}
 use Rattle.stored.proofs.Laws.Bytes.Tabulate.{tabulate-same, tabulate-constant}
@@ -61,7 +61,7 @@ flags on j b k = (on && eqb k j) || b k
 
 -- the bits of step i
 abbrev pub flagBits : ℕ → Role → (ℕ → Bool) → ℕ → Bool
-flagBits i (role st first last) b = flags last (place 5 i) (flags true (place (axisMask first (isDescendant (axisOf st))) i) (flags (isStar (testOf st)) (place 0 i) b))
+flagBits i (role st first last) b = flags last (place lastMask i) (flags true (place (axisMask first (isDescendant (axisOf st))) i) (flags (isStar (testOf st)) (place starMask i) b))
 
 -- and of all steps from i on
 unfoldable pub roleBits : ℕ → List Role → (ℕ → Bool) → ℕ → Bool
@@ -102,61 +102,38 @@ or-none true false = refl
 or-none false true = refl
 or-none false false = refl
 
--- whether mask m has a step, of its axis, `*`, and whether it is first and last
-child-mask : (m : ℕ) → m < 6 → (t : Test) (first last : Bool) → maskTest m (role (step child t) first last) ≡ ((eqb m 5 && last) || (eqb m (axisMask first false) || (eqb m 0 && isStar t)))
-child-mask zero h t true last = refl
-child-mask zero h t false last = refl
-child-mask (suc zero) h t true last = refl
-child-mask (suc zero) h t false last = refl
-child-mask (suc (suc zero)) h t true last = refl
-child-mask (suc (suc zero)) h t false last = refl
-child-mask (suc (suc (suc zero))) h t true last = refl
-child-mask (suc (suc (suc zero))) h t false last = refl
-child-mask (suc (suc (suc (suc zero)))) h t true last = refl
-child-mask (suc (suc (suc (suc zero)))) h t false last = refl
-child-mask (suc (suc (suc (suc (suc zero))))) h t true last = sym (or-no last)
-child-mask (suc (suc (suc (suc (suc zero))))) h t false last = sym (or-no last)
-child-mask (suc (suc (suc (suc (suc (suc m)))))) h t first last = absurd (omega arith)
+-- what holds of each mask holds of mask m
+each-mask : (P : ℕ → Type 0) → P starMask → P childMask → P descendantMask → P anywhereMask → P rootMask → P lastMask → (m : ℕ) → m < maskCount → P m
+each-mask P s c d a r l zero h = s
+each-mask P s c d a r l (suc zero) h = c
+each-mask P s c d a r l (suc (suc zero)) h = d
+each-mask P s c d a r l (suc (suc (suc zero))) h = a
+each-mask P s c d a r l (suc (suc (suc (suc zero)))) h = r
+each-mask P s c d a r l (suc (suc (suc (suc (suc zero))))) h = l
+each-mask P s c d a r l (suc (suc (suc (suc (suc (suc m)))))) h = absurd (omega arith)
 
-deep-mask : (m : ℕ) → m < 6 → (t : Test) (first last : Bool) → maskTest m (role (step descendant t) first last) ≡ ((eqb m 5 && last) || (eqb m (axisMask first true) || (eqb m 0 && isStar t)))
-deep-mask zero h t true last = refl
-deep-mask zero h t false last = refl
-deep-mask (suc zero) h t true last = refl
-deep-mask (suc zero) h t false last = refl
-deep-mask (suc (suc zero)) h t true last = refl
-deep-mask (suc (suc zero)) h t false last = refl
-deep-mask (suc (suc (suc zero))) h t true last = refl
-deep-mask (suc (suc (suc zero))) h t false last = refl
-deep-mask (suc (suc (suc (suc zero)))) h t true last = refl
-deep-mask (suc (suc (suc (suc zero)))) h t false last = refl
-deep-mask (suc (suc (suc (suc (suc zero))))) h t true last = sym (or-no last)
-deep-mask (suc (suc (suc (suc (suc zero))))) h t false last = sym (or-no last)
-deep-mask (suc (suc (suc (suc (suc (suc m)))))) h t first last = absurd (omega arith)
+-- whether mask m has a step, of its axis, `*`, and whether it is first and last
+abbrev Has : Axis → Test → Bool → Bool → ℕ → Type 0
+Has a t first last m = maskTest m (role (step a t) first last) ≡ ((eqb m lastMask && last) || (eqb m (axisMask first (isDescendant a)) || (eqb m starMask && isStar t)))
+
+mask-has : (a : Axis) (t : Test) (first last : Bool) (m : ℕ) → m < maskCount → Has a t first last m
+mask-has child t true last = each-mask (Has child t true last) refl refl refl refl refl (sym (or-no last))
+mask-has child t false last = each-mask (Has child t false last) refl refl refl refl refl (sym (or-no last))
+mask-has descendant t true last = each-mask (Has descendant t true last) refl refl refl refl refl (sym (or-no last))
+mask-has descendant t false last = each-mask (Has descendant t false last) refl refl refl refl refl (sym (or-no last))
 
 -- the three bits of a step, where x: it is this step
 three : (p q r l s x b : Bool) → ((l && (p && x)) || ((q && x) || ((s && (r && x)) || b))) ≡ (b || (x && ((p && l) || (q || (r && s)))))
 three p q r l s true b = rw (and-yes p, and-yes q, and-yes r, and-swap l p, and-swap s r) (or-last (p && l) q (r && s) b)
 three p q r l s false b = rw (and-no p, and-no q, and-no r, and-no l, and-no s) (sym (or-no b))
 
--- bit by bit
-one-step : (m : ℕ) → m < 6 → (t : Test) (first last x b : Bool)
-    → ((last && (eqb m 5 && x)) || ((true && (eqb m (axisMask first false) && x)) || ((isStar t && (eqb m 0 && x)) || b))) ≡ (b || (x && maskTest m (role (step child t) first last)))
-one-step m h t first last x b =
-    three (eqb m 5) (eqb m (axisMask first false)) (eqb m 0) last (isStar t) x b ∙ ap (λ (y : Bool). b || (x && y)) (sym (child-mask m h t first last))
-
-one-deep : (m : ℕ) → m < 6 → (t : Test) (first last x b : Bool)
-    → ((last && (eqb m 5 && x)) || ((true && (eqb m (axisMask first true) && x)) || ((isStar t && (eqb m 0 && x)) || b))) ≡ (b || (x && maskTest m (role (step descendant t) first last)))
-one-deep m h t first last x b =
-    three (eqb m 5) (eqb m (axisMask first true)) (eqb m 0) last (isStar t) x b ∙ ap (λ (y : Bool). b || (x && y)) (sym (deep-mask m h t first last))
-
-module _ (m : ℕ) (small : m < 6) (j : ℕ) (hj : j < 8 * maskSize) where
+module _ (m : ℕ) (small : m < maskCount) (j : ℕ) (hj : j < 8 * maskSize) where
   role-bit : (i : ℕ) → i < 8 * maskSize → (r : Role) (b : ℕ → Bool) → flagBits i r b (place m j) ≡ (b (place m j) || (eqb j i && maskTest m r))
-  role-bit i hi (role (step child t) first last) b =
-      rw (place-same m 5 j i hj hi, place-same m (axisMask first false) j i hj hi, place-same m 0 j i hj hi)
-      (one-step m small t first last (eqb j i) (b (place m j)))
-  role-bit i hi (role (step descendant t) first last) b =
-      rw (place-same m 5 j i hj hi, place-same m (axisMask first true) j i hj hi, place-same m 0 j i hj hi)
-      (one-deep m small t first last (eqb j i) (b (place m j)))
+  role-bit i hi (role (step a t) first last) b =
+      let axis = axisMask first (isDescendant a) in
+      rw (place-same m lastMask j i hj hi, place-same m axis j i hj hi, place-same m starMask j i hj hi)
+      (three (eqb m lastMask) (eqb m axis) (eqb m starMask) last (isStar t) (eqb j i) (b (place m j))
+      ∙ ap (λ (y : Bool). b (place m j) || (eqb j i && y)) (sym (mask-has a t first last m small)))
 
   pub roles-bit : (rs : List Role) (i : ℕ) (b : ℕ → Bool) → i + length rs ≤ 8 * maskSize
       → roleBits i rs b (place m j) ≡ (b (place m j) || (leb i j && roleAt (maskTest m) rs (j - i)))
@@ -191,34 +168,28 @@ module _ (m : ℕ) (small : m < 6) (j : ℕ) (hj : j < 8 * maskSize) where
   pub all-bits : (rs : List Role) → length rs ≤ 8 * maskSize → roleBits 0 rs (λ k. false) (place m j) ≡ roleAt (maskTest m) rs j
   all-bits rs h = roles-bit rs 0 (λ k. false) (omega arith) ∙ rw (le-leb 0 j (omega arith), sub-zero)
 
--- c masks from mask m on, one after the other
-unfoldable pub rowsOf : ℕ → ℕ → List Role → List ℕ
-rowsOf zero m rs = []
-rowsOf (suc c) m rs = bitBytes (roleAt (maskTest m) rs) maskSize ++ rowsOf c (suc m) rs
-
-module _ (rs : List Role) where
-  rows-are : (c m : ℕ) (b : ℕ → Bool) → ((n : ℕ) → n < c → (i : ℕ) → i < 8 * maskSize → b (place n i) ≡ roleAt (maskTest (m + n)) rs i) → bitBytes b (maskSize * c) ≡ rowsOf c m rs
-  unfolding rowsOf tabulate maskSize
-  rows-are zero m b h = refl
-  rows-are (suc c) m b h =
-      let size : 256 * suc c ≡ 256 + 256 * c = omega arith in
-      rw (size, bits-split b 256 (256 * c)) (ap₂ (λ (x y : List ℕ). x ++ y) (bits-same b (roleAt (maskTest m) rs) 256 first) (rows-are c (suc m) (λ j. b (8 * 256 + j)) later))
-    where
-      first : (i : ℕ) → i < 8 * 256 → b i ≡ roleAt (maskTest m) rs i
-      first i k = let e : i ≡ place 0 i = omega arith in ap b e ∙ h 0 (omega arith) i k ∙ ap (λ (n : ℕ). roleAt (maskTest n) rs i) (add-zero m)
-
-      later : (n : ℕ) → n < c → (i : ℕ) → i < 8 * 256 → b (8 * 256 + place n i) ≡ roleAt (maskTest (suc m + n)) rs i
-      later n k i l =
-          let e : 8 * 256 + place n i ≡ place (suc n) i = omega arith in
-          let f : m + suc n ≡ suc m + n = omega arith in
-          ap b e ∙ h (suc n) (omega arith) i l ∙ ap (λ (x : ℕ). roleAt (maskTest x) rs i) f
-
--- the masks of a set, from the bits of its steps
-pub masks-are : (s : FolderSet) → length (roles s) ≤ 8 * maskSize → bitBytes (roleBits 0 (roles s) (λ k. false)) (6 * maskSize) ≡ masks s
-unfolding masks rowsOf
-masks-are s h =
-    let size : 6 * maskSize ≡ maskSize * 6 = omega arith in
-    rw size (rows-are (roles s) 6 0 (roleBits 0 (roles s) (λ k. false)) bits ∙ rw (append-nil (mask isLastRole s)))
+-- the masks of a set from mask m on, from the bits of its steps
+rows-are : (s : FolderSet) (c m : ℕ) (b : ℕ → Bool) → ((n : ℕ) → n < c → (i : ℕ) → i < 8 * maskSize → b (place n i) ≡ roleAt (maskTest (m + n)) (roles s) i)
+    → bitBytes b (maskSize * c) ≡ masksFrom c m s
+unfolding masksFrom tabulate maskSize
+rows-are s zero m b h = refl
+rows-are s (suc c) m b h =
+    let size : maskSize * suc c ≡ maskSize + maskSize * c = omega arith in
+    rw (size, bits-split b maskSize (maskSize * c)) (ap₂ (λ (x y : List ℕ). x ++ y) (bits-same b (roleAt (maskTest m) (roles s)) maskSize first) (rows-are s c (suc m) (λ j. b (8 * maskSize + j)) later))
   where
-    bits : (m : ℕ) → m < 6 → (i : ℕ) → i < 8 * maskSize → roleBits 0 (roles s) (λ k. false) (place m i) ≡ roleAt (maskTest (0 + m)) (roles s) i
+    first : (i : ℕ) → i < 8 * maskSize → b i ≡ roleAt (maskTest m) (roles s) i
+    first i k = let e : i ≡ place 0 i = omega arith in ap b e ∙ h 0 (omega arith) i k ∙ ap (λ (n : ℕ). roleAt (maskTest n) (roles s) i) (add-zero m)
+
+    later : (n : ℕ) → n < c → (i : ℕ) → i < 8 * maskSize → b (8 * maskSize + place n i) ≡ roleAt (maskTest (suc m + n)) (roles s) i
+    later n k i l =
+        let e : 8 * maskSize + place n i ≡ place (suc n) i = omega arith in
+        let f : m + suc n ≡ suc m + n = omega arith in
+        ap b e ∙ h (suc n) (omega arith) i l ∙ ap (λ (x : ℕ). roleAt (maskTest x) (roles s) i) f
+
+pub masks-are : (s : FolderSet) → length (roles s) ≤ 8 * maskSize → bitBytes (roleBits 0 (roles s) (λ k. false)) allMasks ≡ masks s
+masks-are s h =
+    let size : allMasks ≡ maskSize * maskCount = omega arith in
+    rw size (rows-are s maskCount starMask (roleBits 0 (roles s) (λ k. false)) bits)
+  where
+    bits : (m : ℕ) → m < maskCount → (i : ℕ) → i < 8 * maskSize → roleBits 0 (roles s) (λ k. false) (place m i) ≡ roleAt (maskTest (starMask + m)) (roles s) i
     bits m k i l = let e : m ≡ 0 + m = omega arith in all-bits m k i l (roles s) h ∙ ap (λ (n : ℕ). roleAt (maskTest n) (roles s) i) e

@@ -10,13 +10,13 @@ use lib.ListN.{length, set, take, replicate}
 use lib.Seq.{sets, take-at}
 use Rattle.text.specs.Names.{maxName}
 use Rattle.text.specs.Bytes.{le16, padded}
-use Rattle.notation.specs.Reads.{word16, labelEntryAt}
+use Rattle.notation.specs.Reads.{labelStep}
 use Rattle.text.specs.Lists.{any}
 use Rattle.notation.proofs.Laws.Fill.Padded.{padded-none, sets-padded}
 use Rattle.stored.specs.Chain.{chainLabels}
 use Rattle.stored.specs.Automaton.{maskSize, byteOf, bitBytes, tabulate}
 use Rattle.stored.specs.Bits.{bitOf, bitAt}
-use Rattle.stored.specs.Run.{matchesAt}
+use Rattle.stored.specs.Run.{matchesAt, depthAt}
 use Rattle.stored.specs.RunCalls.{depthOf, usedBytes, usedBits, stepBits, candidate, nowActive, nowSeen, nowMatched, openWalk, rowOpened, withRow, openRun}
 use Rattle.stored.specs.Code.OpenSteps.{takenActive, takenSeen, takenMatched}
 use Rattle.stored.proofs.Laws.Bytes.Bits.{bits-bit}
@@ -49,7 +49,7 @@ unfolding padded
 used-part n k vs h = take-at vs _ k h
 
 -- with the labels of a name, the bits are those of an open
-module _ (a run e taken : List ℕ) (d used : ℕ) (h : (i : ℕ) → bitAt taken i ≡ (bitAt (replicate maskSize 0) i || any (λ l. eqb (word16 a (labelEntryAt l + 4)) i) (chainLabels a e)))
+module _ (a run e taken : List ℕ) (d used : ℕ) (h : (i : ℕ) → bitAt taken i ≡ (bitAt (replicate maskSize 0) i || any (λ l. eqb (labelStep a l) i) (chainLabels a e)))
     (all : used ≡ usedBytes a) (room : usedBytes a ≤ maskSize) (deep : d ≡ depthOf run) where
   active-is : (i : ℕ) → i < 8 * usedBytes a → takenActive a run taken d i ≡ nowActive a run e i
   unfolding nowActive candidate
@@ -81,6 +81,6 @@ module _ (a run e taken : List ℕ) (d used : ℕ) (h : (i : ℕ) → bitAt take
 -- the run that the code leaves is the one of the contract
 pub opened : (a run e active seen matched : List ℕ) (d state : ℕ) → d ≡ depthOf run → state ≡ openWalk a run e .state
     → active ≡ stepBits a (nowActive a run e) → seen ≡ stepBits a (nowSeen a run e) → matched ≡ usedBits a (nowMatched a run e)
-    → sets (sets (withRow run (suc d) (length e ∷ (padded maxName e ++ (le16 state ++ (active ++ seen))))) matchesAt matched) 0 (le16 (d + 1)) ≡ openRun a run e
+    → sets (sets (withRow run (suc d) (length e ∷ (padded maxName e ++ (le16 state ++ (active ++ seen))))) matchesAt matched) depthAt (le16 (d + 1)) ≡ openRun a run e
 unfolding openRun rowOpened
 opened a run e active seen matched d state is q x y z = rw (add-one d, x, y, z, q, is)

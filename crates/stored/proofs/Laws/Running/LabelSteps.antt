@@ -14,7 +14,7 @@ use Rattle.text.specs.Names.{Name, sameName}
 use Rattle.notation.specs.Sets.{Test, label, star, Step, Path, FolderSet, testOf}
 use Rattle.notation.specs.Form.{pathsOf, stepsOf, labelOf, labelsOf}
 use Rattle.text.specs.Lists.{any}
-use Rattle.notation.specs.Reads.{word16, labelEntryAt}
+use Rattle.notation.specs.Reads.{labelStep}
 use Rattle.notation.proofs.Laws.Stored.PathTable.{stepsBefore}
 use Rattle.notation.proofs.Laws.Stored.LabelTable.{noStep}
 use Rattle.stored.specs.Automaton.{allSteps, allLabels, Role, role, roles, rolesIn, roleAt}
@@ -111,31 +111,31 @@ module _ (s : FolderSet) (a : List ℕ) (c : Compiled s a) where
   ss = allSteps s
 
   -- step i is a label of this name exactly if it is stored for one of the labels on the name's chain that have the name
-  pub label-bits : (e : Name) (i : ℕ) → any (λ l. eqb (word16 a (labelEntryAt l + 4)) i) (chainLabels a e) ≡ roleAt (isLabelRole e) (roles s) i
+  pub label-bits : (e : Name) (i : ℕ) → any (λ l. eqb (labelStep a l) i) (chainLabels a e) ≡ roleAt (isLabelRole e) (roles s) i
   label-bits e i =
       rw (c .chain e)
-      (same-test (any (λ l. eqb (word16 a (labelEntryAt l + 4)) i) (placesOf e 0 (allLabels s))) (roleAt (isLabelRole e) (roles s) i) there' back)
+      (same-test (any (λ l. eqb (labelStep a l) i) (placesOf e 0 (allLabels s))) (roleAt (isLabelRole e) (roles s) i) there' back)
     where
-      there' : any (λ l. eqb (word16 a (labelEntryAt l + 4)) i) (placesOf e 0 (allLabels s)) ≡ true → roleAt (isLabelRole e) (roles s) i ≡ true
+      there' : any (λ l. eqb (labelStep a l) i) (placesOf e 0 (allLabels s)) ≡ true → roleAt (isLabelRole e) (roles s) i ≡ true
       there' t =
-          let r = any-is (λ l. eqb (word16 a (labelEntryAt l + 4)) i) (placesOf e 0 (allLabels s)) t in
+          let r = any-is (λ l. eqb (labelStep a l) i) (placesOf e 0 (allLabels s)) t in
           let q = in-named e 0 (allLabels s) (r .0) (r .1) in
           let l = q .0 in
           let is : r .0 ≡ l = omega (arith, q .2) in
           let x = c .owner l (q .1) in
-          let at : word16 a (labelEntryAt l + 4) ≡ i = ap (λ (n : ℕ). word16 a (labelEntryAt n + 4)) (sym is) ∙ eqb-true (word16 a (labelEntryAt (r .0) + 4)) i (r .2) in
-          rw (← at) (role-step e (pathsOf s) (word16 a (labelEntryAt l + 4)) (x .below) ∙ rw (x .test) (q .3))
+          let at : labelStep a l ≡ i = ap (λ (n : ℕ). labelStep a n) (sym is) ∙ eqb-true (labelStep a (r .0)) i (r .2) in
+          rw (← at) (role-step e (pathsOf s) (labelStep a l) (x .below) ∙ rw (x .test) (q .3))
 
-      inside : i < length ss → roleAt (isLabelRole e) (roles s) i ≡ true → any (λ l. eqb (word16 a (labelEntryAt l + 4)) i) (placesOf e 0 (allLabels s)) ≡ true
+      inside : i < length ss → roleAt (isLabelRole e) (roles s) i ≡ true → any (λ l. eqb (labelStep a l) i) (placesOf e 0 (allLabels s)) ≡ true
       inside h t =
           let y = is-label e (testOf (getD ss i noStep)) (sym (role-step e (pathsOf s) i h) ∙ t) in
           let l = length (labelsOf (take i ss)) in
           let z = label-here ss i (y .0) h (y .1) in
           let x = c .owner l (z .0) in
-          let at : word16 a (labelEntryAt l + 4) ≡ i = label-one ss (word16 a (labelEntryAt l + 4)) i (getD (allLabels s) l []) (y .0) (x .below) h (x .test) (y .1) (x .nth) in
+          let at : labelStep a l ≡ i = label-one ss (labelStep a l) i (getD (allLabels s) l []) (y .0) (x .below) h (x .test) (y .1) (x .nth) in
           let n : getD (allLabels s) l [] ≡ e = z .1 ∙ y .2 in
-          is-any (λ l. eqb (word16 a (labelEntryAt l + 4)) i) (placesOf e 0 (allLabels s)) (named-in e 0 (allLabels s) l (z .0) (rw n (name-same e)))
-          (rw (zero-add l) (eq-eqb (word16 a (labelEntryAt l + 4)) i at))
+          is-any (λ l. eqb (labelStep a l) i) (placesOf e 0 (allLabels s)) (named-in e 0 (allLabels s) l (z .0) (rw n (name-same e)))
+          (rw (zero-add l) (eq-eqb (labelStep a l) i at))
 
-      back : roleAt (isLabelRole e) (roles s) i ≡ true → any (λ l. eqb (word16 a (labelEntryAt l + 4)) i) (placesOf e 0 (allLabels s)) ≡ true
+      back : roleAt (isLabelRole e) (roles s) i ≡ true → any (λ l. eqb (labelStep a l) i) (placesOf e 0 (allLabels s)) ≡ true
       back t = cases (ltb i (length ss)) (λ h. inside (ltb-true i (length ss) h) t) (λ h. clash t (role-past (isLabelRole e) (pathsOf s) i (ltb-false i (length ss) h)))

@@ -18,9 +18,9 @@ use Rattle.notation.specs.Activity.{takes, byAxis, allowed, here, isEmpty, acti
 use Rattle.notation.proofs.Laws.Meaning.Innermost.{active-more, seen-more}
 use Rattle.notation.proofs.Laws.Stored.PathTable.{stepsBefore}
 use Rattle.theory.specs.Limits.{maxDepth}
-use Rattle.stored.specs.Automaton.{maskSize, Role, roles, roleAt, isStarRole, isChildRole, isDescendantRole, isAnywhereRole, isRootRole, isLastRole}
+use Rattle.stored.specs.Automaton.{maskSize, Role, roles, roleAt, isStarRole, isChildRole, isDescendantRole, isAnywhereRole, isRootRole, isLastRole, starMask, childMask, descendantMask, anywhereMask, rootMask, lastMask}
 use Rattle.stored.specs.Run.{stepBit, matchBit, activeBits, seenBits, runWith}
-use Rattle.stored.specs.RunCalls.{depthOf, activeAt, seenAt, maskBit, candidate, shifted, permitted, nowActive, nowSeen, nowMatched}
+use Rattle.stored.specs.RunCalls.{depthOf, activeAt, seenAt, candidate, shifted, permitted, nowActive, nowSeen, nowMatched}
 use Rattle.text.proofs.Laws.Tests.{cases}
 use Rattle.stored.proofs.Laws.Running.PathSteps.{anyStep, Located, locate, bit-at, bit-past, match-at, match-past, roleOf, role-at, role-past}
 use Rattle.stored.proofs.Laws.Running.RunBytes.{Short, depth-read, active-at, seen-at, matched-read}
@@ -86,28 +86,9 @@ module _ (s : FolderSet) (a : List ℕ) (m : Means s a) (names : List Name) (mat
   abbrev ps : List Path
   ps = pathsOf s
 
-  -- the masks
-  star-bit : (i : ℕ) → i < 8 * maskSize → maskBit a 0 i ≡ roleAt isStarRole (roles s) i
-  star-bit i h = m .tables .masks 0 (omega arith) i h
-
-  child-bit : (i : ℕ) → i < 8 * maskSize → maskBit a 1 i ≡ roleAt isChildRole (roles s) i
-  child-bit i h = m .tables .masks 1 (omega arith) i h
-
-  descendant-bit : (i : ℕ) → i < 8 * maskSize → maskBit a 2 i ≡ roleAt isDescendantRole (roles s) i
-  descendant-bit i h = m .tables .masks 2 (omega arith) i h
-
-  anywhere-bit : (i : ℕ) → i < 8 * maskSize → maskBit a 3 i ≡ roleAt isAnywhereRole (roles s) i
-  anywhere-bit i h = m .tables .masks 3 (omega arith) i h
-
-  root-bit : (i : ℕ) → i < 8 * maskSize → maskBit a 4 i ≡ roleAt isRootRole (roles s) i
-  root-bit i h = m .tables .masks 4 (omega arith) i h
-
-  last-bit : (i : ℕ) → i < 8 * maskSize → maskBit a 5 i ≡ roleAt isLastRole (roles s) i
-  last-bit i h = m .tables .masks 5 (omega arith) i h
-
   candidate-is : (i : ℕ) → i < 8 * maskSize → candidate a e i ≡ (roleAt isStarRole (roles s) i || roleAt (isLabelRole e) (roles s) i)
   unfolding candidate
-  candidate-is i h = rw (star-bit i h, label-bits s a (m .tables) e i)
+  candidate-is i h = rw (m .tables .masks starMask (omega arith) i h, label-bits s a (m .tables) e i)
 
   active-here : (i : ℕ) → i < 8 * maskSize → activeAt run (length names) i ≡ activeBits s names i
   active-here i h = active-at s names matched deep short rest (length names) (omega arith) i h ∙ ap (λ (l : List Name). activeBits s l i) (take-length names)
@@ -131,10 +112,10 @@ module _ (s : FolderSet) (a : List ℕ) (m : Means s a) (names : List Name) (mat
   permitted-is i h =
       rw (
         depth-read s names matched deep short rest,
-        child-bit i h,
-        descendant-bit i h,
-        anywhere-bit i h,
-        root-bit i h,
+        m .tables .masks childMask (omega arith) i h,
+        m .tables .masks descendantMask (omega arith) i h,
+        m .tables .masks anywhereMask (omega arith) i h,
+        m .tables .masks rootMask (omega arith) i h,
         shifted-is (activeAt run (length names)) (activeBits s names) active-here i h,
         shifted-is (seenAt run (length names)) (seenBits s names) seen-here i h,
         empty-is names,
@@ -227,7 +208,7 @@ module _ (s : FolderSet) (a : List ℕ) (m : Means s a) (names : List Name) (mat
   pub now-matched : (i : ℕ) → i < 8 * maskSize → nowMatched a run e i ≡ matchBit nowFit 0 ps i
   unfolding nowMatched
   now-matched i h =
-      ap₂ _||_ (matched-read s names matched deep short rest i h) (ap₂ _&&_ (now-active i h) (last-bit i h))
+      ap₂ _||_ (matched-read s names matched deep short rest i h) (ap₂ _&&_ (now-active i h) (m .tables .masks lastMask (omega arith) i h))
       ∙ (cases (ltb i (length (stepsOf ps))) (λ t. inside (locate ps i (ltb-true i (length (stepsOf ps)) t))) (λ t. past (ltb-false i (length (stepsOf ps)) t)))
     where
       past : length (stepsOf ps) ≤ i → (matchBit matched 0 ps i || (activeBits s (names ++ (e ∷ [])) i && roleAt isLastRole (roles s) i)) ≡ matchBit nowFit 0 ps i

@@ -12,6 +12,7 @@ use Rattle.text.specs.Names.{maxName, Name}
 use Rattle.notation.specs.Sets.{FolderSet}
 use Rattle.notation.specs.Form.{pathsOf, stepsOf}
 use Rattle.text.specs.Bytes.{le16, joined, padded}
+use Rattle.notation.specs.Layout.{wordSize}
 use Rattle.notation.specs.Reads.{stepCount}
 use Rattle.notation.specs.Activity.{active, seen, fits}
 use Rattle.notation.proofs.Laws.Fill.Padded.{sets-front, joined-snoc}
@@ -19,7 +20,7 @@ use Rattle.theory.specs.Limits.{maxDepth}
 use Rattle.theory.specs.Prefix.{prefixOf}
 use Rattle.theory.specs.Walk.{walk}
 use Rattle.stored.specs.Automaton.{maskSize, byteOf, bitBytes}
-use Rattle.stored.specs.Run.{matchesAt, rowsAt, rowSize, rowAt, matchBit, activeBits, seenBits, rowOf, rowsFrom, runWith}
+use Rattle.stored.specs.Run.{matchesAt, rowsAt, rowSize, rowAt, matchBit, activeBits, seenBits, rowOf, rowsFrom, runWith, depthAt}
 use Rattle.stored.specs.RunCalls.{usedBytes, usedBits, nowActive, nowSeen, nowMatched, openWalk, stepBits, rowOpened, withRow, openRun, closeRun}
 use Rattle.theory.proofs.Laws.Keywords.Prefix.{current-prefix}
 use Rattle.theory.proofs.Laws.Keywords.Walk.{walk-current}
@@ -47,21 +48,21 @@ row-after : (d : ℕ) → rowAt (suc d) ≡ rowAt d + rowSize
 unfolding rowSize
 row-after d = omega arith
 
-row-place : (bits rows : ℕ) (n : ℕ) → bits ≡ maskSize → rows ≡ rowSize * n → 2 + (bits + rows) ≡ rowAt n
+row-place : (bits rows : ℕ) (n : ℕ) → bits ≡ maskSize → rows ≡ rowSize * n → wordSize + (bits + rows) ≡ rowAt n
 unfolding rowsAt matchesAt
 row-place bits rows n e f = omega arith
 
 -- another row in a run, with its match bits and its depth
-stored-run : (d d' k : ℕ) (bits rows old new tail vs : List ℕ) → 2 + (length bits + length rows) ≡ rowAt k → length old ≡ rowSize → length vs ≤ length bits
-    → sets (sets (withRow (le16 d ++ (bits ++ (rows ++ (old ++ tail)))) k new) matchesAt vs) 0 (le16 d') ≡ le16 d' ++ (sets bits 0 vs ++ (rows ++ (new ++ tail)))
+stored-run : (d d' k : ℕ) (bits rows old new tail vs : List ℕ) → wordSize + (length bits + length rows) ≡ rowAt k → length old ≡ rowSize → length vs ≤ length bits
+    → sets (sets (withRow (le16 d ++ (bits ++ (rows ++ (old ++ tail)))) k new) matchesAt vs) depthAt (le16 d') ≡ le16 d' ++ (sets bits 0 vs ++ (rows ++ (new ++ tail)))
 unfolding matchesAt
 stored-run d d' k bits rows old new tail vs size e h =
     let group : (x : List ℕ) → le16 d ++ (bits ++ (rows ++ x)) ≡ (le16 d ++ (bits ++ rows)) ++ x = λ x. ap (λ (l : List ℕ). le16 d ++ l) (sym (append-assoc bits rows x)) in
     let front : length (le16 d ++ (bits ++ rows)) ≡ rowAt k = omega (arith, length-append bits rows) in
-    ap (λ (l : List ℕ). sets (sets l matchesAt vs) 0 (le16 d'))
+    ap (λ (l : List ℕ). sets (sets l matchesAt vs) depthAt (le16 d'))
     (ap (λ (l : List ℕ). withRow l k new) (group (old ++ tail)) ∙ spliced (le16 d ++ (bits ++ rows)) old new tail (rowAt k) rowSize front e ∙ sym (group (new ++ tail)))
-    ∙ ap (λ (l : List ℕ). sets l 0 (le16 d'))
-    (past (le16 d) (bits ++ (rows ++ (new ++ tail))) 2 matchesAt 0 vs refl refl
+    ∙ ap (λ (l : List ℕ). sets l depthAt (le16 d'))
+    (past (le16 d) (bits ++ (rows ++ (new ++ tail))) wordSize matchesAt 0 vs refl refl
     ∙ ap (λ (l : List ℕ). le16 d ++ l) (sets-left vs bits (rows ++ (new ++ tail)) 0 (omega arith)))
     ∙ sets-front (le16 d) (sets bits 0 vs ++ (rows ++ (new ++ tail))) (le16 d') refl
 
@@ -152,7 +153,7 @@ module _ (s : FolderSet) (a : List ℕ) (m : Means s a) where
     pub open-run : openRun a run e ≡ runWith s now fitting ++ rest
     unfolding openRun
     open-run =
-        ap₂ (λ (k : ℕ) (l : List ℕ). sets (sets (withRow l (suc k) (rowOpened a run e)) matchesAt (usedBits a (nowMatched a run e))) 0 (le16 (suc k)))
+        ap₂ (λ (k : ℕ) (l : List ℕ). sets (sets (withRow l (suc k) (rowOpened a run e)) matchesAt (usedBits a (nowMatched a run e))) depthAt (le16 (suc k)))
         (depth-read s names matched shallow short rest) (without s names e deep short size rest matched)
         ∙ stored-run (length names) (suc (length names)) (suc (length names)) (matchBytes s matched) (rowBytes s names) (replicate rowSize 0) (rowOpened a run e) (tail s names e deep short size rest) (usedBits a (nowMatched a run e))
         (place s names e deep short size rest matched) (length-replicate rowSize 0)
@@ -166,7 +167,7 @@ module _ (s : FolderSet) (names : List Name) (e : Name) (matched : ℕ → Bool)
   unfolding closeRun
   close-run =
       let n : length (names ++ (e ∷ [])) ≡ suc (length names) = one-more s names e deep short size rest in
-      ap₂ (λ (k : ℕ) (l : List ℕ). sets (withRow l k (replicate rowSize 0)) 0 (le16 (pred k)))
+      ap₂ (λ (k : ℕ) (l : List ℕ). sets (withRow l k (replicate rowSize 0)) depthAt (le16 (pred k)))
       (depth-read s (names ++ (e ∷ [])) matched (omega (arith, n)) (short-open names e short size) rest ∙ n) (with-last s names e deep short size rest matched)
       ∙ stored-run (suc (length names)) (length names) (suc (length names)) (matchBytes s matched) (rowBytes s names) (rowOf s e (names ++ (e ∷ []))) (replicate rowSize 0) (tail s names e deep short size rest) []
       (place s names e deep short size rest matched) (row-length s e (names ++ (e ∷ [])) size) (omega arith)

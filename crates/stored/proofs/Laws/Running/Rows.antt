@@ -7,7 +7,7 @@ use lib.ListN.{length, take, drop, replicate}
 use lib.Seq.{sets, drop-length}
 use borrow.Rule.Slice.PartMut.{midOf, putMid, post-is, mid-len}
 use Rattle.text.specs.Bytes.{le16}
-use Rattle.stored.specs.Run.{rowAt, rowSize}
+use Rattle.stored.specs.Run.{rowAt, rowSize, depthAt}
 use Rattle.stored.specs.RunCalls.{depthOf, withRow, closeRun}
 
 pub row-back : (run row : List ℕ) (d at : ℕ) → at ≡ rowAt d → putMid at (at + rowSize - at) run row ≡ withRow run d row
@@ -22,7 +22,7 @@ cleared row n e =
     rw m (ap (λ (l : List ℕ). replicate n 0 ++ l) (ap (λ (k : ℕ). drop k row) (sym e) ∙ drop-length row) ∙ append-nil (replicate n 0))
 
 pub closed : (run row : List ℕ) (d at : ℕ) → d ≡ depthOf run → at ≡ rowAt d → row ≡ replicate rowSize 0
-    → sets (putMid at (at + rowSize - at) run row) 0 (le16 (d - 1)) ≡ closeRun run
+    → sets (putMid at (at + rowSize - at) run row) depthAt (le16 (d - 1)) ≡ closeRun run
 unfolding closeRun
 closed run row d at e f g =
     let less : depthOf run - 1 ≡ pred (depthOf run) = omega arith in

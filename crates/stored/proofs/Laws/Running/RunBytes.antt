@@ -21,7 +21,7 @@ use Rattle.theory.specs.Limits.{maxDepth}
 use Rattle.theory.specs.Prefix.{prefixOf}
 use Rattle.stored.specs.Automaton.{maskSize, stateOf, bitBytes, byteOf}
 use Rattle.stored.specs.Bits.{bitIn}
-use Rattle.stored.specs.Run.{matchesAt, rowsAt, nameIn, stateIn, activeIn, seenIn, rowSize, rowAt, runSize, matchBit, activeBits, seenBits, rowOf, rowsFrom, runWith}
+use Rattle.stored.specs.Run.{matchesAt, rowsAt, nameIn, stateIn, activeIn, seenIn, rowSize, rowAt, runSize, matchBit, activeBits, seenBits, rowOf, rowsFrom, runWith, depthAt}
 use Rattle.stored.specs.RunCalls.{depthOf, nameLength, storedName, stateAt, activeAt, seenAt, matchedAt, usedBytes}
 use Rattle.stored.proofs.Laws.Bytes.Tabulate.{tabulate-length}
 use Rattle.stored.proofs.Laws.Bytes.Bits.{bits-bit}
@@ -174,12 +174,12 @@ module _ (s : FolderSet) (names : List Name) (matched : ℕ → Bool) (deep : le
       ∙ ap (λ (n : ℕ). le16 (length names) ++ (matchBytes s matched ++ (rowBytes s names ++ (replicate (runSize - n) 0 ++ rest)))) used
 
   module _ (rest : List ℕ) where
-    from-depth : Stands 0 (le16 (length names) ++ (matchBytes s matched ++ (rowBytes s names ++ (zerosFrom (rowAt (suc (length names))) ++ rest)))) (runWith s names matched ++ rest)
+    from-depth : Stands depthAt (le16 (length names) ++ (matchBytes s matched ++ (rowBytes s names ++ (zerosFrom (rowAt (suc (length names))) ++ rest)))) (runWith s names matched ++ rest)
     from-depth = record { before = []; after = []; split = run-parts rest ∙ sym (append-nil _); size = refl }
 
     from-matches : Stands matchesAt (matchBytes s matched ++ (rowBytes s names ++ (zerosFrom (rowAt (suc (length names))) ++ rest))) (runWith s names matched ++ rest)
     unfolding matchesAt
-    from-matches = right (le16 (length names)) _ 0 matchesAt refl from-depth
+    from-matches = right (le16 (length names)) _ depthAt matchesAt refl from-depth
 
     from-rows : Stands rowsAt (rowBytes s names ++ (zerosFrom (rowAt (suc (length names))) ++ rest)) (runWith s names matched ++ rest)
     unfolding rowsAt

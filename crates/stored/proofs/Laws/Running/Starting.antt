@@ -12,6 +12,7 @@ use Rattle.text.specs.Names.{maxName}
 use Rattle.notation.specs.Sets.{Path, FolderSet}
 use Rattle.notation.specs.Form.{pathsOf}
 use Rattle.text.specs.Bytes.{le16, joined, padded}
+use Rattle.notation.specs.Layout.{wordSize}
 use Rattle.notation.specs.Activity.{active, seen}
 use Rattle.notation.proofs.Laws.Fill.Padded.{sets-front, padded-none}
 use Rattle.notation.proofs.Laws.Meaning.Innermost.{active-none, seen-none}
@@ -70,15 +71,15 @@ zero-head : (q : ℕ) → _≡_ {A = List ℕ} (0 ∷ (padded maxName [] ++ le16
 unfolding layout.stateIn nameIn
 zero-head q = rw head-zeros (ap (λ (l : List ℕ). l ++ le16 q) (replicate-append-replicate 1 maxName 0))
 
-first-place : rowAt 0 + layout.stateIn ≡ 2 + (maskSize + layout.stateIn)
+first-place : rowAt 0 + layout.stateIn ≡ wordSize + (maskSize + layout.stateIn)
 unfolding rowsAt matchesAt
 first-place = omega arith
 
-behind : runSize - (rowAt 0 + layout.stateIn + 2) ≡ maskSize + (maskSize + (runSize - rowAt 1))
+behind : runSize - (rowAt 0 + layout.stateIn + wordSize) ≡ maskSize + (maskSize + (runSize - rowAt 1))
 unfolding rowsAt matchesAt rowSize seenIn activeIn layout.stateIn nameIn maxName maskSize runSize
 behind = omega arith
 
-fits : runSize ≡ rowAt 0 + layout.stateIn + (2 + (runSize - (rowAt 0 + layout.stateIn + 2)))
+fits : runSize ≡ rowAt 0 + layout.stateIn + (wordSize + (runSize - (rowAt 0 + layout.stateIn + wordSize)))
 unfolding rowsAt matchesAt layout.stateIn nameIn maxName maskSize runSize
 fits = omega arith
 
@@ -99,26 +100,26 @@ module _ (s : FolderSet) where
         no-bits (seenBits s []) maskSize (none-seen (pathsOf s)),
       )
 
-  fresh-bytes : runWith s [] (λ k. false) ≡ replicate (rowAt 0 + layout.stateIn) 0 ++ (le16 (startState s) ++ replicate (runSize - (rowAt 0 + layout.stateIn + 2)) 0)
+  fresh-bytes : runWith s [] (λ k. false) ≡ replicate (rowAt 0 + layout.stateIn) 0 ++ (le16 (startState s) ++ replicate (runSize - (rowAt 0 + layout.stateIn + wordSize)) 0)
   unfolding zerosFrom
   fresh-bytes =
       sym (append-nil (runWith s [] (λ k. false)))
       ∙ run-parts s [] (λ k. false) (omega arith) none-short []
       ∙ rw (no-bits (matchBit (λ k. false) 0 (pathsOf s)) maskSize (none-matched (pathsOf s) 0), first-row, behind, first-place)
-      (gather (replicate 2 0) (replicate maskSize 0) (replicate layout.stateIn 0) (le16 (startState s)) (replicate (runSize - rowAt 1) 0)
-      ∙ ap₂ (λ (x y : List ℕ). x ++ (le16 (startState s) ++ y)) (three 2 maskSize layout.stateIn) (three maskSize maskSize (runSize - rowAt 1)))
+      (gather (replicate wordSize 0) (replicate maskSize 0) (replicate layout.stateIn 0) (le16 (startState s)) (replicate (runSize - rowAt 1) 0)
+      ∙ ap₂ (λ (x y : List ℕ). x ++ (le16 (startState s) ++ y)) (three wordSize maskSize layout.stateIn) (three maskSize maskSize (runSize - rowAt 1)))
 
   -- what a start leaves is the fresh run
   pub start-run : (a : List ℕ) → Means s a → (run : List ℕ) → startRun a run ≡ runOf s (fresh s) ++ drop runSize run
   unfolding startRun fresh
   start-run a m run =
       let at = rowAt 0 + layout.stateIn in
-      let k = runSize - (at + 2) in
-      let all : runSize ≡ at + (2 + k) = fits in
+      let k = runSize - (at + wordSize) in
+      let all : runSize ≡ at + (wordSize + k) = fits in
       let stored : sets (replicate runSize 0) at (le16 (startOf a)) ≡ runWith s [] (λ k. false) =
       rw (m .tables .start)
-      (ap (λ (l : List ℕ). sets l at (le16 (startState s))) (zeros runSize at (2 + k) all ∙ ap (λ (l : List ℕ). replicate at 0 ++ l) (zeros (2 + k) 2 k refl))
-      ∙ (past (replicate at 0) (replicate 2 0 ++ replicate k 0) at at 0 (le16 (startState s)) (length-replicate at 0) (sym (add-zero at))
-      ∙ ap (λ (l : List ℕ). replicate at 0 ++ l) (sets-front (replicate 2 0) (replicate k 0) (le16 (startState s)) refl)
+      (ap (λ (l : List ℕ). sets l at (le16 (startState s))) (zeros runSize at (wordSize + k) all ∙ ap (λ (l : List ℕ). replicate at 0 ++ l) (zeros (wordSize + k) wordSize k refl))
+      ∙ (past (replicate at 0) (replicate wordSize 0 ++ replicate k 0) at at 0 (le16 (startState s)) (length-replicate at 0) (sym (add-zero at))
+      ∙ ap (λ (l : List ℕ). replicate at 0 ++ l) (sets-front (replicate wordSize 0) (replicate k 0) (le16 (startState s)) refl)
       ∙ sym fresh-bytes)) in
       ap (λ (l : List ℕ). l ++ drop runSize run) stored

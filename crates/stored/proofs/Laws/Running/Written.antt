@@ -16,9 +16,9 @@ pub sets-next : (l : List ℕ) (i j : ℕ) (x y : List ℕ) → i + length x ≡
 sets-next l i j [] y e = let s : j ≡ i = omega arith in rw s
 sets-next l i j (v ∷ x) y e = sets-next (set l i v) (suc i) j x y (omega arith)
 
-pub name-written : (row e : List ℕ) → sets (sets (set row 0 (length e)) 1 e) (1 + length e) (replicate (maxName - length e) 0) ≡ sets row 0 (length e ∷ padded maxName e)
-unfolding padded
-name-written row e = sets-next (set row 0 (length e)) 1 (1 + length e) e (replicate (maxName - length e) 0) refl
+pub name-written : (row e : List ℕ) → sets (sets (set row 0 (length e)) nameIn e) (nameIn + length e) (replicate (maxName - length e) 0) ≡ sets row 0 (length e ∷ padded maxName e)
+unfolding padded nameIn
+name-written row e = sets-next (set row 0 (length e)) nameIn (nameIn + length e) e (replicate (maxName - length e) 0) refl
 
 -- all of a row, part by part
 pub row-written : (row e active seen : List ℕ) (state : ℕ) → length row ≡ rowSize → length e ≤ maxName → length active ≡ maskSize → length seen ≡ maskSize

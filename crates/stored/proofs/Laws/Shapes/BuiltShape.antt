@@ -12,21 +12,21 @@ use Rattle.notation.specs.Sets.{child, descendant, label, star, step, Path, Fol
 use Rattle.text.specs.Lists.{any}
 use Rattle.notation.specs.Form.{formed, pathsOf, pathLong, pathsLong, namesLong}
 use Rattle.notation.specs.Accepted.{Accepted}
-use Rattle.notation.specs.Layout.{stepsAt}
+use Rattle.notation.specs.Layout.{stepsAt, stepKinds}
 use Rattle.notation.specs.Reads.{textLen, folderCount, pathCount, stepCount, labelCount}
 use Rattle.notation.proofs.Laws.Refused.Fitting.{Fitting}
 use Rattle.notation.proofs.Laws.Refused.AcceptedSet.{accepted-fits}
 use Rattle.notation.proofs.Laws.Stored.Reads.{text-len, folders-read, paths-read, steps-read}
 use Rattle.theory.specs.Words.{name, Word, before, labelWords, begins, document}
 use Rattle.theory.specs.Walk.{followedBy}
-use Rattle.stored.specs.Automaton.{maskSize, masks, allLabels, heads, links, startState, automatonOf}
+use Rattle.stored.specs.Automaton.{masksFrom, masks, allLabels, heads, links, startState, automatonOf, allMasks, Link}
 use Rattle.stored.specs.Shape.{automatonShaped}
 use Rattle.stored.specs.Walkable.{Walkable}
 use Rattle.stored.specs.Code.Fails.{Growing}
 use Rattle.theory.proofs.Laws.Keywords.Labels.{LabelWord, begins-label}
 use Rattle.stored.proofs.Laws.Bytes.Bits.{bit-small}
 use Rattle.stored.proofs.Laws.Bytes.Tabulate.{tabulate-length}
-use Rattle.stored.proofs.Laws.Tables.Assembled.{nextOf, parentOf, failureOf, lengthOf, start-read}
+use Rattle.stored.proofs.Laws.Tables.Assembled.{start-read}
 use Rattle.stored.proofs.Laws.Tables.States.{word-ends, label-begins}
 use Rattle.stored.proofs.Laws.Building.Staged.{Links, Short, sized, stage-grows}
 use Rattle.stored.proofs.Laws.Building.Fails.{links-length, links-at}
@@ -75,15 +75,15 @@ words-short s few l h =
 pub links-right : (s : FolderSet) → Links s (links s)
 links-right s = record {
   count = links-length s;
-  next = λ l h. ap nextOf (links-at s l h);
-  parent = λ l h. ap parentOf (links-at s l h);
-  fail = λ l h. inr (ap failureOf (links-at s l h));
-  size = λ l h. ap lengthOf (links-at s l h);
+  next = λ l h. ap (λ (k : Link). k .next) (links-at s l h);
+  parent = λ l h. ap (λ (k : Link). k .parent) (links-at s l h);
+  fail = λ l h. inr (ap (λ (k : Link). k .fail) (links-at s l h));
+  size = λ l h. ap (λ (k : Link). k .size) (links-at s l h);
 }
 
 -- the masks' size
-pub masks-length : (s : FolderSet) → length (masks s) ≡ 6 * maskSize
-unfolding masks
+pub masks-length : (s : FolderSet) → length (masks s) ≡ allMasks
+unfolding masksFrom
 masks-length s = simp (length-append, tabulate-length) (omega arith)
 
 module _ (s : FolderSet) (fit : Fitting s) (few : pathsLong s ≡ false) (rest : List ℕ) where
@@ -115,7 +115,7 @@ module _ (s : FolderSet) (fit : Fitting s) (few : pathsLong s ≡ false) (rest :
         };
         folder = of-set s fit hs (links s) (masks s) (startState s) rest (λ a. (i : ℕ) → i < folderCount a → FolderFacts a i) (λ more. folder-facts s fit more well);
         path = of-set s fit hs (links s) (masks s) (startState s) rest (λ a. (i : ℕ) → i < pathCount a → PathFacts a i) (λ more. path-facts s fit more well few);
-        step = of-set s fit hs (links s) (masks s) (startState s) rest (λ a. (i : ℕ) → i < stepCount a → getD a (stepsAt + i) 0 < 4) (λ more. step-fact s fit more);
+        step = of-set s fit hs (links s) (masks s) (startState s) rest (λ a. (i : ℕ) → i < stepCount a → getD a (stepsAt + i) 0 < stepKinds) (λ more. step-fact s fit more);
         label = of-set s fit hs (links s) (masks s) (startState s) rest (λ a. (i : ℕ) → i < labelCount a → LabelFacts a i) (λ more. label-facts s fit more names);
         head = w .searchable .head;
         link = λ l h. record {

@@ -12,14 +12,14 @@ use Rattle.stored.specs.declared.counters.Counters.{Counters}
 use Rattle.text.proofs.Laws.Tests.{both}
 
 module _ (run : List ℕ) (c : Counters) (h : countersShaped run c ≡ true) where
-  pub closes-fit : c .closes ≤ 65535
-  unfolding countersShaped maxOpens
+  pub closes-fit : c .closes ≤ maxOpens
+  unfolding countersShaped
   closes-fit =
       let s = both (leb (c .opens) maxOpens) (eqb (c .opens) (c .closes + depthOf run) && leb (c .moves) (maxDepth * c .opens)) h in
       let t = both (eqb (c .opens) (c .closes + depthOf run)) (leb (c .moves) (maxDepth * c .opens)) (s .1) in
       omega (arith, leb-true (c .opens) maxOpens (s .0), eqb-true (c .opens) (c .closes + depthOf run) (t .0))
 
-  pub moves-fit : c .moves ≤ 64 * 65535
+  pub moves-fit : c .moves ≤ maxDepth * maxOpens
   unfolding countersShaped maxOpens maxDepth
   moves-fit =
       let s = both (leb (c .opens) maxOpens) (eqb (c .opens) (c .closes + depthOf run) && leb (c .moves) (maxDepth * c .opens)) h in

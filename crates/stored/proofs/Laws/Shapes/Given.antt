@@ -10,6 +10,7 @@ use lib.Seq.{sets, set-append-left}
 use borrow.Author.Tests.{le-ltb, ltb-false, not-false, leb-false}
 use Rattle.text.specs.Names.{Name, nameForm, tooLong, maxName, sameName}
 use Rattle.text.specs.Bytes.{le16}
+use Rattle.notation.specs.Layout.{wordSize}
 use Rattle.text.specs.Refusals.{shortBuffer, nameTooLong, overCapacity, syntaxError, notOneRoot, tooDeep, mismatchedClose, notFound, badShape}
 use Rattle.theory.specs.Limits.{maxDepth, maxOpens}
 use Rattle.text.specs.Order.{gives, given, first}
@@ -161,7 +162,7 @@ sets-left (b ∷ v) x y i h =
     let k : suc i + length v ≤ length (set x i b) = rw (length-set x i b) (omega arith) in
     ap (λ (z : List ℕ). sets z (suc i) v) (set-append-left x y i b l) ∙ sets-left v (set x i b) y (suc i) k
 
-pub within-run : rowAt 0 + stateIn + 2 ≤ runSize
+pub within-run : rowAt 0 + stateIn + wordSize ≤ runSize
 unfolding rowsAt rowSize stateIn runSize
 within-run = omega arith
 

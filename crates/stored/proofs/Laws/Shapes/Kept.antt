@@ -12,6 +12,7 @@ use borrow.Author.Tests.{leb-true, leb-false, le-leb, eqb-true, eq-eqb, eqb-fals
 use Rattle.text.specs.Names.{Name, maxName}
 use Rattle.notation.specs.Limits.{maxSteps, maxLabels}
 use Rattle.text.specs.Bytes.{le16, padded}
+use Rattle.notation.specs.Layout.{wordSize}
 use Rattle.notation.specs.Reads.{word16, labelCount}
 use Rattle.notation.proofs.Laws.Stored.Stands.{Stands}
 use Rattle.notation.proofs.Laws.Stored.Words.{word-read}
@@ -20,7 +21,7 @@ use Rattle.theory.specs.Limits.{maxDepth, maxOpens}
 use Rattle.stored.specs.Automaton.{maskSize, byteOf}
 use Rattle.stored.specs.Tables.{startOf}
 use Rattle.stored.specs.Shape.{automatonShaped}
-use Rattle.stored.specs.Run.{matchesAt, rowsAt, nameIn, stateIn, activeIn, seenIn, rowSize, rowAt, runSize}
+use Rattle.stored.specs.Run.{matchesAt, rowsAt, nameIn, stateIn, activeIn, seenIn, rowSize, rowAt, runSize, depthAt}
 use Rattle.stored.specs.RunCalls.{depthOf, nameLength, stateAt, rowShaped, runShaped, countersShaped, startRefusal, openRefusal, closeRefusal, startRun, noCounters, usedBytes, usedBits, nowActive, nowSeen, nowMatched, openWalk, stepBits, rowOpened, withRow, openRun, openCounters, closeRun, closeCounters}
 use Rattle.stored.specs.Openable.{Ready, Usable}
 use Rattle.stored.specs.declared.counters.Counters.{Counters}
@@ -72,12 +73,12 @@ matches-end : matchesAt + maskSize ≡ rowsAt
 unfolding rowsAt
 matches-end = refl
 
-depth-end : 2 ≤ matchesAt
+depth-end : depthAt + wordSize ≤ matchesAt
 unfolding matchesAt
 depth-end = omega arith
 
 record RowPlaces : Type 0 where
-  state : stateIn + 2 ≡ activeIn
+  state : stateIn + wordSize ≡ activeIn
   name : 1 + maxName ≡ stateIn
   seen : activeIn + maskSize ≡ seenIn
   end : seenIn + maskSize ≡ rowSize
@@ -200,7 +201,7 @@ module _ (a run : List ℕ) (e : Name) (r : Ready a run) (room : depthOf run < m
   pub open-length : length (openRun a run e) ≡ length run
   unfolding openRun
   open-length =
-      length-sets (sets held matchesAt (usedBits a (nowMatched a run e))) 0 (le16 (suc (depthOf run)))
+      length-sets (sets held matchesAt (usedBits a (nowMatched a run e))) depthAt (le16 (suc (depthOf run)))
       ∙ length-sets held matchesAt (usedBits a (nowMatched a run e))
       ∙ put-length run row at rowSize fits row-length
 
@@ -208,20 +209,20 @@ module _ (a run : List ℕ) (e : Name) (r : Ready a run) (room : depthOf run < m
   pub open-behind : drop runSize (openRun a run e) ≡ drop runSize run
   unfolding openRun
   open-behind =
-      rest-behind (le16 (suc (depthOf run))) (sets held matchesAt (usedBits a (nowMatched a run e))) 0 runSize (omega (arith, row-fits 0 (omega arith), matches-end, depth-end))
+      rest-behind (le16 (suc (depthOf run))) (sets held matchesAt (usedBits a (nowMatched a run e))) depthAt runSize (omega (arith, row-fits 0 (omega arith), matches-end, depth-end))
       ∙ rest-behind (usedBits a (nowMatched a run e)) held matchesAt runSize (omega (arith, row-fits 0 (omega arith), matches-length))
       ∙ put-behind run row at rowSize fits row-length runSize (row-fits (suc (depthOf run)) room)
 
   open-rows : (j : ℕ) → rowsAt ≤ j → getD (openRun a run e) j 0 ≡ getD held j 0
   unfolding openRun
   open-rows j h =
-      byte-behind (le16 (suc (depthOf run))) (sets held matchesAt (usedBits a (nowMatched a run e))) 0 j (omega (arith, matches-end, depth-end))
+      byte-behind (le16 (suc (depthOf run))) (sets held matchesAt (usedBits a (nowMatched a run e))) depthAt j (omega (arith, matches-end, depth-end))
       ∙ byte-behind (usedBits a (nowMatched a run e)) held matchesAt j (omega (arith, matches-length))
 
   open-depth : depthOf (openRun a run e) ≡ suc (depthOf run)
   unfolding depthOf openRun maxDepth
   open-depth =
-      word-stored (sets held matchesAt (usedBits a (nowMatched a run e))) 0 (suc (depthOf run))
+      word-stored (sets held matchesAt (usedBits a (nowMatched a run e))) depthAt (suc (depthOf run))
       (omega (arith, length-sets held matchesAt (usedBits a (nowMatched a run e)), put-length run row at rowSize fits row-length, fits, row-begins (suc (depthOf run)), matches-end, depth-end))
       (omega arith)
 
@@ -306,18 +307,18 @@ module _ (a run : List ℕ) (r : Ready a run) where
 
   pub close-length : length (closeRun run) ≡ length run
   unfolding closeRun
-  close-length = length-sets kept 0 (le16 (pred (depthOf run))) ∙ put-length run none from rowSize inside none-length
+  close-length = length-sets kept depthAt (le16 (pred (depthOf run))) ∙ put-length run none from rowSize inside none-length
 
   pub close-behind : drop runSize (closeRun run) ≡ drop runSize run
   unfolding closeRun
   close-behind =
-      rest-behind (le16 (pred (depthOf run))) kept 0 runSize (omega (arith, row-fits 0 (omega arith), matches-end, depth-end))
+      rest-behind (le16 (pred (depthOf run))) kept depthAt runSize (omega (arith, row-fits 0 (omega arith), matches-end, depth-end))
       ∙ put-behind run none from rowSize inside none-length runSize (row-fits (depthOf run) (run-shape a run (r .runIsShaped) .deepest))
 
   close-depth : depthOf (closeRun run) ≡ pred (depthOf run)
   unfolding depthOf closeRun maxDepth
   close-depth =
-      word-stored kept 0 (pred (depthOf run))
+      word-stored kept depthAt (pred (depthOf run))
       (omega (arith, put-length run none from rowSize inside none-length, inside, row-begins (depthOf run), matches-end, depth-end))
       (omega (arith, run-shape a run (r .runIsShaped) .deepest))
 
@@ -325,7 +326,7 @@ module _ (a run : List ℕ) (r : Ready a run) where
   unfolding closeRun
   close-rows k h =
       row-alike run (closeRun run) k
-      (λ j l i. byte-behind (le16 (pred (depthOf run))) kept 0 j (omega (arith, row-begins k, matches-end, depth-end)) ∙ put-before run none from rowSize inside none-length j (omega (arith, rows-apart k (depthOf run) h)))
+      (λ j l i. byte-behind (le16 (pred (depthOf run))) kept depthAt j (omega (arith, row-begins k, matches-end, depth-end)) ∙ put-before run none from rowSize inside none-length j (omega (arith, rows-apart k (depthOf run) h)))
 
   close-shape : 0 < depthOf run → RunShape a (closeRun run)
   close-shape some =

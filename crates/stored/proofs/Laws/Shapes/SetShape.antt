@@ -14,7 +14,7 @@ use Rattle.notation.specs.Sets.{child, descendant, label, star, Step, step, Pat
 use Rattle.notation.specs.Print.{print}
 use Rattle.text.specs.Lists.{any, every, nonEmpty}
 use Rattle.notation.specs.Form.{formedPath, formedFolder, formed, pathsOf, pathLong, pathsLong, namesLong}
-use Rattle.notation.specs.Layout.{stepsAt, stepEntry, tablesOf, setPart}
+use Rattle.notation.specs.Layout.{stepsAt, stepEntry, tablesOf, setPart, stepKinds}
 use Rattle.notation.specs.Reads.{folderCount, pathCount, stepCount, labelCount, storedNumber, storedFirst, folderAt, pathAt, labelAt}
 use Rattle.notation.specs.declared.reads.FolderAt.{FolderAt}
 use Rattle.notation.specs.declared.reads.PathAt.{PathAt}
@@ -109,7 +109,7 @@ abbrev label2 : LabelAt → ℕ
 label2 (LabelAt.Label at size owner) = owner
 label2 LabelAt.Missing = 0
 
-byte-small : (x : Step) → getD (stepEntry x) 0 0 < 4
+byte-small : (x : Step) → getD (stepEntry x) 0 0 < stepKinds
 byte-small (step child (label n)) = omega arith
 byte-small (step child star) = omega arith
 byte-small (step descendant (label n)) = omega arith
@@ -157,7 +157,7 @@ module _ (s : FolderSet) (fit : Fitting s) (rest : List ℕ) where
         text = rw (ap path2 e, ap path3 e, text-len s fit rest) (fits (r .stands));
       }
 
-  pub step-fact : (i : ℕ) → i < stepCount part → getD part (stepsAt + i) 0 < 4
+  pub step-fact : (i : ℕ) → i < stepCount part → getD part (stepsAt + i) 0 < stepKinds
   unfolding setPart tablesOf
   step-fact i h' =
       let h : i < length (allSteps s) = rw (steps-read s fit rest) at h' in

@@ -10,8 +10,8 @@ use lib.ListN.{getD}
 use borrow.Author.Tests.{leb-true, le-leb, ltb-true, lt-ltb, eqb-true}
 use Rattle.text.specs.Names.{within, maxName}
 use Rattle.notation.specs.Limits.{maxSetBytes, maxNumber, maxPaths, maxSteps, maxLabels}
-use Rattle.notation.specs.Layout.{stepsAt}
-use Rattle.notation.specs.Reads.{word16, textLen, folderCount, pathCount, stepCount, labelCount, pathEntryAt, labelEntryAt, storedNumber, storedFirst}
+use Rattle.notation.specs.Layout.{stepsAt, stepKinds}
+use Rattle.notation.specs.Reads.{textLen, folderCount, pathCount, stepCount, labelCount, storedNumber, storedFirst, labelStep, labelBegin, labelLength, pathFirst, pathSteps, pathBegin, pathLength}
 use Rattle.stored.specs.Automaton.{hashes}
 use Rattle.stored.specs.Tables.{headAt, nextAt, parentAt, failAt, sizeAt, startOf, sizeOf}
 use Rattle.stored.specs.Shape.{allBelow, countsShaped, folderShaped, pathShaped, stepShaped, labelShaped, headShaped, linkShaped, automatonShaped}
@@ -33,15 +33,15 @@ pub record FolderFacts (a : List ℕ) (i : ℕ) : Type 0 where
   pub first : storedFirst a i ≤ pathCount a
 
 pub record PathFacts (a : List ℕ) (i : ℕ) : Type 0 where
-  pub some : 1 ≤ word16 a (pathEntryAt i + 2)
-  pub count : word16 a (pathEntryAt i + 2) ≤ maxSteps
-  pub steps : word16 a (pathEntryAt i) + word16 a (pathEntryAt i + 2) ≤ stepCount a
-  pub text : word16 a (pathEntryAt i + 4) + word16 a (pathEntryAt i + 6) ≤ textLen a
+  pub some : 1 ≤ pathSteps a i
+  pub count : pathSteps a i ≤ maxSteps
+  pub steps : pathFirst a i + pathSteps a i ≤ stepCount a
+  pub text : pathBegin a i + pathLength a i ≤ textLen a
 
 pub record LabelFacts (a : List ℕ) (i : ℕ) : Type 0 where
-  pub text : word16 a (labelEntryAt i) + word16 a (labelEntryAt i + 2) ≤ textLen a
-  pub size : word16 a (labelEntryAt i + 2) ≤ maxName
-  pub step : word16 a (labelEntryAt i + 4) < stepCount a
+  pub text : labelBegin a i + labelLength a i ≤ textLen a
+  pub size : labelLength a i ≤ maxName
+  pub step : labelStep a i < stepCount a
 
 pub record LinkFacts (a : List ℕ) (l : ℕ) : Type 0 where
   pub next : nextAt a l ≤ labelCount a
@@ -55,7 +55,7 @@ pub record Shaped (a : List ℕ) : Type 0 where
   pub counts : Counts a
   pub folder : (i : ℕ) → i < folderCount a → FolderFacts a i
   pub path : (i : ℕ) → i < pathCount a → PathFacts a i
-  pub step : (i : ℕ) → i < stepCount a → getD a (stepsAt + i) 0 < 4
+  pub step : (i : ℕ) → i < stepCount a → getD a (stepsAt + i) 0 < stepKinds
   pub label : (i : ℕ) → i < labelCount a → LabelFacts a i
   pub head : (h : ℕ) → h < hashes → headAt a h ≤ labelCount a
   pub link : (l : ℕ) → l < labelCount a → LinkFacts a l
@@ -122,8 +122,8 @@ module _ (a : List ℕ) where
 
   path-is : (i : ℕ) → pathShaped a i ≡ true → PathFacts a i
   path-is i h =
-      let b = both (within 1 maxSteps (word16 a (pathEntryAt i + 2))) _ h in
-      let w = within-is 1 maxSteps (word16 a (pathEntryAt i + 2)) (b .0) in
+      let b = both (within 1 maxSteps (pathSteps a i)) _ h in
+      let w = within-is 1 maxSteps (pathSteps a i) (b .0) in
       let d = both _ _ (b .1) in
       record { some = w .0; count = w .1; steps = leb-true _ _ (d .0); text = leb-true _ _ (d .1) }
 
@@ -173,7 +173,7 @@ module _ (a : List ℕ) where
         counts = counts-is (b1 .0);
         folder = λ i l. folder-is i (all-at (folderCount a) (folderShaped a) (b2 .0) i l);
         path = λ i l. path-is i (all-at (pathCount a) (pathShaped a) (b3 .0) i l);
-        step = λ i l. ltb-true (getD a (stepsAt + i) 0) 4 (all-at (stepCount a) (stepShaped a) (b4 .0) i l);
+        step = λ i l. ltb-true (getD a (stepsAt + i) 0) stepKinds (all-at (stepCount a) (stepShaped a) (b4 .0) i l);
         label = λ i l. label-is i (all-at (labelCount a) (labelShaped a) (b5 .0) i l);
         head = λ i l. leb-true (headAt a i) (labelCount a) (all-at hashes (headShaped a) (b6 .0) i l);
         link = λ i l. link-is i (all-at (labelCount a) (linkShaped a) (b6 .1) i l);
@@ -185,7 +185,7 @@ module _ (a : List ℕ) where
       both-true (is-counts (s .counts))
       (both-true (is-all (folderCount a) (folderShaped a) (λ i l. is-folder i (s .folder i l)))
       (both-true (is-all (pathCount a) (pathShaped a) (λ i l. is-path i (s .path i l)))
-      (both-true (is-all (stepCount a) (stepShaped a) (λ i l. lt-ltb (getD a (stepsAt + i) 0) 4 (s .step i l)))
+      (both-true (is-all (stepCount a) (stepShaped a) (λ i l. lt-ltb (getD a (stepsAt + i) 0) stepKinds (s .step i l)))
       (both-true (is-all (labelCount a) (labelShaped a) (λ i l. is-label i (s .label i l)))
       (both-true (is-all hashes (headShaped a) (λ h l. le-leb (headAt a h) (labelCount a) (s .head h l)))
       (is-all (labelCount a) (linkShaped a) (λ i l. is-link i (s .link i l))))))))

@@ -10,7 +10,7 @@ use Rattle.notation.specs.Limits.{maxPaths, maxSteps, maxLabels}
 use Rattle.notation.specs.Sets.{child, descendant, label, star, step, Path, FolderSet}
 use Rattle.notation.specs.Form.{pathsOf, stepsOf}
 use Rattle.notation.specs.Layout.{setPart}
-use Rattle.notation.specs.Reads.{word16, labelEntryAt, labelAt}
+use Rattle.notation.specs.Reads.{labelAt, labelStep}
 use Rattle.notation.specs.Accepted.{Accepted}
 use Rattle.notation.specs.declared.reads.LabelAt.{LabelAt}
 use Rattle.notation.proofs.Laws.Refused.Fitting.{Fitting}
@@ -21,7 +21,7 @@ use Rattle.theory.specs.Words.{document, name, Word, before, labelWords, begins
 use Rattle.theory.specs.Prefix.{IsPrefix, failure}
 use Rattle.theory.specs.Walk.{followedBy}
 use Rattle.theory.specs.Calls.{fresh}
-use Rattle.stored.specs.Automaton.{hashes, maskSize, masksAt, allLabels, allWords, stateOf, heads, headOf, links, roles, roleAt, masks, bitBytes, byteOf, startState, automatonOf, maskTest}
+use Rattle.stored.specs.Automaton.{hashes, maskSize, masksAt, allLabels, allWords, stateOf, heads, headOf, links, roles, roleAt, masks, bitBytes, byteOf, startState, automatonOf, maskTest, maskCount, allMasks, Link}
 use Rattle.stored.specs.Tables.{startOf, sizeAt, sizeOf}
 use Rattle.stored.specs.Bits.{bitOf, bitIn}
 use Rattle.stored.specs.Compiled.{LabelStep, Compiled}
@@ -31,7 +31,7 @@ use Rattle.theory.proofs.Laws.Keywords.Labels.{LabelWord}
 use Rattle.stored.proofs.Laws.Bytes.Tabulate.{tabulate-length}
 use Rattle.stored.proofs.Laws.Bytes.Bits.{bit-small, bits-bit}
 use Rattle.stored.proofs.Laws.Tables.States.{words-count, among-label, at-among, state-empty, state-root, StateKind, ofEmpty, ofRoot, ofLabel, state-kind, state-one, state-none, state-within}
-use Rattle.stored.proofs.Laws.Tables.Assembled.{Sized, noLink, nextOf, parentOf, failureOf, lengthOf, after-set, fail-read, size-read, mask-read, start-read}
+use Rattle.stored.proofs.Laws.Tables.Assembled.{Sized, noLink, after-set, fail-read, size-read, mask-read, start-read}
 use Rattle.stored.proofs.Laws.Tables.Goto.{Linked, goto-is}
 use Rattle.stored.proofs.Laws.Tables.Linked.{small, linked-here}
 use Rattle.stored.proofs.Laws.Tables.Walked.{FailAt, fail-word, walk-over}
@@ -100,17 +100,17 @@ module _ (s : FolderSet) (fit : Fitting s) (rest : List ℕ) where
   automaton-sized = record {
     heads = tabulate-length (headOf (allLabels s)) hashes;
     links = omega (arith, links-length s, fit .labels);
-    masks = ap length (sym (masks-are s few-roles)) ∙ tabulate-length (byteOf (roleBits 0 (roles s) (λ k. false))) (6 * maskSize);
+    masks = ap length (sym (masks-are s few-roles)) ∙ tabulate-length (byteOf (roleBits 0 (roles s) (λ k. false))) allMasks;
   }
 
   pub automaton-linked : Linked s (automatonOf s ++ rest)
   unfolding automatonOf
-  automaton-linked = linked-here s fit (links s) (masks s) (startState s) automaton-sized rest (links-length s) (λ l h. ap nextOf (links-at s l h)) (λ l h. ap parentOf (links-at s l h))
+  automaton-linked = linked-here s fit (links s) (masks s) (startState s) automaton-sized rest (links-length s) (λ l h. ap (λ (k : Link). k .next) (links-at s l h)) (λ l h. ap (λ (k : Link). k .parent) (links-at s l h))
 
   fails : (l : ℕ) → l < length (allLabels s) → FailAt s (automatonOf s ++ rest) l
   unfolding automatonOf
   fails l h =
-      let e : failureOf (getD (links s) l noLink) ≡ stateOf s (failure s (getD (allWords s) l [])) = ap failureOf (links-at s l h) in
+      let e : getD (links s) l noLink .fail ≡ stateOf s (failure s (getD (allWords s) l [])) = ap (λ (k : Link). k .fail) (links-at s l h) in
       fail-read s fit (heads (allLabels s)) (links s) (masks s) (startState s) automaton-sized rest l (omega (arith, links-length s))
       (rw e (small (length (allLabels s)) _ (fit .labels) (state-within s _ (failure-prefix s (getD (allWords s) l [])))))
       ∙ e
@@ -124,7 +124,7 @@ module _ (s : FolderSet) (fit : Fitting s) (rest : List ℕ) where
   sizes : (l : ℕ) → l < length (allLabels s) → sizeAt (automatonOf s ++ rest) l ≡ length (getD (allWords s) l [])
   unfolding automatonOf
   sizes l h =
-      let e : lengthOf (getD (links s) l noLink) ≡ length (getD (allWords s) l []) = ap lengthOf (links-at s l h) in
+      let e : getD (links s) l noLink .size ≡ length (getD (allWords s) l []) = ap (λ (k : Link). k .size) (links-at s l h) in
       size-read s fit (heads (allLabels s)) (links s) (masks s) (startState s) automaton-sized rest l (omega (arith, links-length s)) (rw e (short l h)) ∙ e
 
   size-word : (w : Word) → IsPrefix s w → sizeOf (automatonOf s ++ rest) (stateOf s w) ≡ length w
@@ -141,29 +141,29 @@ module _ (s : FolderSet) (fit : Fitting s) (rest : List ℕ) where
   unfolding automatonOf
   set-first = after-set s fit (heads (allLabels s)) (links s) (masks s) (startState s) rest
 
-  stored : (more : List ℕ) (l at size owner : ℕ) → l < length (allLabels s) → labelAt (setPart s ++ more) l ≡ LabelAt.Label at size owner → word16 (setPart s ++ more) (labelEntryAt l + 4) ≡ owner
+  stored : (more : List ℕ) (l at size owner : ℕ) → l < length (allLabels s) → labelAt (setPart s ++ more) l ≡ LabelAt.Label at size owner → labelStep (setPart s ++ more) l ≡ owner
   unfolding labelAt label-step
   stored more l at size owner h a =
       let k : l < maxLabels = omega (arith, fit .labels) in
       ap label-step (rw (labels-read s fit more, there s fit more (length (allLabels s)) maxLabels l h k) at a)
 
-  owner-here : (l : ℕ) → l < length (allLabels s) → LabelStep s l (word16 (automatonOf s ++ rest) (labelEntryAt l + 4))
+  owner-here : (l : ℕ) → l < length (allLabels s) → LabelStep s l (labelStep (automatonOf s ++ rest) l)
   owner-here l h =
       let x = set-first in
       let r = label-read s fit (x .0) l h in
-      let e : word16 (setPart s ++ x .0) (labelEntryAt l + 4) ≡ r .index = stored (x .0) l (r .at) (length (getD (allLabels s) l [])) (r .index) h (r .answer) in
+      let e : labelStep (setPart s ++ x .0) l ≡ r .index = stored (x .0) l (r .at) (length (getD (allLabels s) l [])) (r .index) h (r .answer) in
       rw (x .1, e) (record { below = r .below; test = r .test; nth = r .nth })
 
-  mask-bit : (m : ℕ) → m < 6 → (i : ℕ) → i < 8 * maskSize → bitIn (automatonOf s ++ rest) (masksAt + maskSize * m) i ≡ roleAt (maskTest m) (roles s) i
+  mask-bit : (m : ℕ) → m < maskCount → (i : ℕ) → i < 8 * maskSize → bitIn (automatonOf s ++ rest) (masksAt + maskSize * m) i ≡ roleAt (maskTest m) (roles s) i
   unfolding automatonOf
   mask-bit m k i h =
-      let j : place m i / 8 < 6 * maskSize = byte-in m i k h in
+      let j : place m i / 8 < allMasks = byte-in m i k h in
       rw (byte-place m i)
       (ap (λ (x : ℕ). bitOf x (i % 8))
       (mask-read s fit (heads (allLabels s)) (links s) (masks s) (startState s) automaton-sized rest (place m i / 8) j
       ∙ ap (λ (l : List ℕ). getD l (place m i / 8) 0) (sym (masks-are s few-roles)))
-      ∙ ap (λ (x : ℕ). bitOf (getD (bitBytes (roleBits 0 (roles s) (λ q. false)) (6 * maskSize)) (place m i / 8) 0) x) (bit-place m i)
-      ∙ bits-bit (roleBits 0 (roles s) (λ q. false)) (6 * maskSize) (place m i) (bit-in m i k h)
+      ∙ ap (λ (x : ℕ). bitOf (getD (bitBytes (roleBits 0 (roles s) (λ q. false)) allMasks) (place m i / 8) 0) x) (bit-place m i)
+      ∙ bits-bit (roleBits 0 (roles s) (λ q. false)) allMasks (place m i) (bit-in m i k h)
       ∙ all-bits m k i h (roles s) few-roles)
 
   start-here : startOf (automatonOf s ++ rest) ≡ startState s

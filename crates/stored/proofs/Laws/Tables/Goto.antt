@@ -25,10 +25,10 @@ use Rattle.theory.proofs.Laws.Keywords.Words.{same-name, name-same}
 use Rattle.stored.proofs.Laws.Bytes.Finding.{find-here, find-later, find-empty}
 use Rattle.stored.proofs.Laws.Tables.States.{same-word, word-same, shortened-followed, followed-last, words-count, word-ends, label-parent, state-followed, state-one}
 
-hash-from-small : (h : ℕ) (n : Name) → h < 256 → hashFrom h n < 256
+hash-from-small : (h : ℕ) (n : Name) → h < hashes → hashFrom h n < hashes
 unfolding hashFrom
 hash-from-small h [] k = k
-hash-from-small h (b ∷ n) k = hash-from-small ((31 * h + b) % 256) n (mod-lt (31 * h + b) (omega arith))
+hash-from-small h (b ∷ n) k = hash-from-small ((31 * h + b) % hashes) n (mod-lt (31 * h + b) (omega arith))
 
 pub hash-small : (n : Name) → hash n < hashes
 unfolding hashes

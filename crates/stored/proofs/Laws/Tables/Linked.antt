@@ -12,7 +12,7 @@ use Rattle.notation.proofs.Laws.Refused.Fitting.{Fitting}
 use Rattle.notation.proofs.Laws.Stored.ReadPaths.{label-read}
 use Rattle.stored.specs.Automaton.{hashes, hash, allLabels, allWords, stateOf, shortened, hasHash, headOf, heads, nexts, Link, assembled}
 use Rattle.stored.specs.Tables.{parentAt}
-use Rattle.stored.proofs.Laws.Tables.Assembled.{Sized, noLink, nextOf, parentOf, after-set, head-read, next-read, parent-read}
+use Rattle.stored.proofs.Laws.Tables.Assembled.{Sized, noLink, after-set, head-read, next-read, parent-read}
 use Rattle.stored.proofs.Laws.Bytes.Tabulate.{find-below, tabulate-at}
 use Rattle.stored.proofs.Laws.Tables.States.{label-parent, state-within}
 use Rattle.stored.proofs.Laws.Tables.Goto.{Chained, Linked, next-at}
@@ -35,7 +35,7 @@ module _ (s : FolderSet) (fit : Fitting s) (ls : List Link) (ms : List ℕ) (f :
       let x = after-set s fit (heads (allLabels s)) ls ms f rest in
       rw (x .1) (label-read s fit (x .0) l h .bytes)
 
-  module _ (next : (l : ℕ) → l < length (allLabels s) → nextOf (getD ls l noLink) ≡ getD (nexts 0 (allLabels s)) l 0) where
+  module _ (next : (l : ℕ) → l < length (allLabels s) → getD ls l noLink .next ≡ getD (nexts 0 (allLabels s)) l 0) where
     -- the chains
     pub chained-here : Chained s (assembled s (heads (allLabels s)) ls ms f ++ rest)
     chained-here = record {
@@ -49,13 +49,13 @@ module _ (s : FolderSet) (fit : Fitting s) (ls : List Link) (ms : List ℕ) (f :
     }
 
     -- and the parent of a label, where it is stored
-    pub parent-here : (l : ℕ) → l < length (allLabels s) → parentOf (getD ls l noLink) ≡ stateOf s (shortened (getD (allWords s) l []))
+    pub parent-here : (l : ℕ) → l < length (allLabels s) → getD ls l noLink .parent ≡ stateOf s (shortened (getD (allWords s) l []))
         → parentAt (assembled s (heads (allLabels s)) ls ms f ++ rest) l ≡ stateOf s (shortened (getD (allWords s) l []))
     parent-here l h p =
         parent-read s fit (heads (allLabels s)) ls ms f z rest l (rw count h)
         (small (length (allLabels s)) _ (fit .labels) (rw p (state-within s (shortened (getD (allWords s) l [])) (label-parent s l h))))
         ∙ p
 
-    pub linked-here : ((l : ℕ) → l < length (allLabels s) → parentOf (getD ls l noLink) ≡ stateOf s (shortened (getD (allWords s) l [])))
+    pub linked-here : ((l : ℕ) → l < length (allLabels s) → getD ls l noLink .parent ≡ stateOf s (shortened (getD (allWords s) l [])))
         → Linked s (assembled s (heads (allLabels s)) ls ms f ++ rest)
     linked-here p = record { chained = chained-here; parent = λ l h. parent-here l h (p l h) }

@@ -1,6 +1,6 @@
 -- The passes of the chains and of the parents, one after the other, from links of zeros: what they leave are the set's links but for the
 -- failure links, which are 0.
-use Prim.Native.Nat.{ℕ, zero, suc, _*_, _<_, min}
+use Prim.Native.Nat.{ℕ, zero, suc, _<_, min}
 use native.Mathlib.Nat.{not-suc-le-zero, le-of-suc-le-suc}
 use native.Mathlib.Omega.{arith}
 use mathlib.Core.Path.{_≡_, refl, ap, _∙_}
@@ -15,13 +15,12 @@ use Rattle.notation.specs.Form.{pathsOf}
 use Rattle.text.specs.Lists.{nonEmpty, every}
 use Rattle.notation.specs.Reads.{stepCount, labelCount}
 use Rattle.notation.proofs.Laws.Refused.Fitting.{Fitting}
-use Rattle.theory.specs.Words.{Word}
-use Rattle.stored.specs.Automaton.{hashes, maskSize, allLabels, allWords, heads, nexts, Link, link, assembled}
+use Rattle.stored.specs.Automaton.{hashes, allLabels, allWords, heads, nexts, Link, link, assembled, allMasks}
 use Rattle.stored.specs.Walkable.{Searchable}
 use Rattle.stored.specs.Code.Chains.{chained}
 use Rattle.stored.specs.Code.Parents.{parented, outset}
 use Rattle.stored.proofs.Laws.Bytes.Tabulate.{tabulate-length}
-use Rattle.stored.proofs.Laws.Tables.Assembled.{nextOf, parentOf, failureOf, lengthOf, withNext, noLink, Sized}
+use Rattle.stored.proofs.Laws.Tables.Assembled.{withNext, noLink, Sized}
 use Rattle.stored.proofs.Laws.Tables.SetReads.{label-count}
 use Rattle.stored.proofs.Laws.Tables.States.{words-count}
 use Rattle.stored.proofs.Laws.Tables.Linked.{chained-here}
@@ -43,9 +42,6 @@ unfolding nexts
 length-nexts k [] = refl
 length-nexts k (n ∷ names) = ap suc (length-nexts (suc k) names)
 
-flagged-failure : (s : FolderSet) (w : Word) (k : Link) → failureOf (flagged s w k) ≡ failureOf k
-flagged-failure s w (link n p x z) = refl
-
 -- after the chains
 unfoldable pub chainLinks : FolderSet → List Link
 chainLinks s = withNexts (nexts 0 (allLabels s)) (replicate (length (allLabels s)) noLink)
@@ -65,8 +61,8 @@ module _ (s : FolderSet) where
       withNexts-at (nexts 0 (allLabels s)) (replicate (length (allLabels s)) noLink) l (rw (length-nexts 0 (allLabels s)) h) (rw (length-replicate (length (allLabels s)) noLink) h)
       ∙ ap (withNext (getD (nexts 0 (allLabels s)) l 0)) (getD-replicate (length (allLabels s)) l noLink noLink h)
 
-  chain-next : (l : ℕ) → l < length (allLabels s) → nextOf (getD (chainLinks s) l noLink) ≡ getD (nexts 0 (allLabels s)) l 0
-  chain-next l h = ap nextOf (chain-at l h)
+  chain-next : (l : ℕ) → l < length (allLabels s) → getD (chainLinks s) l noLink .next ≡ getD (nexts 0 (allLabels s)) l 0
+  chain-next l h = ap (λ (k : Link). k .next) (chain-at l h)
 
   word-at : (l : ℕ) → l < length (allLabels s) → getD (wordLinks s) l noLink ≡ flagged s (getD (allWords s) l []) (link (getD (nexts 0 (allLabels s)) l 0) 0 0 0)
   unfolding wordLinks
@@ -78,13 +74,13 @@ module _ (s : FolderSet) where
   unfolding wordLinks
   word-links = record {
     count = length-placed s (allWords s) (chainLinks s) ∙ chain-count;
-    next = λ l h. ap nextOf (word-at l h);
-    parent = λ l h. ap parentOf (word-at l h);
-    fail = λ l h. inl (ap failureOf (word-at l h));
-    size = λ l h. ap lengthOf (word-at l h);
+    next = λ l h. ap (λ (k : Link). k .next) (word-at l h);
+    parent = λ l h. ap (λ (k : Link). k .parent) (word-at l h);
+    fail = λ l h. inl (ap (λ (k : Link). k .fail) (word-at l h));
+    size = λ l h. ap (λ (k : Link). k .size) (word-at l h);
   }
 
-module _ (s : FolderSet) (fit : Fitting s) (ms : List ℕ) (f : ℕ) (rest : List ℕ) (masks : length ms ≡ 6 * maskSize) where
+module _ (s : FolderSet) (fit : Fitting s) (ms : List ℕ) (f : ℕ) (rest : List ℕ) (masks : length ms ≡ allMasks) where
   -- the chains, for the count of labels that the code goes by
   pub chains-made : chained (min (labelCount (assembled s (replicate hashes 0) (replicate (length (allLabels s)) noLink) ms f ++ rest)) maxLabels) (assembled s (replicate hashes 0) (replicate (length (allLabels s)) noLink) ms f ++ rest)
       ≡ assembled s (heads (allLabels s)) (chainLinks s) ms f ++ rest

@@ -1,5 +1,5 @@
 -- `build::chains::link_label`: the two stores are those of `linked`.
-use Prim.Native.Nat.{ℕ, _+_, _*_}
+use Prim.Native.Nat.{ℕ, _+_}
 use mathlib.Core.Path.{_≡_, _∙_, ap}
 use mathlib.Core.List.{List}
 use native.Mathlib.Omega.{arith}
@@ -9,13 +9,13 @@ use Rattle.stored.specs.Tables.{headAt}
 use Rattle.stored.specs.Code.Chains.{linked}
 use lib.Seq.{sets}
 use Rattle.notation.specs.Limits.{maxLabels}
-use Rattle.stored.specs.Automaton.{headsAt, linksAt, linkSize, hash}
+use Rattle.stored.specs.Automaton.{hashes, headsAt, linksAt, linkSize, hash, headEntryAt, linkEntryAt}
 use borrow.Author.Needs.{needs}
 use Rattle.machine.proofs.build.chains.link_label.Statement.{statement}
 use Rattle.machine.proofs.build.chains.link_label.Tie as tie
 
-done : (a b : List ℕ) {d : List ℕ} (l h head : ℕ) → h ≡ hash (labelName a l) → head ≡ headAt a h → b ≡ sets a (linksAt + linkSize * l) (le16 head)
-    → d ≡ sets b (headsAt + 2 * h) (le16 (l + 1)) → d ≡ linked l a
+done : (a b : List ℕ) {d : List ℕ} (l h head : ℕ) → h ≡ hash (labelName a l) → head ≡ headAt a h → b ≡ sets a (linkEntryAt l) (le16 head)
+    → d ≡ sets b (headEntryAt h) (le16 (l + 1)) → d ≡ linked l a
 done a b l h head e f g k = rw (← e, ← f, ← g) k
 
 label-name-requires : tie.Need-label-name-requires
@@ -25,9 +25,11 @@ hash-of-requires : tie.Need-hash-of-requires
 hash-of-requires c κs = search needs
 
 mul-word-at : tie.Need-mul-word-at
+unfolding hashes
 mul-word-at c = search needs
 
 add-word-at : tie.Need-add-word-at
+unfolding hashes
 add-word-at c = search needs
 
 word-at-requires : tie.Need-word-at-requires
@@ -45,9 +47,11 @@ put16-requires : tie.Need-put16-requires
 put16-requires c κs = search needs
 
 mul-put16-2 : tie.Need-mul-put16-2
+unfolding hashes
 mul-put16-2 c = search needs
 
 add-put16-2 : tie.Need-add-put16-2
+unfolding hashes
 add-put16-2 c = search needs
 
 add-put16-3 : tie.Need-add-put16-3

@@ -4,34 +4,23 @@ use lib.Seq.{sets}
 use borrow.Author.Tests.{eq-eqb, ne-eqb}
 use Rattle.stored.specs.Code.Fails.{failTo, failedIf}
 use Rattle.stored.specs.Tables.{sizeAt}
-use Rattle.stored.specs.Automaton.{linksAt, linkSize}
+use Rattle.stored.specs.Automaton.{linksAt, linkSize, failIn, linkEntryAt}
 use Rattle.notation.specs.Limits.{maxLabels}
 use native.Mathlib.Omega.{arith}
 use mathlib.Core.List.{List}
 use mathlib.Core.Path.{_≡_, sym, _∙_}
-use Prim.Native.Nat.{ℕ, _+_, _*_}
+use Prim.Native.Nat.{ℕ, _+_}
 use borrow.Author.Needs.{needs}
 use Rattle.machine.proofs.build.fails.fail_label.Statement.{statement}
 use Rattle.machine.proofs.build.fails.fail_label.Tie as tie
 
-done : (a : List ℕ) (l n v : ℕ) {d : List ℕ} → sizeAt a l ≡ n → v ≡ failTo a l → d ≡ sets a (linksAt + linkSize * l + 4) (le16 v) → d ≡ failedIf n l a
+done : (a : List ℕ) (l n v : ℕ) {d : List ℕ} → sizeAt a l ≡ n → v ≡ failTo a l → d ≡ sets a (linkEntryAt l + failIn) (le16 v) → d ≡ failedIf n l a
 unfolding failedIf
 done a l n v e f g = rw (eq-eqb (sizeAt a l) n e, ← f) g
 
-mul-word-at : tie.Need-mul-word-at
+link-field-requires : tie.Need-link-field-requires
 unfolding maxLabels
-mul-word-at c = omega (arith, c .before .before .pre .1, c .before .before .pre .0 .walkable .searchable .few)
-
-add-word-at : tie.Need-add-word-at
-unfolding maxLabels
-add-word-at c = omega (arith, c .before .before .pre .1, c .before .before .pre .0 .walkable .searchable .few)
-
-add-word-at-2 : tie.Need-add-word-at-2
-unfolding maxLabels
-add-word-at-2 c = omega (arith, c .before .before .pre .1, c .before .before .pre .0 .walkable .searchable .few)
-
-word-at-requires : tie.Need-word-at-requires
-word-at-requires c κs = search needs
+link-field-requires c κs = (omega (arith, c .before .before .pre .1, c .before .before .pre .0 .walkable .searchable .few), omega arith)
 
 fail-to-requires : tie.Need-fail-to-requires
 fail-to-requires c κs = search needs
@@ -57,24 +46,21 @@ same-length c = search needs
 returns : tie.Need-returns
 unfolding failedIf linksAt linkSize
 returns c = done (c .before .before .before .before .before .before .before .before .before .before .args .a .now) (c .before .before .before .before .before .before .before .before .before .before .args .l) (c .before .before .before .before .before .before .before .before .before .before .args .n) (c .before .before .before .before .fail-to .result)
-    (sym (c .before .before .before .before .before .before .before .word-at .ensures .0) ∙ c .before .before .before .before .before .before .if1 .taken) (c .before .before .before .before .fail-to .ensures) (c .before .before .put16 .ensures)
+    (sym (c .before .before .before .before .before .before .before .link-field .ensures .0) ∙ c .before .before .before .before .before .before .if1 .taken) (c .before .before .before .before .fail-to .ensures) (c .before .before .put16 .ensures)
 
 same-length-2 : tie.Need-same-length-2
 same-length-2 c = search needs
 
 returns-2 : tie.Need-returns-2
-unfolding failedIf linksAt linkSize
-returns-2 c = let n : sizeAt (c .before .before .before .before .args .a .now) (c .before .before .before .before .args .l) ≡ c .before .before .before .before .args .n → ⊥ = λ e. c .if1 .left (c .before .word-at .ensures .0 ∙ e) in
+unfolding failedIf
+returns-2 c = let n : sizeAt (c .before .before .before .before .args .a .now) (c .before .before .before .before .args .l) ≡ c .before .before .before .before .args .n → ⊥ = λ e. c .if1 .left (c .before .link-field .ensures .0 ∙ e) in
     rw (ne-eqb (sizeAt (c .before .before .before .before .args .a .now) (c .before .before .before .before .args .l)) (c .before .before .before .before .args .n) n)
 
 pub fail-label-spec : {M : Type 1} → statement M
 fail-label-spec =
     tie.close
     (tie.spec
-    mul-word-at
-    add-word-at
-    add-word-at-2
-    word-at-requires
+    link-field-requires
     fail-to-requires
     mul-put16
     add-put16

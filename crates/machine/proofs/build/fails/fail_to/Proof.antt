@@ -3,7 +3,6 @@ use Rattle.stored.proofs.Laws.Tables.Fuel.{fail-state}
 use borrow.Author.Tests.{eq-eqb, ne-eqb}
 use Rattle.stored.specs.Code.Fails.{failTo, Growing}
 use Rattle.stored.specs.Tables.{parentAt, failOf}
-use Rattle.stored.specs.Automaton.{linksAt, linkSize}
 use Rattle.notation.specs.Reads.{labelCount, labelName}
 use Rattle.notation.specs.Limits.{maxLabels}
 use native.Mathlib.Omega.{arith}
@@ -13,28 +12,17 @@ use borrow.Author.Needs.{needs}
 use Rattle.machine.proofs.build.fails.fail_to.Statement.{statement}
 use Rattle.machine.proofs.build.fails.fail_to.Tie as tie
 
-mul-word-at : tie.Need-mul-word-at
+link-field-requires : tie.Need-link-field-requires
 unfolding maxLabels
-mul-word-at c = omega (arith, c .before .pre .1, c .before .pre .0 .walkable .searchable .few)
-
-add-word-at : tie.Need-add-word-at
-unfolding maxLabels
-add-word-at c = omega (arith, c .before .pre .1, c .before .pre .0 .walkable .searchable .few)
-
-add-word-at-2 : tie.Need-add-word-at-2
-unfolding maxLabels
-add-word-at-2 c = omega (arith, c .before .pre .1, c .before .pre .0 .walkable .searchable .few)
-
-word-at-requires : tie.Need-word-at-requires
-word-at-requires c κs = search needs
+link-field-requires c κs = (omega (arith, c .before .pre .1, c .before .pre .0 .walkable .searchable .few), omega arith)
 
 returns : tie.Need-returns
-unfolding failTo linksAt linkSize
+unfolding failTo
 returns c = let a = c .before .before .before .args .a .now in
     let l = c .before .before .before .args .l in
     let g : Growing a = c .before .before .before .pre .0 in
     let i : l < labelCount a = c .before .before .before .pre .1 in
-    let p : parentAt a l ≡ 0 = sym (c .before .word-at .ensures .0) ∙ c .if1 .taken in
+    let p : parentAt a l ≡ 0 = sym (c .before .link-field .ensures .0) ∙ c .if1 .taken in
     rw (eq-eqb (parentAt a l) 0 p)
 
 label-name-requires : tie.Need-label-name-requires
@@ -47,22 +35,21 @@ hash-of-requires : tie.Need-hash-of-requires
 hash-of-requires c κs = search needs
 
 walk-from-requires : tie.Need-walk-from-requires
-unfolding linksAt linkSize
 walk-from-requires c κs = let a = c .before .before .before .before .before .before .args .a .now in
     let l = c .before .before .before .before .before .before .args .l in
     let g : Growing a = c .before .before .before .before .before .before .pre .0 in
     let i : l < labelCount a = c .before .before .before .before .before .before .pre .1 in
-    let p : c .before .before .before .before .word-at .result ≡ parentAt a l = c .before .before .before .before .word-at .ensures .0 in
+    let p : c .before .before .before .before .link-field .result ≡ parentAt a l = c .before .before .before .before .link-field .ensures .0 in
     let f : c .before .fail-of .result ≡ failOf a (parentAt a l) = c .before .fail-of .ensures ∙ ap (failOf a) p in
     (g .walkable, (rw f (fail-state a (g .walkable .falling) (parentAt a l) (g .parent l i)), (c .hash-of .ensures .0, g .room)))
 
 returns-2 : tie.Need-returns-2
-unfolding failTo linksAt linkSize
+unfolding failTo
 returns-2 c = let a = c .before .before .before .before .before .before .before .args .a .now in
     let l = c .before .before .before .before .before .before .before .args .l in
     let g : Growing a = c .before .before .before .before .before .before .before .pre .0 in
     let i : l < labelCount a = c .before .before .before .before .before .before .before .pre .1 in
-    let p : c .before .before .before .before .before .word-at .result ≡ parentAt a l = c .before .before .before .before .before .word-at .ensures .0 in
+    let p : c .before .before .before .before .before .link-field .result ≡ parentAt a l = c .before .before .before .before .before .link-field .ensures .0 in
     let z : parentAt a l ≡ 0 → ⊥ = λ e. c .before .before .before .before .if1 .left (p ∙ e) in
     let f : c .before .before .fail-of .result ≡ failOf a (parentAt a l) = c .before .before .fail-of .ensures ∙ ap (failOf a) p in
     let n : c .before .before .before .label-name .result .now ≡ labelName a l = c .before .before .before .label-name .ensures in
@@ -72,10 +59,7 @@ pub fail-to-spec : {M : Type 1} → statement M
 fail-to-spec =
     tie.close
     (tie.spec
-    mul-word-at
-    add-word-at
-    add-word-at-2
-    word-at-requires
+    link-field-requires
     returns
     label-name-requires
     fail-of-requires

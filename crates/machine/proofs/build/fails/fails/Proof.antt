@@ -8,7 +8,7 @@ use lib.ListN.{length}
 use native.Mathlib.Omega.{arith}
 use mathlib.Core.List.{List}
 use mathlib.Core.Path.{_≡_, refl, _∙_, ap}
-use Prim.Native.Nat.{ℕ, _+_, _-_, _≤_}
+use Prim.Native.Nat.{ℕ, suc, _+_, _-_, _≤_}
 use Rattle.machine.proofs.build.fails.fails.Statement.{statement}
 use Rattle.machine.proofs.build.fails.fails.Tie as tie
 
@@ -17,25 +17,28 @@ unfolding failedTo
 next n a b g e f = f ∙ rw (e, grows-to n a g .1, add-one)
 
 abbrev Inv-loop : tie.InvT-loop
-Inv-loop a₀ n₀ a n = (n ≤ 17) × (length a ≡ length a₀) × (a ≡ failedTo (labelCount a₀) n a₀)
+Inv-loop a₀ n₀ a n = (n ≤ suc maxSteps) × (length a ≡ length a₀) × (a ≡ failedTo (labelCount a₀) n a₀)
 
 abbrev μ-loop : tie.MeasureT-loop
-μ-loop a₀ n₀ a n = 17 - n
+μ-loop a₀ n₀ a n = suc maxSteps - n
 
 loop-holds : tie.Need-loop-holds Inv-loop μ-loop
 unfolding failedTo
 loop-holds c = (omega arith, refl, refl)
 
 add-n : tie.Need-add-n Inv-loop μ-loop
+unfolding maxSteps
 add-n c = omega arith
 
 fail-labels-requires : tie.Need-fail-labels-requires Inv-loop μ-loop
 fail-labels-requires c κs = rw (c .before .before .loop .inv .2) (grows-to (c .before .before .loop .n) (c .before .before .before .before .args .a .now) (c .before .before .before .before .pre) .0)
 
 loop-less : tie.Need-loop-less Inv-loop μ-loop
+unfolding maxSteps
 loop-less c = omega arith
 
 loop-again : tie.Need-loop-again Inv-loop μ-loop
+unfolding maxSteps
 loop-again c = let x = c .before .before .before .before .before .loop in
     (omega arith, c .before .before .fail-labels .kept .0 ∙ x .inv .1, next (x .n) (c .before .before .before .before .before .before .before .args .a .now) (x .a) (c .before .before .before .before .before .before .before .pre) (x .inv .2) (c .before .before .fail-labels .ensures))
 
@@ -45,7 +48,7 @@ same-length c = c .before .loop .inv .1
 returns : tie.Need-returns Inv-loop μ-loop
 unfolding maxSteps
 returns c = let x = c .before .loop in
-    let e : x .n ≡ 17 = omega (arith, x .inv .0, c .loop-test .left) in
+    let e : x .n ≡ suc maxSteps = omega (arith, x .inv .0, c .loop-test .left) in
     x .inv .2 ∙ ap (λ (k : ℕ). failedTo (labelCount (c .before .before .before .args .a .now)) k (c .before .before .before .args .a .now)) e
 
 pub fails-spec : {M : Type 1} → statement M

@@ -1,20 +1,20 @@
 -- `build::parents::store_word`: the two stores are those of `wordStored`.
-use Prim.Native.Nat.{ℕ, _+_, _*_}
+use Prim.Native.Nat.{ℕ, _+_}
 use mathlib.Core.Path.{_≡_}
 use mathlib.Core.List.{List}
 use native.Mathlib.Omega.{arith}
 use lib.Seq.{sets}
 use Rattle.notation.specs.Limits.{maxLabels}
 use Rattle.text.specs.Bytes.{le16}
-use Rattle.stored.specs.Automaton.{linksAt, linkSize}
+use Rattle.stored.specs.Automaton.{linksAt, linkSize, parentIn, sizeIn, linkEntryAt}
 use Rattle.stored.specs.Tables.{sizeOf}
 use Rattle.stored.specs.Code.Parents.{wordStored}
 use borrow.Author.Needs.{needs}
 use Rattle.machine.proofs.build.parents.store_word.Statement.{statement}
 use Rattle.machine.proofs.build.parents.store_word.Tie as tie
 
-done : (a b : List ℕ) {d : List ℕ} (l q size : ℕ) → size ≡ sizeOf a q → b ≡ sets a (linksAt + linkSize * l + 2) (le16 q)
-    → d ≡ sets b (linksAt + linkSize * l + 6) (le16 (size + 1)) → d ≡ wordStored l q a
+done : (a b : List ℕ) {d : List ℕ} (l q size : ℕ) → size ≡ sizeOf a q → b ≡ sets a (linkEntryAt l + parentIn) (le16 q)
+    → d ≡ sets b (linkEntryAt l + sizeIn) (le16 (size + 1)) → d ≡ wordStored l q a
 done a b l q size e f g = rw (← e, ← f) g
 
 size-of-requires : tie.Need-size-of-requires

@@ -31,7 +31,7 @@ bit-in-requires c κs = (omega arith, omega arith)
 returns : tie.Need-returns
 unfolding activeIn
 returns c = let b = c .before .before .before .before .before .before .args in
-    c .bit-in .ensures ∙ ap (λ (n : ℕ). bitIn (b .run .now) (c .before .before .row-at .result + 35) n) (c .before .minus .ensures) ∙ ap (λ (n : ℕ). bitIn (b .run .now) (n + 35) (b .first + b .s - 1)) (c .before .before .row-at .ensures .0) ∙ ap (λ (n : ℕ). bitIn (b .run .now) (rowAt n + activeIn) (b .first + b .s - 1)) (c .before .before .before .depth .ensures .0)
+    c .bit-in .ensures ∙ ap (λ (n : ℕ). bitIn (b .run .now) (c .before .before .row-at .result + activeIn) n) (c .before .minus .ensures) ∙ ap (λ (n : ℕ). bitIn (b .run .now) (n + activeIn) (b .first + b .s - 1)) (c .before .before .row-at .ensures .0) ∙ ap (λ (n : ℕ). bitIn (b .run .now) (rowAt n + activeIn) (b .first + b .s - 1)) (c .before .before .before .depth .ensures .0)
 
 pub bit-active-spec : {M : Type 1} → statement M
 bit-active-spec =

@@ -2,11 +2,11 @@ use native.Mathlib.Omega.{arith}
 use mathlib.Core.Path.{_≡_, refl, sym, _∙_, ap}
 use mathlib.Core.Bool.{_||_}
 use mathlib.Core.List.{List}
-use Prim.Native.Nat.{ℕ, _+_, _-_, _≤_}
+use Prim.Native.Nat.{ℕ, _-_, _≤_}
 use lib.Dec.{eqb}
 use lib.ListN.{length}
 use Rattle.notation.specs.Limits.{maxLabels}
-use Rattle.notation.specs.Reads.{word16, labelCount, labelEntryAt}
+use Rattle.notation.specs.Reads.{labelCount, labelStep}
 use Rattle.text.specs.Lists.{any}
 use Rattle.stored.specs.Automaton.{hashes, hash, headsAt, linksAt, linkSize, automatonSize}
 use Rattle.stored.specs.Tables.{headAt, nextAt}
@@ -19,7 +19,7 @@ use Rattle.machine.proofs.run.candidates.flag_labels.Statement.{stateme
 use Rattle.machine.proofs.run.candidates.flag_labels.Tie as tie
 
 abbrev Inv-loop : tie.InvT-loop
-Inv-loop out₀ a e h k₀ out k = (k ≤ labelCount a) × ((length out ≡ length out₀) × ((j : ℕ) → (bitAt out j || any (λ m. eqb (word16 a (labelEntryAt m + 4)) j) (chainFrom maxLabels a e k)) ≡ (bitAt out₀ j || any (λ m. eqb (word16 a (labelEntryAt m + 4)) j) (chainLabels a e))))
+Inv-loop out₀ a e h k₀ out k = (k ≤ labelCount a) × ((length out ≡ length out₀) × ((j : ℕ) → (bitAt out j || any (λ m. eqb (labelStep a m) j) (chainFrom maxLabels a e k)) ≡ (bitAt out₀ j || any (λ m. eqb (labelStep a m) j) (chainLabels a e))))
 
 abbrev μ-loop : tie.MeasureT-loop
 μ-loop out₀ a e h k₀ out k = left (labelCount a) k
@@ -87,7 +87,7 @@ loop-again c = let b = c .before .before .before .before .before .before .before
     let z = c .before .before .before .before .before .loop-test .taken in
     let r : c .word2 .result ≡ nextAt a (l .k - 1) = c .word2 .ensures .0 in
     let m = c .before .before .before .flag-label in
-    (rw r (s .next (l .k - 1) (low a s (l .k) z (l .inv .0))), (m .kept .0 ∙ l .inv .1 .0, λ j. rw r (flagged a s (l .k) z (l .inv .0) e (λ n. eqb (word16 a (labelEntryAt n + 4)) j) (bitAt (m .last .0) j) (bitAt (l .out) j) (m .ensures j) ∙ l .inv .1 .1 j)))
+    (rw r (s .next (l .k - 1) (low a s (l .k) z (l .inv .0))), (m .kept .0 ∙ l .inv .1 .0, λ j. rw r (flagged a s (l .k) z (l .inv .0) e (λ n. eqb (labelStep a n) j) (bitAt (m .last .0) j) (bitAt (l .out) j) (m .ensures j) ∙ l .inv .1 .1 j)))
 
 same-length : tie.Need-same-length Inv-loop μ-loop
 same-length c = c .before .loop .inv .1 .0
@@ -97,7 +97,7 @@ returns c = let b = c .before .before .before .before .before .before in
     let a = b .args .a .now in
     let e = b .args .e .now in
     let l = c .before .loop in
-    λ j. sym (or-none (bitAt (l .out) j) (λ n. eqb (word16 a (labelEntryAt n + 4)) j)) ∙ ap (λ (x : List ℕ). bitAt (l .out) j || any (λ n. eqb (word16 a (labelEntryAt n + 4)) j) x) (sym (chain-none maxLabels a e) ∙ ap (chainFrom maxLabels a e) (sym (c .loop-test .left))) ∙ l .inv .1 .1 j
+    λ j. sym (or-none (bitAt (l .out) j) (λ n. eqb (labelStep a n) j)) ∙ ap (λ (x : List ℕ). bitAt (l .out) j || any (λ n. eqb (labelStep a n) j) x) (sym (chain-none maxLabels a e) ∙ ap (chainFrom maxLabels a e) (sym (c .loop-test .left))) ∙ l .inv .1 .1 j
 
 pub flag-labels-spec : {M : Type 1} → statement M
 flag-labels-spec =

@@ -3,7 +3,7 @@ use mathlib.Core.Path.{_≡_, sym, _∙_}
 use mathlib.Core.Bool.{true, false}
 use lib.Dec.{eqb}
 use borrow.Author.Tests.{eq-eqb, ne-eqb, eqb-false}
-use Rattle.stored.specs.RunCalls.{closeRefusal, closeCounters, depthOf}
+use Rattle.stored.specs.RunCalls.{closeRefusal, depthOf}
 use Rattle.stored.proofs.Laws.Shapes.Given.{may-close, close-others}
 use Rattle.stored.proofs.Laws.Shapes.RunShape.{run-shape}
 use Rattle.stored.proofs.Laws.Shapes.CounterShape.{closes-fit}
@@ -30,20 +30,19 @@ close-on-requires c κs = let p = c .before .before .before .before .before .bef
     let z = close-others (b .a .now) (b .run .now) (b .counters) (b .e .now) (p .pre) ∙ sym (c .before .before .close-others .ensures) ∙ c .before .if1 .left in
     (p .pre .ready .runLength, (omega (arith, eqb-false (depthOf (b .run .now)) 0 (may-close (b .a .now) (b .run .now) (b .counters) (b .e .now) z .depth)), run-shape (b .a .now) (b .run .now) (p .pre .ready .runIsShaped) .deepest))
 
-add-t12 : tie.Need-add-t12
-add-t12 c = let p = c .before .before .before .before .before .before .before .before .before .before .before in
-    omega (arith, closes-fit (p .args .run .now) (p .args .counters) (p .pre .counts))
+after-close-requires : tie.Need-after-close-requires
+after-close-requires c κs = let p = c .before .before .before .before .before .before .before .before .before .before in
+    closes-fit (p .args .run .now) (p .args .counters) (p .pre .counts)
 
 same-length-2 : tie.Need-same-length-2
 same-length-2 c = search needs
 
 returns-2 : tie.Need-returns-2
-unfolding closeCounters
 returns-2 c = let p = c .before .before .before .before .before .before .before .before .before .before .before in
     let b = p .args in
     let z : closeRefusal (b .a .now) (b .run .now) (b .counters) (b .e .now) ≡ 0 = close-others (b .a .now) (b .run .now) (b .counters) (b .e .now) (p .pre) ∙ sym (c .before .before .before .before .before .before .close-others .ensures) ∙ c .before .before .before .before .before .if1 .left in
     let n : eqb (closeRefusal (b .a .now) (b .run .now) (b .counters) (b .e .now)) 0 ≡ true = eq-eqb _ _ z in
-    record { answers = sym z; runAfter = rw n (c .before .before .before .close-on .ensures); countersAfter = rw n }
+    record { answers = sym z; runAfter = rw n (c .before .before .before .close-on .ensures); countersAfter = rw n (c .after-close .ensures) }
 
 pub close-usable-spec : {M : Type 1} → statement M
 close-usable-spec =
@@ -53,6 +52,6 @@ close-usable-spec =
     same-length
     returns
     close-on-requires
-    add-t12
+    after-close-requires
     same-length-2
     returns-2)

@@ -1,14 +1,14 @@
 use native.Mathlib.Omega.{arith}
 use mathlib.Core.Path.{_≡_, sym, _∙_, ap}
 use mathlib.Core.Bool.{true, false}
-use Prim.Native.Nat.{ℕ, _+_}
+use Prim.Native.Nat.{ℕ}
 use lib.Dec.{eqb}
 use borrow.Author.Tests.{eq-eqb, ne-eqb}
 use Rattle.notation.specs.Limits.{maxSteps}
 use Rattle.text.specs.Answers.{refused, value}
 use Rattle.text.proofs.Laws.Said.{said-value, said-refused}
-use Rattle.theory.specs.Limits.{maxOpens}
-use Rattle.stored.specs.RunCalls.{openRefusal, openCounters}
+use Rattle.theory.specs.Limits.{maxDepth}
+use Rattle.stored.specs.RunCalls.{openRefusal, afterOpen, openCounters}
 use Rattle.stored.specs.declared.walk.Walk.{Walk}
 use Rattle.stored.proofs.Laws.Shapes.Given.{may-open, open-others}
 use Rattle.stored.proofs.Laws.Shapes.CounterShape.{moves-fit}
@@ -38,30 +38,25 @@ open-on-requires c κs = let p = c .before .before .before .before .before .befo
     let m = may-open (b .a .now) (b .run .now) (b .counters) (b .e .now) z in
     (m .ready, (m .depth, m .name))
 
-add-t15 : tie.Need-add-t15
-unfolding maxOpens
-add-t15 c = let p = c .before .before .before .before .before .before .before .before .before .before .before in
-    let b = p .args in
-    let z = open-others (b .a .now) (b .run .now) (b .counters) (b .e .now) (p .pre) ∙ sym (c .before .before .before .before .before .before .open-others .ensures) ∙ c .before .before .before .before .before .if1 .left in
-    omega (arith, may-open (b .a .now) (b .run .now) (b .counters) (b .e .now) z .opens)
-
-add-t16 : tie.Need-add-t16
-unfolding maxSteps
-add-t16 c = let p = c .before .before .before .before .before .before .before .before .before .before .before .before in
-    omega (arith, moves-fit (p .args .run .now) (p .args .counters) (p .pre .counts), c .before .before .before .before .open-on .ensures .1 .0)
+after-open-requires : tie.Need-after-open-requires
+unfolding maxSteps maxDepth
+after-open-requires c κs = let p = c .before .before .before .before .before .before .before .before .before .before in
+    let m = p .args in
+    let z = open-others (m .a .now) (m .run .now) (m .counters) (m .e .now) (p .pre) ∙ sym (c .before .before .before .before .before .open-others .ensures) ∙ c .before .before .before .before .if1 .left in
+    (omega (arith, may-open (m .a .now) (m .run .now) (m .counters) (m .e .now) z .opens), (moves-fit (m .run .now) (m .counters) (p .pre .counts), omega (arith, c .before .before .open-on .ensures .1 .0)))
 
 same-length-2 : tie.Need-same-length-2
 same-length-2 c = search needs
 
 returns-2 : tie.Need-returns-2
 unfolding openCounters
-returns-2 c = let p = c .before .before .before .before .before .before .before .before .before .before .before .before in
+returns-2 c = let p = c .before .before .before .before .before .before .before .before .before .before .before in
     let b = p .args in
-    let z : openRefusal (b .a .now) (b .run .now) (b .counters) (b .e .now) ≡ 0 = open-others (b .a .now) (b .run .now) (b .counters) (b .e .now) (p .pre) ∙ sym (c .before .before .before .before .before .before .before .open-others .ensures) ∙ c .before .before .before .before .before .before .if1 .left in
+    let z : openRefusal (b .a .now) (b .run .now) (b .counters) (b .e .now) ≡ 0 = open-others (b .a .now) (b .run .now) (b .counters) (b .e .now) (p .pre) ∙ sym (c .before .before .before .before .before .before .open-others .ensures) ∙ c .before .before .before .before .before .if1 .left in
     let n : eqb (openRefusal (b .a .now) (b .run .now) (b .counters) (b .e .now)) 0 ≡ true = eq-eqb _ _ z in
-    let w = c .before .before .before .before .open-on in
+    let w = c .before .before .before .open-on in
     let e = w .ensures .0 in
-    record { answers = ap (λ (x : Walk). value (x .moves)) e ∙ sym (said-value (openRefusal (b .a .now) (b .run .now) (b .counters) (b .e .now)) _ z); runAfter = rw n (w .ensures .1 .1); countersAfter = rw n (ap (λ (x : Walk). record { opens = b .counters .opens + 1; closes = b .counters .closes; moves = b .counters .moves + x .moves }) e) }
+    record { answers = ap (λ (x : Walk). value (x .moves)) e ∙ sym (said-value (openRefusal (b .a .now) (b .run .now) (b .counters) (b .e .now)) _ z); runAfter = rw n (w .ensures .1 .1); countersAfter = rw n (c .after-open .ensures ∙ ap (λ (x : Walk). afterOpen (b .counters) (x .moves)) e) }
 
 pub open-usable-spec : {M : Type 1} → statement M
 open-usable-spec =
@@ -71,7 +66,6 @@ open-usable-spec =
     same-length
     returns
     open-on-requires
-    add-t15
-    add-t16
+    after-open-requires
     same-length-2
     returns-2)

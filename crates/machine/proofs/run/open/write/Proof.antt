@@ -40,7 +40,7 @@ flag-bits-requires : tie.Need-flag-bits-requires
 unfolding maskSize
 flag-bits-requires c κs = let b = c .before .before .before .before .before .before .before .before .before .before .before .before in
     let p = b .pre .0 in
-    let u : c .before .before .before .before .before .before .before .before .used-bytes .result ≤ 256 = omega (arith, c .before .before .before .before .before .before .before .before .used-bytes .ensures, used-room (b .args .a .now) (p .0 .steps)) in
+    let u : c .before .before .before .before .before .before .before .before .used-bytes .result ≤ maskSize = omega (arith, c .before .before .before .before .before .before .before .before .used-bytes .ensures, used-room (b .args .a .now) (p .0 .steps)) in
     ((p .0 .size, (p .1 .0, (omega (arith, c .before .before .before .before .before .before .flag-labels .kept .0), (omega (arith, p .1 .1 .0), u)))), (omega arith, (omega arith, omega arith)))
 
 slice-aggregate-store : tie.Need-slice-aggregate-store
@@ -88,7 +88,7 @@ returns c = let b = c .before .before .before .before .before .before .before .b
     let u = c .before .before .before .before .before .before .before .before .before .before .before .before .before .before .before .before .before .before .before .before .before .before .before .before .before .before .before .used-bytes in
     let t = c .before .before .before .before .before .before .before .before .before .before .before .before .before .before .before .before .before .before .before .before .before .before .before .before .before .flag-labels in
     let m = c .before .before .before .before .before .before .before .before .before .before .before .before .before .before .before .before .before .before .flag-bits in
-    let room : usedBytes A ≤ 256 = used-room A (b .pre .0 .0 .steps) in
+    let room : usedBytes A ≤ maskSize = used-room A (b .pre .0 .0 .steps) in
     c .before .before .put16 .ensures
     ∙ rw (c .before .before .before .before .before .before .copy .ensures, c .before .before .before .before .before .before .before .before .before .before .before .store .ensures)
     (opened A R E (m .last .1 .1 .1 .1 .1 .0) (m .last .1 .1 .1 .1 .1 .1 .0) (take (u .result) (m .last .1 .1 .1 .1 .1 .1 .1 .0)) (b .args .d) (b .args .state) (b .pre .1 .1 .0) (b .pre .1 .1 .1)

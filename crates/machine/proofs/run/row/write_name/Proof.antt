@@ -5,7 +5,7 @@ use Prim.Native.Nat.{ℕ, _+_, _-_}
 use lib.ListN.{length, replicate, length-set}
 use lib.Seq.{sets}
 use Rattle.text.specs.Names.{maxName}
-use Rattle.stored.specs.Run.{rowSize}
+use Rattle.stored.specs.Run.{nameIn, rowSize}
 use Rattle.stored.proofs.Laws.Running.Written.{name-written}
 use borrow.Author.Needs.{needs}
 use Rattle.machine.proofs.run.row.write_name.Statement.{statement}
@@ -39,9 +39,9 @@ same-length c = let a = c .before .before .before .before .before .before .befor
     c .before .before .clear-from .kept .0 ∙ (c .before .before .before .before .before .before .copy .kept .0 ∙ length-set (a .row .now) 0 (length (a .e .now)))
 
 returns : tie.Need-returns
-unfolding maxName
+unfolding maxName nameIn
 returns c = let a = c .before .before .before .before .before .before .before .before .before .before .args in
-    c .before .before .clear-from .ensures ∙ ap (λ (l : List ℕ). sets l (1 + length (a .e .now)) (replicate (maxName - length (a .e .now)) 0)) (c .before .before .before .before .before .before .copy .ensures) ∙ name-written (a .row .now) (a .e .now)
+    c .before .before .clear-from .ensures ∙ ap (λ (l : List ℕ). sets l (nameIn + length (a .e .now)) (replicate (maxName - length (a .e .now)) 0)) (c .before .before .before .before .before .before .copy .ensures) ∙ name-written (a .row .now) (a .e .now)
 
 pub write-name-spec : {M : Type 1} → statement M
 write-name-spec =

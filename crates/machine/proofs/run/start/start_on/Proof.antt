@@ -1,11 +1,11 @@
 use mathlib.Core.Path.{_∙_, ap}
 use mathlib.Core.List.{List, _++_}
-use Prim.Native.Nat.{ℕ}
+use Prim.Native.Nat.{ℕ, _+_}
 use lib.ListN.{drop, replicate}
 use lib.Seq.{sets}
 use Rattle.text.specs.Bytes.{le16}
 use Rattle.stored.specs.Automaton.{startAt}
-use Rattle.stored.specs.Run.{rowsAt, rowSize, stateIn, runSize}
+use Rattle.stored.specs.Run.{rowsAt, rowSize, stateIn, rowAt, runSize}
 use Rattle.stored.proofs.Laws.Shapes.Given.{started}
 use borrow.Author.Needs.{needs}
 use Rattle.machine.proofs.run.start.start_on.Statement.{statement}
@@ -29,8 +29,8 @@ same-length c = search needs
 returns : tie.Need-returns
 unfolding rowsAt rowSize stateIn startAt
 returns c = let b = c .before .before .before .before .before .before .before .before .before .before .before in
-    c .before .before .put16 .ensures ∙ ap (λ (l : List ℕ). sets l 291 (le16 (c .before .before .before .word-at .result))) (c .before .before .before .before .before .before .before .clear-run .ensures)
-    ∙ ap (λ (n : ℕ). sets (replicate runSize 0 ++ drop runSize (b .args .run .now)) 291 (le16 n)) (c .before .before .before .word-at .ensures .0)
+    c .before .before .put16 .ensures ∙ ap (λ (l : List ℕ). sets l (rowAt 0 + stateIn) (le16 (c .before .before .before .word-at .result))) (c .before .before .before .before .before .before .before .clear-run .ensures)
+    ∙ ap (λ (n : ℕ). sets (replicate runSize 0 ++ drop runSize (b .args .run .now)) (rowAt 0 + stateIn) (le16 n)) (c .before .before .before .word-at .ensures .0)
     ∙ started (b .args .a .now) (b .args .run .now)
 
 pub start-on-spec : {M : Type 1} → statement M

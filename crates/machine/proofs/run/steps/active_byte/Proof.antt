@@ -2,6 +2,7 @@ use mathlib.Core.Path.{_∙_, ap}
 use mathlib.Core.Bool.{_||_}
 use Prim.Native.Nat.{ℕ, _+_, _*_}
 use Rattle.stored.specs.Bits.{bitOf, bitAt}
+use Rattle.stored.specs.Automaton.{starMask}
 use Rattle.stored.specs.RunCalls.{maskBit, permitted}
 use Rattle.stored.proofs.Laws.Bytes.ByteSteps.{byte-at-bit, join-and, join-or}
 use borrow.Author.Needs.{needs}
@@ -33,8 +34,8 @@ returns c = let x = c .both in
       x .ensures .0,
       λ k h.
           let i : ℕ = 8 * a .j + k in
-          join-and (bitOf (x .result) k) (bitOf (e .result) k) (bitOf (p .result) k) (maskBit (a .a .now) 0 i || bitAt (a .taken .now) i) (permitted (a .a .now) (a .run .now) (a .d) i) (x .ensures .1 k)
-          (join-or (bitOf (e .result) k) (bitOf (m .result) k) (bitOf (t .result) k) (maskBit (a .a .now) 0 i) (bitAt (a .taken .now) i) (e .ensures .1 k) (m .ensures .1 k h) (ap (λ (n : ℕ). bitOf n k) (t .ensures .0) ∙ byte-at-bit (a .taken .now) (a .j) k h))
+          join-and (bitOf (x .result) k) (bitOf (e .result) k) (bitOf (p .result) k) (maskBit (a .a .now) starMask i || bitAt (a .taken .now) i) (permitted (a .a .now) (a .run .now) (a .d) i) (x .ensures .1 k)
+          (join-or (bitOf (e .result) k) (bitOf (m .result) k) (bitOf (t .result) k) (maskBit (a .a .now) starMask i) (bitAt (a .taken .now) i) (e .ensures .1 k) (m .ensures .1 k h) (ap (λ (n : ℕ). bitOf n k) (t .ensures .0) ∙ byte-at-bit (a .taken .now) (a .j) k h))
           (p .ensures .1 k h),
     )
 

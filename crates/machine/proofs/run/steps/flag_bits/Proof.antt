@@ -4,7 +4,7 @@ use mathlib.Core.Bool.{Bool, _&&_, _||_}
 use Prim.Native.Nat.{_+_, _-_, _*_, _≤_}
 use lib.ListN.{length}
 use lib.Seq.{sets, length-sets}
-use Rattle.stored.specs.Automaton.{maskSize, bitBytes}
+use Rattle.stored.specs.Automaton.{maskSize, bitBytes, lastMask}
 use Rattle.stored.specs.RunCalls.{maskBit, seenAt, matchedAt}
 use Rattle.stored.specs.Code.OpenSteps.{takenActive, takenSeen, takenMatched}
 use Rattle.stored.proofs.Laws.Running.Flagged.{none-stored, one-stored}
@@ -87,7 +87,7 @@ loop-again c = let l = c .before .before .before .before .before .before .before
               (λ k h. y .ensures .1 k h ∙ ap (λ (b : Bool). seenAt R (a .d) (8 * l .j + k) || b) (x .ensures .1 k h))),
           rw (c .narrow3 .ensures)
               (one-stored (a .matched .now) (l .matched) (takenMatched A R T (a .d)) (l .j) (z .result) (l .inv .1 .1 .1) (z .ensures .0)
-              (λ k h. z .ensures .1 k h ∙ ap (λ (b : Bool). matchedAt R (8 * l .j + k) || (b && maskBit A 5 (8 * l .j + k))) (x .ensures .1 k h))),
+              (λ k h. z .ensures .1 k h ∙ ap (λ (b : Bool). matchedAt R (8 * l .j + k) || (b && maskBit A lastMask (8 * l .j + k))) (x .ensures .1 k h))),
         ),
       ),
     )

@@ -1,7 +1,7 @@
 use native.Mathlib.Omega.{arith}
 use mathlib.Core.Path.{_∙_, ap}
-use Prim.Native.Nat.{ℕ, _+_, _*_}
-use Rattle.stored.specs.Automaton.{maskSize, masksAt, automatonSize}
+use Prim.Native.Nat.{ℕ}
+use Rattle.stored.specs.Automaton.{maskSize, masksAt, automatonSize, maskAt}
 use Rattle.stored.specs.Bits.{bitOf}
 use Rattle.stored.proofs.Laws.Bytes.ByteSteps.{byte-bit}
 use borrow.Author.Needs.{needs}
@@ -25,7 +25,7 @@ byte-requires c κs = omega arith
 returns : tie.Need-returns
 unfolding maskSize masksAt
 returns c = let a = c .before .before .args in
-    (c .byte .ensures .1, λ k h. ap (λ (b : ℕ). bitOf b k) (c .byte .ensures .0) ∙ byte-bit (a .a .now) (masksAt + maskSize * a .m) (a .j) k h)
+    (c .byte .ensures .1, λ k h. ap (λ (b : ℕ). bitOf b k) (c .byte .ensures .0) ∙ byte-bit (a .a .now) (maskAt (a .m)) (a .j) k h)
 
 pub mask-byte-spec : {M : Type 1} → statement M
 mask-byte-spec =

@@ -1,7 +1,7 @@
 use native.Mathlib.Omega.{arith}
 use mathlib.Core.Bool.{_&&_}
 use Prim.Native.Nat.{_+_, _*_}
-use Rattle.stored.specs.Automaton.{maskSize}
+use Rattle.stored.specs.Automaton.{maskSize, lastMask}
 use Rattle.stored.specs.Bits.{bitOf}
 use Rattle.stored.specs.Run.{runSize, matchesAt}
 use Rattle.stored.specs.RunCalls.{maskBit, matchedAt}
@@ -34,8 +34,8 @@ returns c = let e = c .either in
     let a = c .before .before .before .before .before .before .args in (
       e .ensures .0,
       λ k h.
-          join-or (bitOf (e .result) k) (bitOf (p .result) k) (bitOf (q .result) k) (matchedAt (a .run .now) (8 * a .j + k)) (bitOf (a .active) k && maskBit (a .a .now) 5 (8 * a .j + k)) (e .ensures .1 k) (p .ensures .1 k h)
-          (join-and (bitOf (q .result) k) (bitOf (a .active) k) (bitOf (m .result) k) (bitOf (a .active) k) (maskBit (a .a .now) 5 (8 * a .j + k)) (q .ensures .1 k) refl (m .ensures .1 k h)),
+          join-or (bitOf (e .result) k) (bitOf (p .result) k) (bitOf (q .result) k) (matchedAt (a .run .now) (8 * a .j + k)) (bitOf (a .active) k && maskBit (a .a .now) lastMask (8 * a .j + k)) (e .ensures .1 k) (p .ensures .1 k h)
+          (join-and (bitOf (q .result) k) (bitOf (a .active) k) (bitOf (m .result) k) (bitOf (a .active) k) (maskBit (a .a .now) lastMask (8 * a .j + k)) (q .ensures .1 k) refl (m .ensures .1 k h)),
     )
 
 pub match-byte-spec : {M : Type 1} → statement M

@@ -5,7 +5,7 @@ use mathlib.Core.Path.{_≡_, _∙_, ap}
 use mathlib.Core.Bool.{_||_, _&&_}
 use Prim.Native.Nat.{ℕ, _+_, _*_}
 use Rattle.stored.specs.Run.{activeIn, seenIn, rowSize, runSize}
-use Rattle.stored.specs.Automaton.{maskSize}
+use Rattle.stored.specs.Automaton.{maskSize, childMask, descendantMask, anywhereMask, rootMask}
 use Rattle.stored.specs.Bits.{bitOf, bitIn}
 use Rattle.stored.proofs.Laws.Bytes.ByteSteps.{join-and, join-or}
 use borrow.Author.Needs.{needs}
@@ -73,10 +73,10 @@ returns c = let p = c .before .before .before .before .before .before .before .b
           let o = c .before .either in
           let t1 : bitOf (s1 .result) k ≡ shifted (activeAt R (a .d)) i = s1 .ensures .1 k h ∙ ap (λ (n : ℕ). shifted (bitIn R (n + activeIn)) i) (p .row-at .ensures .0) in
           let t2 : bitOf (s2 .result) k ≡ shifted (seenAt R (a .d)) i = s2 .ensures .1 k h ∙ ap (λ (n : ℕ). shifted (bitIn R (n + seenIn)) i) (p .row-at .ensures .0) in
-          let c1 : bitOf (b1 .result) k ≡ (maskBit A 1 i && shifted (activeAt R (a .d)) i) = join-and (bitOf (b1 .result) k) (bitOf (m1 .result) k) (bitOf (s1 .result) k) (maskBit A 1 i) (shifted (activeAt R (a .d)) i) (b1 .ensures .1 k) (m1 .ensures .1 k h) t1 in
-          let c2 : bitOf (b2 .result) k ≡ (maskBit A 2 i && shifted (seenAt R (a .d)) i) = join-and (bitOf (b2 .result) k) (bitOf (m2 .result) k) (bitOf (s2 .result) k) (maskBit A 2 i) (shifted (seenAt R (a .d)) i) (b2 .ensures .1 k) (m2 .ensures .1 k h) t2 in
-          let c3 : bitOf (o .result) k ≡ ((maskBit A 2 i && shifted (seenAt R (a .d)) i) || (maskBit A 3 i || (eqb (a .d) 0 && maskBit A 4 i))) = join-or (bitOf (o .result) k) (bitOf (b2 .result) k) (bitOf (f .result) k) (maskBit A 2 i && shifted (seenAt R (a .d)) i) (maskBit A 3 i || (eqb (a .d) 0 && maskBit A 4 i)) (o .ensures .1 k) c2 (f .ensures .1 k h) in
-          join-or (bitOf (c .either2 .result) k) (bitOf (b1 .result) k) (bitOf (o .result) k) (maskBit A 1 i && shifted (activeAt R (a .d)) i) ((maskBit A 2 i && shifted (seenAt R (a .d)) i) || (maskBit A 3 i || (eqb (a .d) 0 && maskBit A 4 i))) (c .either2 .ensures .1 k) c1 c3,
+          let c1 : bitOf (b1 .result) k ≡ (maskBit A childMask i && shifted (activeAt R (a .d)) i) = join-and (bitOf (b1 .result) k) (bitOf (m1 .result) k) (bitOf (s1 .result) k) (maskBit A childMask i) (shifted (activeAt R (a .d)) i) (b1 .ensures .1 k) (m1 .ensures .1 k h) t1 in
+          let c2 : bitOf (b2 .result) k ≡ (maskBit A descendantMask i && shifted (seenAt R (a .d)) i) = join-and (bitOf (b2 .result) k) (bitOf (m2 .result) k) (bitOf (s2 .result) k) (maskBit A descendantMask i) (shifted (seenAt R (a .d)) i) (b2 .ensures .1 k) (m2 .ensures .1 k h) t2 in
+          let c3 : bitOf (o .result) k ≡ ((maskBit A descendantMask i && shifted (seenAt R (a .d)) i) || (maskBit A anywhereMask i || (eqb (a .d) 0 && maskBit A rootMask i))) = join-or (bitOf (o .result) k) (bitOf (b2 .result) k) (bitOf (f .result) k) (maskBit A descendantMask i && shifted (seenAt R (a .d)) i) (maskBit A anywhereMask i || (eqb (a .d) 0 && maskBit A rootMask i)) (o .ensures .1 k) c2 (f .ensures .1 k h) in
+          join-or (bitOf (c .either2 .result) k) (bitOf (b1 .result) k) (bitOf (o .result) k) (maskBit A childMask i && shifted (activeAt R (a .d)) i) ((maskBit A descendantMask i && shifted (seenAt R (a .d)) i) || (maskBit A anywhereMask i || (eqb (a .d) 0 && maskBit A rootMask i))) (c .either2 .ensures .1 k) c1 c3,
     )
 
 pub permitted-byte-spec : {M : Type 1} → statement M
