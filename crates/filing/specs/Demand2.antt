@@ -7,7 +7,7 @@ use mathlib.Core.List.{List, List·Memᴰ}
 use lib.Dec.{eqb}
 use Rattle.notation.specs.Sets.{Path, Folder, FolderSet, folderNumber}
 use Rattle.notation.specs.Accepted.{Accepted}
-use Rattle.theory.specs.Calls.{State, pathAt, fresh, run}
+use Rattle.theory.specs.Calls.{State, pathOfPlace, fresh, run}
 use Rattle.theory.specs.Folders.{placesOf, folderMatched, HasFolders}
 use Rattle.documents.specs.Tree.{Node, element, text, comment, Nodes, none, _then_, Document, Place, kindAt}
 use Rattle.documents.specs.XPath.{IsElement, selected}
@@ -42,7 +42,7 @@ SelectsElement d p = (x : Place) × IsElement (kindAt d x) × selected d p x
 
 -- and with one of the paths of the folder of this number
 abbrev pub FolderSelects : FolderSet → Document → ℕ → Type 0
-FolderSelects set d number = (place : ℕ) × List·Memᴰ place (placesOf set number) × SelectsElement d (pathAt set place)
+FolderSelects set d number = (place : ℕ) × List·Memᴰ place (placesOf set number) × SelectsElement d (pathOfPlace set place)
 
 -- of a report that is filed, with the machine at the end
 pub record OfDocument (set : FolderSet) (bytes : List ℕ) (m : State) : Type 0 where
@@ -53,7 +53,7 @@ pub record OfDocument (set : FolderSet) (bytes : List ℕ) (m : State) : Type 0 
   pub allTaken : allAccepted set (fresh set) (callsIn (eventsOf (report .run .tokens))) ≡ true
   pub machine : run set (callsIn (eventsOf (report .run .tokens))) ≡ m
   -- a path is matched exactly when it selects an element, a folder exactly when one of its paths does
-  pub paths : (place : ℕ) → (m .matched place ≡ true) ↔ SelectsElement (documentIn report) (pathAt set place)
+  pub paths : (place : ℕ) → (m .matched place ≡ true) ↔ SelectsElement (documentIn report) (pathOfPlace set place)
   pub folders : (number : ℕ) → (folderMatched set m number ≡ true) ↔ FolderSelects set (documentIn report) number
   -- opens and closes are as many as the document's elements, failure moves at most its childless depths
   pub opens : m .opens ≡ countIn (documentIn report)

@@ -11,7 +11,7 @@ use Rattle.text.specs.Refusals.{Refusal, tooLarge, nameTooLong, invalidByte, sy
 use Rattle.notation.specs.Accepted.{Accepted}
 use Rattle.notation.specs.declared.PathPlace.{PathPlace}
 use Rattle.notation.specs.declared.FolderNumber.{FolderNumber}
-use Rattle.theory.specs.Calls.{State, pathAt}
+use Rattle.theory.specs.Calls.{State, pathOfPlace}
 use Rattle.theory.specs.Folders.{HasFolders}
 use Rattle.stored.specs.Build.{Built}
 use Rattle.stored.specs.Run.{runSize, runOf}
@@ -34,7 +34,7 @@ pub record FiledReport (s : FolderSet) (a report run run' : List ℕ) (c' : Coun
   pub runLeft : run' ≡ runOf s machine ++ drop runSize run
   -- a path is answered to be matched exactly if it selects an element of the document, a folder exactly if one of its paths does
   pub paths : (place : PathPlace)
-      → Answers (place .0 < length (pathsOf s)) (SelectsElement (documentIn (ofDocument .report)) (pathAt s (place .0))) (askPath a run' place)
+      → Answers (place .0 < length (pathsOf s)) (SelectsElement (documentIn (ofDocument .report)) (pathOfPlace s (place .0))) (askPath a run' place)
   pub folders : (number : FolderNumber)
       → Answers (HasFolder s (number .0)) (FolderSelects s (documentIn (ofDocument .report)) (number .0)) (askFolder a run' number)
   -- opens and closes are as many as the document's elements; the failure moves are the machine's, and at most the childless depths

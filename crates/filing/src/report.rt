@@ -25,7 +25,7 @@ ghost use Rattle.text.specs.Answers.{numberSaid};
 ghost use Rattle.stored.specs.Answers.{openedSays};
 ghost use Rattle.stored.specs.Run.{runSize};
 ghost use Rattle.stored.specs.RunCalls.{startRun, noCounters};
-ghost use Rattle.stored.specs.Openable.{Usable};
+ghost use Rattle.stored.specs.Usable.{Usable};
 ghost use Rattle.stored.specs.Demand3.{Left, started};
 ghost use Rattle.documents.specs.Reading.{readToken, readReport};
 ghost use Rattle.reports.specs.Seen.{foundOf};
@@ -33,7 +33,7 @@ ghost use Rattle.reports.specs.Code.Seen.{tagName};
 ghost use Rattle.filing.specs.Filing.{Outcome, filed, andThen};
 ghost use Rattle.filing.specs.ReportRefusals.{storedMachine, Files};
 ghost use Rattle.filing.specs.Code.Filing.{fileReport};
-ghost use Rattle.filing.specs.Code.Taking.{Answered, Takes, Leaves, fileOpen, fileClose, fileText, fileFound, fileLast, noTokenAt, runFrom};
+ghost use Rattle.filing.specs.Code.Taking.{Answered, Taking, Leaves, fileOpen, fileClose, fileText, fileFound, fileLast, noTokenAt, runFrom};
 
 // What calls answer: the refusal, 0 for none, and the counters after them.
 pub struct Taken {
@@ -67,7 +67,7 @@ fn of_open(answer: Opened, c: Counters) -> Taken
 
 fn take_open(a: &[u8], run: &mut [u8], c: Counters, e: &[u8]) -> Taken
     requires { ⌜ Usable (now a) (now run) c ⌝ }
-    ensures { λ r. ⌜ Takes (now (a .entry)) (now (run .entry)) (fileOpen (now (a .entry)) (record { bytes = now (run .entry); counters = c }) (now (e .entry))) (r .refusal) (now (run .exit)) (r .counters) ⌝ }
+    ensures { λ r. ⌜ Taking (now (a .entry)) (now (run .entry)) (fileOpen (now (a .entry)) (record { bytes = now (run .entry); counters = c }) (now (e .entry))) (r .refusal) (now (run .exit)) (r .counters) ⌝ }
 {
     let done = open_usable(a, run, c, e);
     let answer = done.answer;
@@ -77,7 +77,7 @@ fn take_open(a: &[u8], run: &mut [u8], c: Counters, e: &[u8]) -> Taken
 
 fn take_close(a: &[u8], run: &mut [u8], c: Counters, e: &[u8]) -> Taken
     requires { ⌜ Usable (now a) (now run) c ⌝ }
-    ensures { λ r. ⌜ Takes (now (a .entry)) (now (run .entry)) (fileClose (now (a .entry)) (record { bytes = now (run .entry); counters = c }) (now (e .entry))) (r .refusal) (now (run .exit)) (r .counters) ⌝ }
+    ensures { λ r. ⌜ Taking (now (a .entry)) (now (run .entry)) (fileClose (now (a .entry)) (record { bytes = now (run .entry); counters = c }) (now (e .entry))) (r .refusal) (now (run .exit)) (r .counters) ⌝ }
 {
     let done = close_usable(a, run, c, e);
     let counters = done.counters;
@@ -90,7 +90,7 @@ fn take_close(a: &[u8], run: &mut [u8], c: Counters, e: &[u8]) -> Taken
 // An empty-element tag: an open and a close.
 fn take_empty(a: &[u8], run: &mut [u8], c: Counters, e: &[u8]) -> Taken
     requires { ⌜ Usable (now a) (now run) c ⌝ }
-    ensures { λ r. ⌜ Takes (now (a .entry)) (now (run .entry)) (andThen (fileOpen (now (a .entry)) (record { bytes = now (run .entry); counters = c }) (now (e .entry))) (λ t. fileClose (now (a .entry)) t (now (e .entry)))) (r .refusal) (now (run .exit)) (r .counters) ⌝ }
+    ensures { λ r. ⌜ Taking (now (a .entry)) (now (run .entry)) (andThen (fileOpen (now (a .entry)) (record { bytes = now (run .entry); counters = c }) (now (e .entry))) (λ t. fileClose (now (a .entry)) t (now (e .entry)))) (r .refusal) (now (run .exit)) (r .counters) ⌝ }
 {
     let opened = take_open(a, run, c, e);
     if opened.refusal != 0 {
@@ -122,7 +122,7 @@ fn take_text(run: &[u8], c: Counters, all: bool) -> Taken
 // One token, by what it is; e is its tag's name.
 fn take_token(a: &[u8], run: &mut [u8], c: Counters, f: Found, e: &[u8]) -> Taken
     requires { ⌜ Usable (now a) (now run) c ⌝ }
-    ensures { λ r. ⌜ Takes (now (a .entry)) (now (run .entry)) (fileFound (now (a .entry)) (record { bytes = now (run .entry); counters = c }) f (now (e .entry))) (r .refusal) (now (run .exit)) (r .counters) ⌝ }
+    ensures { λ r. ⌜ Taking (now (a .entry)) (now (run .entry)) (fileFound (now (a .entry)) (record { bytes = now (run .entry); counters = c }) f (now (e .entry))) (r .refusal) (now (run .exit)) (r .counters) ⌝ }
 {
     match f {
         Found::Start(_, _, _) => take_open(a, run, c, e),
@@ -147,7 +147,7 @@ fn take_token(a: &[u8], run: &mut [u8], c: Counters, f: Found, e: &[u8]) -> Take
 // Nothing more is taken once a token was refused.
 fn take_next(a: &[u8], run: &mut [u8], before: Taken, f: Found, e: &[u8]) -> Taken
     requires { ⌜ (before .refusal ≡ 0 → Usable (now a) (now run) (before .counters)) ⌝ }
-    ensures { λ r. ⌜ ((o : Outcome Left) → Answered o (before .refusal) (now (run .entry)) (before .counters) → Takes (now (a .entry)) (now (run .entry)) (andThen o (λ t. fileFound (now (a .entry)) t f (now (e .entry)))) (r .refusal) (now (run .exit)) (r .counters)) ⌝ }
+    ensures { λ r. ⌜ ((o : Outcome Left) → Answered o (before .refusal) (now (run .entry)) (before .counters) → Taking (now (a .entry)) (now (run .entry)) (andThen o (λ t. fileFound (now (a .entry)) t f (now (e .entry)))) (r .refusal) (now (run .exit)) (r .counters)) ⌝ }
 {
     if before.refusal != 0 {
         return before;
@@ -159,7 +159,7 @@ fn take_next(a: &[u8], run: &mut [u8], before: Taken, f: Found, e: &[u8]) -> Tak
 // The same of the token at an offset, which has its name there.
 fn take_at(a: &[u8], run: &mut [u8], before: Taken, s: &[u8], at: usize, f: Found) -> Taken
     requires { ⌜ (f ≡ foundOf (length (now s)) at (readToken (drop at (now s)))) × (before .refusal ≡ 0 → Usable (now a) (now run) (before .counters)) ⌝ }
-    ensures { λ r. ⌜ ((o : Outcome Left) → Answered o (before .refusal) (now (run .entry)) (before .counters) → Takes (now (a .entry)) (now (run .entry)) (andThen o (λ t. fileFound (now (a .entry)) t f (tagName (readToken (drop at (now (s .entry))))))) (r .refusal) (now (run .exit)) (r .counters)) ⌝ }
+    ensures { λ r. ⌜ ((o : Outcome Left) → Answered o (before .refusal) (now (run .entry)) (before .counters) → Taking (now (a .entry)) (now (run .entry)) (andThen o (λ t. fileFound (now (a .entry)) t f (tagName (readToken (drop at (now (s .entry))))))) (r .refusal) (now (run .exit)) (r .counters)) ⌝ }
 {
     let p = name_span(f);
     let from = p.from;
@@ -183,7 +183,7 @@ fn no_token_at(f: Found, at: usize) -> bool
 // The tokens in order from a fresh run: the first refusal of a token is kept, and the rest is only read, for 9.
 fn take_tokens(a: &[u8], run: &mut [u8], s: &[u8]) -> Taken
     requires { ⌜ Usable (now a) (now run) noCounters ⌝ }
-    ensures { λ r. ⌜ Takes (now (a .entry)) (now (run .entry)) (runFrom (now (a .entry)) (filed (record { bytes = now (run .entry); counters = noCounters })) (readReport (now (s .entry)))) (r .refusal) (now (run .exit)) (r .counters) ⌝ }
+    ensures { λ r. ⌜ Taking (now (a .entry)) (now (run .entry)) (runFrom (now (a .entry)) (filed (record { bytes = now (run .entry); counters = noCounters })) (readReport (now (s .entry)))) (r .refusal) (now (run .exit)) (r .counters) ⌝ }
 {
     let mut taken = with_none(0);
     let mut i = 0;

@@ -6,7 +6,7 @@ ghost use Rattle.notation.specs.Limits.{maxLabels};
 ghost use Rattle.notation.specs.Reads.{word16, labelCount};
 ghost use Rattle.stored.specs.Automaton.{automatonSize, linkEntryAt, hash};
 ghost use Rattle.stored.specs.Tables.{sizeOf, failOf, follows, goto, walkOver};
-ghost use Rattle.stored.specs.Walkable.{Searchable, Walkable};
+ghost use Rattle.stored.specs.Usable.{Searchable, Walkable};
 use crate::labels::label_is;
 use crate::labels::word;
 use crate::layout::FAIL_IN;

@@ -6,7 +6,7 @@ use lib.Dec.{leb}
 use lib.ListN.{length}
 use Rattle.text.specs.Names.{Name, sameName}
 use Rattle.notation.specs.Sets.{Axis, child, descendant, Test, label, star, Path, axisOf, testOf}
-use Rattle.notation.specs.Fit.{stepAt}
+use Rattle.notation.specs.Fit.{nthStep}
 
 abbrev pub takes : Test → Name → Bool
 takes (label l) n = sameName l n
@@ -19,13 +19,13 @@ byAxis child below above = below
 byAxis descendant below above = above
 
 abbrev pub allowed : Path → Bool → (ℕ → Bool) → (ℕ → Bool) → ℕ → Bool
-allowed p root below above zero = byAxis (axisOf (stepAt p 1)) root true
-allowed p root below above (suc j) = byAxis (axisOf (stepAt p (suc (suc j)))) (below (suc j)) (above (suc j))
+allowed p root below above zero = byAxis (axisOf (nthStep p 1)) root true
+allowed p root below above (suc j) = byAxis (axisOf (nthStep p (suc (suc j)))) (below (suc j)) (above (suc j))
 
 unfoldable pub here : Path → Bool → (ℕ → Bool) → (ℕ → Bool) → Name → ℕ → Bool
 here p root below above e zero = false
 here p root below above e (suc k) =
-    leb (suc k) (length p) && (takes (testOf (stepAt p (suc k))) e && allowed p root below above k)
+    leb (suc k) (length p) && (takes (testOf (nthStep p (suc k))) e && allowed p root below above k)
 
 abbrev pub isEmpty : List Name → Bool
 isEmpty [] = true
@@ -33,20 +33,20 @@ isEmpty (n ∷ ns) = false
 
 -- of names innermost first: step s is active on the innermost; it is active there or on an element further out
 unfoldable mutual
-  pub activeIn : List Name → Path → ℕ → Bool
-  activeIn [] p s = false
-  activeIn (e ∷ outer) p s = here p (isEmpty outer) (λ i. activeIn outer p i) (λ i. seenIn outer p i) e s
+  pub activeReversed : List Name → Path → ℕ → Bool
+  activeReversed [] p s = false
+  activeReversed (e ∷ outer) p s = here p (isEmpty outer) (λ i. activeReversed outer p i) (λ i. seenReversed outer p i) e s
 
-  pub seenIn : List Name → Path → ℕ → Bool
-  seenIn [] p s = false
-  seenIn (e ∷ outer) p s = here p (isEmpty outer) (λ i. activeIn outer p i) (λ i. seenIn outer p i) e s || seenIn outer p s
+  pub seenReversed : List Name → Path → ℕ → Bool
+  seenReversed [] p s = false
+  seenReversed (e ∷ outer) p s = here p (isEmpty outer) (λ i. activeReversed outer p i) (λ i. seenReversed outer p i) e s || seenReversed outer p s
 
 -- the same of names outermost first
 abbrev pub active : Path → ℕ → List Name → Bool
-active p s names = activeIn (reverse names) p s
+active p s names = activeReversed (reverse names) p s
 
 abbrev pub seen : Path → ℕ → List Name → Bool
-seen p s names = seenIn (reverse names) p s
+seen p s names = seenReversed (reverse names) p s
 
 abbrev pub fits : Path → List Name → Bool
 fits p names = active p (length p) names

@@ -12,8 +12,8 @@ Takes (label l) n = l ≡ n
 Takes star n = Unit {0}
 
 -- step i of a path and the name at position d, both counted from 1
-abbrev pub stepAt : Path → ℕ → Step
-stepAt p i = getD p (pred i) (step child star)
+abbrev pub nthStep : Path → ℕ → Step
+nthStep p i = getD p (pred i) (step child star)
 
 abbrev pub nameAt : List Name → ℕ → Name
 nameAt names d = getD names (pred d) []
@@ -25,9 +25,9 @@ pub record Active (p : Path) (s : ℕ) (names : List Name) : Type 0 where
   pub within : 1 ≤ d 1
   pub rising : (i : ℕ) → 1 ≤ i → i < s → d i < d (suc i)
   pub innermost : d s ≡ length names
-  pub taken : (i : ℕ) → 1 ≤ i → i ≤ s → Takes (testOf (stepAt p i)) (nameAt names (d i))
-  pub first : axisOf (stepAt p 1) ≡ child → d 1 ≡ 1
-  pub next : (i : ℕ) → 1 ≤ i → i < s → axisOf (stepAt p (suc i)) ≡ child → d (suc i) ≡ suc (d i)
+  pub taken : (i : ℕ) → 1 ≤ i → i ≤ s → Takes (testOf (nthStep p i)) (nameAt names (d i))
+  pub first : axisOf (nthStep p 1) ≡ child → d 1 ≡ 1
+  pub next : (i : ℕ) → 1 ≤ i → i < s → axisOf (nthStep p (suc i)) ≡ child → d (suc i) ≡ suc (d i)
 
 -- a path fits when its last step is active
 abbrev pub Fits : Path → List Name → Type 0

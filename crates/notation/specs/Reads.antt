@@ -56,16 +56,16 @@ storedNumber part i = word16 part (folderEntryAt i)
 abbrev pub storedFirst : List ℕ → ℕ → ℕ
 storedFirst part i = word16 part (folderEntryAt i + folderFirstIn)
 
-abbrev pub hasFolder : List ℕ → ℕ → Bool
-hasFolder part i = present part (folderCount part) maxPaths i
+abbrev pub folderThere : List ℕ → ℕ → Bool
+folderThere part i = present part (folderCount part) maxPaths i
 
 -- a folder's paths end where the next folder's begin, and those of the last folder with all paths
 unfoldable pub pathsEnd : List ℕ → ℕ → ℕ
-pathsEnd part i = cond (hasFolder part (i + 1)) (storedFirst part (i + 1)) (pathCount part)
+pathsEnd part i = cond (folderThere part (i + 1)) (storedFirst part (i + 1)) (pathCount part)
 
 unfoldable pub folderAt : List ℕ → ℕ → FolderAt
 folderAt part i =
-    cond (hasFolder part i)
+    cond (folderThere part i)
     (FolderAt.Folder (record { 0 = storedNumber part i }) (record { 0 = storedFirst part i }) (pathsEnd part i - storedFirst part i))
     FolderAt.Missing
 

@@ -8,7 +8,7 @@ use text::refusals::TOO_LARGE;
 ghost use mathlib.Core.Path.{_≡_};
 ghost use Prim.Native.Nat.{_+_, _≤_, _<_};
 ghost use lib.ListN.{length};
-ghost use Rattle.notation.specs.Code.Scan.{isDone, ticked, scanned, scan, start, ended, refusalOf};
+ghost use Rattle.notation.specs.Code.Scan.{isDone, ticked, scanned, scan, start, ended, scanRefusal};
 ghost use Rattle.notation.specs.Code.Safe.{Safe};
 
 mod counting;
@@ -157,7 +157,7 @@ fn verdict(s: Scan) -> u8
 
 // What a text is refused with, in build's order; 0 for an accepted set. One pass.
 pub fn refusal(text: &[u8]) -> u8
-    ensures { λ r. ⌜ r ≡ refusalOf (now (text .entry)) ⌝ }
+    ensures { λ r. ⌜ r ≡ scanRefusal (now (text .entry)) ⌝ }
 {
     if MAX_SET_BYTES < text.len() {
         return TOO_LARGE;

@@ -130,14 +130,14 @@ sameWord (s ∷ w) (t ∷ v) = sameSymbol s t && sameWord w v
 
 -- states: 0 is the empty word, 1 is `#`, and a word that ends with a label is 2 more than the place of the first label that ends it. Which
 -- label stands for a word is a choice; that no two words share a number is what matters (Compiled.one)
-unfoldable pub stateIn : List Word → Word → ℕ
-stateIn words [] = 0
-stateIn words (document ∷ []) = 1
-stateIn words (document ∷ s ∷ w) = find (sameWord (document ∷ s ∷ w)) 2 words
-stateIn words (name n ∷ w) = find (sameWord (name n ∷ w)) 2 words
+unfoldable pub stateAmong : List Word → Word → ℕ
+stateAmong words [] = 0
+stateAmong words (document ∷ []) = 1
+stateAmong words (document ∷ s ∷ w) = find (sameWord (document ∷ s ∷ w)) 2 words
+stateAmong words (name n ∷ w) = find (sameWord (name n ∷ w)) 2 words
 
 abbrev pub stateOf : FolderSet → Word → ℕ
-stateOf s w = stateIn (allWords s) w
+stateOf s w = stateAmong (allWords s) w
 
 -- a word without its last symbol
 unfoldable pub shortened : Word → Word

@@ -20,9 +20,9 @@ use Rattle.stored.specs.Chain.{chainLabels}
 use Rattle.stored.specs.declared.walk.Walk.{Walk}
 
 -- the places of the labels with name e, ascending; k stand before these
-unfoldable pub placesOf : Name → ℕ → List Name → List ℕ
-placesOf e k [] = []
-placesOf e k (n ∷ names) = cond (sameName n e) (k ∷ []) [] ++ placesOf e (suc k) names
+unfoldable pub labelPlaces : Name → ℕ → List Name → List ℕ
+labelPlaces e k [] = []
+labelPlaces e k (n ∷ names) = cond (sameName n e) (k ∷ []) [] ++ labelPlaces e (suc k) names
 
 -- label l is the test of this step, with l labels before it
 pub record LabelStep (s : FolderSet) (l owner : ℕ) : Type 0 where
@@ -52,7 +52,7 @@ pub record Compiled (s : FolderSet) (a : List ℕ) : Type 0 where
   -- so the walk is the machine's
   pub walks : (w : Word) → IsPrefix s w → (e : Name) → walkOver a (stateOf s w) e ≡ storedWalk s (walk s w e)
   -- a name's chain has exactly the labels with that name
-  pub chain : (e : Name) → chainLabels a e ≡ placesOf e 0 (allLabels s)
+  pub chain : (e : Name) → chainLabels a e ≡ labelPlaces e 0 (allLabels s)
   -- bit i of mask m is the mask's test of step i
   pub masks : (m : ℕ) → m < maskCount → (i : ℕ) → i < 8 * maskSize → bitIn a (maskAt m) i ≡ roleAt (maskTest m) (roles s) i
   -- a fresh run's state

@@ -19,7 +19,7 @@ use Rattle.notation.specs.declared.FolderNumber.{FolderNumber}
 use Rattle.theory.specs.Words.{Word}
 use Rattle.theory.specs.Prefix.{CurrentPrefix}
 use Rattle.text.specs.Order.{numberIn}
-use Rattle.theory.specs.Calls.{Lent, asLeft, otherwise, Call, openCall, closeCall, pathAt, refusal, run}
+use Rattle.theory.specs.Calls.{Lent, asLeft, otherwise, Call, openCall, closeCall, pathOfPlace, refusal, run}
 use Rattle.theory.specs.History.{acceptedCalls, opensIn, closesIn, stillOpen, FittedAfterOpen, opensOf}
 use Rattle.theory.specs.Moves.{OpenMoves, MovesCounted}
 use Rattle.theory.specs.Elements.{elementsOf, childlessDepths}
@@ -97,7 +97,7 @@ pub record HasMatchedPath (s : FolderSet) (a bytes : List ℕ) (number : ℕ) : 
 
 -- the step of a path is there
 abbrev pub StepThere : FolderSet → ℕ → ℕ → Type 0
-StepThere s place k = (place < length (pathsOf s)) × (1 ≤ k) × (k ≤ length (pathAt s place))
+StepThere s place k = (place < length (pathsOf s)) × (1 ≤ k) × (k ≤ length (pathOfPlace s place))
 
 -- the answered length is that of the current prefix of the names (paper 01: the held word)
 pub record PrefixAnswered (s : FolderSet) (names : List Name) (answer : Answer ℕ) : Type 0 where
@@ -128,7 +128,7 @@ pub record Holds (s : FolderSet) (a : List ℕ) (made : List Made) (calls : List
   -- open names, active steps and current prefix are those defined for the names opened and not yet closed
   pub names : (d : ℕ) → 1 ≤ d → d ≤ length still → (askName a (t .bytes) d ≡ nameAt still d) × (nameRefusal a (t .bytes) d ≡ 0)
   pub noNames : (d : ℕ) → ((1 ≤ d) × (d ≤ length still) → ⊥) → (askName a (t .bytes) d ≡ []) × (nameRefusal a (t .bytes) d ≡ numberOf notFound)
-  pub steps : (place : PathPlace) (k : ℕ) → Answers (StepThere s (place .0) k) (Active (pathAt s (place .0)) k still) (askStep a (t .bytes) place k)
+  pub steps : (place : PathPlace) (k : ℕ) → Answers (StepThere s (place .0) k) (Active (pathOfPlace s (place .0)) k still) (askStep a (t .bytes) place k)
   pub prefix : PrefixAnswered s still (askPrefix a (t .bytes))
   -- a fresh run on the same set, given only the opens of those names in order, answers the same
   pub replayed : (other : List ℕ) (again : List Made) (u : Left) → callsOf again ≡ opensOf still → Calls a (started a other) again u

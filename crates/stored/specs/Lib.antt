@@ -13,6 +13,5 @@ pub mod Compiled
 pub mod Tables
 pub mod Chain
 pub mod Bits
-pub mod Openable
-pub mod Walkable
+pub mod Usable
 pub mod Code

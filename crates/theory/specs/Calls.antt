@@ -55,12 +55,12 @@ abbrev pub depth : State → ℕ
 depth s = length (s .levels)
 
 -- the path of a place; past the last it is empty, and fits nothing
-abbrev pub pathAt : FolderSet → ℕ → Path
-pathAt set place = getD (pathsOf set) place []
+abbrev pub pathOfPlace : FolderSet → ℕ → Path
+pathOfPlace set place = getD (pathsOf set) place []
 
 -- step k (from 1) of the path of a place is active on the innermost element (paper 01: it stands)
 abbrev pub activeStep : FolderSet → State → ℕ → ℕ → Bool
-activeStep set s place k = active (pathAt set place) k (openNames s)
+activeStep set s place k = active (pathOfPlace set place) k (openNames s)
 
 -- a fresh run holds `#` if a keyword begins so, else nothing
 unfoldable pub fresh : FolderSet → State
@@ -82,7 +82,7 @@ opened set s e =
       levels = levels;
       current = arrivedAt (walk set (s .current) e);
       rootClosed = s .rootClosed;
-      matched = λ place. s .matched place || fits (pathAt set place) (namesOf levels);
+      matched = λ place. s .matched place || fits (pathOfPlace set place) (namesOf levels);
       opens = suc (s .opens);
       closes = s .closes;
       moves = s .moves + movesOf (walk set (s .current) e);

@@ -6,7 +6,7 @@ use mathlib.Core.List.{List, [], _∷_, _++_, map, reverse}
 use Rattle.text.specs.Names.{Name}
 use Rattle.notation.specs.Sets.{FolderSet}
 use Rattle.notation.specs.Fit.{Fits}
-use Rattle.theory.specs.Calls.{asLeft, Call, openCall, closeCall, State, fresh, accepted, step, run, openNames, pathAt, activeStep}
+use Rattle.theory.specs.Calls.{asLeft, Call, openCall, closeCall, State, fresh, accepted, step, run, openNames, pathOfPlace, activeStep}
 
 -- the accepted calls, the last first; `earlier` are those before the list
 unfoldable pub acceptedAfter : FolderSet → State → List Call → List Call → List Call
@@ -50,7 +50,7 @@ pub record FittedAfterOpen (set : FolderSet) (calls : List Call) (place : ℕ) :
   pub later : List Call
   pub joined : before ++ (openCall asLeft name ∷ later) ≡ calls
   pub isAccepted : accepted (run set before) (openCall asLeft name) ≡ true
-  pub fitted : Fits (pathAt set place) (openNames (run set (before ++ (openCall asLeft name ∷ []))))
+  pub fitted : Fits (pathOfPlace set place) (openNames (run set (before ++ (openCall asLeft name ∷ []))))
 
 -- the opens of some names, in order
 abbrev pub opensOf : List Name → List Call

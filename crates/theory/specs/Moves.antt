@@ -5,7 +5,7 @@ use Rattle.text.specs.Names.{Name}
 use Rattle.notation.specs.Sets.{FolderSet}
 use Rattle.theory.specs.Words.{Word}
 use Rattle.theory.specs.Prefix.{CurrentPrefix}
-use Rattle.theory.specs.Walk.{Walk}
+use Rattle.theory.specs.Walk.{Walks}
 use Rattle.theory.specs.Calls.{Lent, Call, openCall, closeCall}
 use Rattle.theory.specs.History.{namesLeft}
 
@@ -14,7 +14,7 @@ pub record OpenMoves (set : FolderSet) (names : List Name) (e : Name) (moves : �
   pub from : Word
   pub isPrefix : CurrentPrefix set names from
   pub to : Word
-  pub walks : Walk set e from moves to
+  pub walks : Walks set e from moves to
 
 -- those of accepted calls, the last first, added up: each open's, with the names open before it; closes take none back
 pub data MovesCounted (set : FolderSet) : List Call → ℕ → Type 0 where

@@ -12,12 +12,12 @@ use Rattle.theory.specs.Prefix.{LongestProperEnd, failure}
 abbrev pub followedBy : Word → Name → Word
 followedBy w e = w ++ (name e ∷ [])
 
--- `Walk set e w moves v`: from w, by so many failure moves, to v. While the word is not empty and no keyword begins with it followed by
+-- `Walks set e w moves v`: from w, by so many failure moves, to v. While the word is not empty and no keyword begins with it followed by
 -- e, fall back to its longest proper end that begins a keyword, counting one; then the word with e if some keyword begins so, else nothing
-pub data Walk (set : FolderSet) (e : Name) : Word → ℕ → Word → Type 0 where
-  follows : {w : Word} → Begins set (followedBy w e) → Walk set e w zero (followedBy w e)
-  stops : (Begins set (followedBy [] e) → ⊥) → Walk set e [] zero []
-  falls : {s : Symbol} {w u v : Word} {moves : ℕ} → (Begins set (followedBy (s ∷ w) e) → ⊥) → LongestProperEnd set (s ∷ w) u → Walk set e u moves v → Walk set e (s ∷ w) (suc moves) v
+pub data Walks (set : FolderSet) (e : Name) : Word → ℕ → Word → Type 0 where
+  follows : {w : Word} → Begins set (followedBy w e) → Walks set e w zero (followedBy w e)
+  stops : (Begins set (followedBy [] e) → ⊥) → Walks set e [] zero []
+  falls : {s : Symbol} {w u v : Word} {moves : ℕ} → (Begins set (followedBy (s ∷ w) e) → ⊥) → LongestProperEnd set (s ∷ w) u → Walks set e u moves v → Walks set e (s ∷ w) (suc moves) v
 
 -- the same, computed
 pub data Walked : Type 0 where

@@ -8,7 +8,7 @@ use lib.ListN.{length}
 use Rattle.notation.specs.Sets.{FolderSet}
 use Rattle.notation.specs.Fit.{Active}
 use Rattle.theory.specs.Prefix.{CurrentPrefix}
-use Rattle.theory.specs.Calls.{Call, State, openNames, pathAt, activeStep, run}
+use Rattle.theory.specs.Calls.{Call, State, openNames, pathOfPlace, activeStep, run}
 use Rattle.theory.specs.History.{acceptedCalls, opensIn, closesIn, stillOpen, FittedAfterOpen, opensOf, SameAnswers}
 use Rattle.theory.specs.Moves.{MovesCounted}
 use Rattle.theory.specs.Elements.{elementsOf, childlessDepths}
@@ -21,7 +21,7 @@ pub record Whole (set : FolderSet) (calls : List Call) (s : State) : Type 0 wher
   pub folders : (number : ℕ) → (folderMatched set s number ≡ true) ↔ FolderMatched set s number
   -- open names, active steps and current prefix are those of the names opened and not yet closed
   pub names : openNames s ≡ stillOpen set calls
-  pub steps : (place k : ℕ) → (activeStep set s place k ≡ true) ↔ Active (pathAt set place) k (stillOpen set calls)
+  pub steps : (place k : ℕ) → (activeStep set s place k ≡ true) ↔ Active (pathOfPlace set place) k (stillOpen set calls)
   pub prefix : CurrentPrefix set (stillOpen set calls) (s .current)
   -- the same answers as a fresh machine on the same set that was given only the opens of those names, in order
   pub replayed : SameAnswers set s (run set (opensOf (stillOpen set calls)))

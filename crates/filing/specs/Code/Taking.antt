@@ -25,7 +25,7 @@ Answered (refused r) n run c = n ≡ numberOf r
 Answered (filed t) n run c = (n ≡ 0) × (t ≡ record { bytes = run; counters = c })
 
 -- what calls on a run make of it, with this outcome: what they leave starts as it would have
-pub record Takes (a run : List ℕ) (o : Outcome Left) (n : ℕ) (run' : List ℕ) (c' : Counters) : Type 0 where
+pub record Taking (a run : List ℕ) (o : Outcome Left) (n : ℕ) (run' : List ℕ) (c' : Counters) : Type 0 where
   pub answered : Answered o n run' c'
   pub restarts : startRun a run' ≡ startRun a run
 

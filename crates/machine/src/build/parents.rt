@@ -20,8 +20,8 @@ ghost use Rattle.notation.specs.Limits.{maxLabels};
 ghost use Rattle.notation.specs.Reads.{pathAt, stepCount, labelCount, labelName};
 ghost use Rattle.stored.specs.Automaton.{automatonSize};
 ghost use Rattle.stored.specs.Tables.{goto};
-ghost use Rattle.stored.specs.Walkable.{Searchable};
-ghost use Rattle.stored.specs.Code.Parents.{startsAt, entered, wordStored, labelled, passed, parented, outset, Sound};
+ghost use Rattle.stored.specs.Usable.{Searchable};
+ghost use Rattle.stored.specs.Code.Parents.{startsAt, entered, wordStored, labelled, passed, parented, beforePaths, Sound};
 
 // Whether path `p` begins with step `i`.
 fn starts_path(part: &[u8], p: usize, i: usize) -> bool
@@ -129,7 +129,7 @@ fn pass_step(part: &mut [u8], i: usize, at: Place) -> Place
 // Every step, from the first to the last.
 pub fn parents(part: &mut [u8])
     requires { ⌜ Searchable (now part) × (automatonSize ≤ length (now part)) ⌝ }
-    ensures { λ _. ⌜ now (part .exit) ≡ parented (stepCount (now (part .entry))) 0 outset (now (part .entry)) ⌝ }
+    ensures { λ _. ⌜ now (part .exit) ≡ parented (stepCount (now (part .entry))) 0 beforePaths (now (part .entry)) ⌝ }
 {
     let n = reads::steps(part);
     let mut at = Place {

@@ -21,7 +21,7 @@ ghost use Rattle.text.specs.Names.{within};
 ghost use Rattle.text.specs.Answers.{said};
 ghost use Rattle.notation.specs.Reads.{pathAt};
 ghost use Rattle.stored.specs.Answers.{askedSays, lengthSays};
-ghost use Rattle.stored.specs.Openable.{Ready};
+ghost use Rattle.stored.specs.Usable.{Ready};
 ghost use Rattle.stored.specs.RunCalls.{depthOf, activeAt};
 ghost use Rattle.stored.specs.Asking.{hasPath, askRefusal, askPath, askFolder, askStep, askPrefix, nameRefusal, OpenName};
 

@@ -20,7 +20,7 @@ ghost use Rattle.text.specs.Lists.{any};
 ghost use Rattle.stored.specs.Automaton.{maskSize, hash};
 ghost use Rattle.stored.specs.Bits.{bitAt};
 ghost use Rattle.stored.specs.Chain.{chainLabels, ownLabel};
-ghost use Rattle.stored.specs.Openable.{Openable};
+ghost use Rattle.stored.specs.Usable.{Openable};
 
 fn set_bit(out: &mut [u8], i: usize)
     requires { ⌜ i / 8 < length (now out) ⌝ }

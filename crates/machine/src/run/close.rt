@@ -14,7 +14,7 @@ ghost use Prim.Native.Nat.{_≤_, _<_};
 ghost use lib.ListN.{length};
 ghost use Rattle.theory.specs.Limits.{maxDepth};
 ghost use Rattle.stored.specs.RunContracts.{Closes, ClosesBy};
-ghost use Rattle.stored.specs.Openable.{Usable};
+ghost use Rattle.stored.specs.Usable.{Usable};
 ghost use Rattle.stored.specs.Run.{runSize};
 ghost use Rattle.stored.specs.RunCalls.{depthOf, closeRun};
 

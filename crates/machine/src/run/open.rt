@@ -28,7 +28,7 @@ ghost use Rattle.text.specs.Bytes.{le16, padded};
 ghost use Rattle.theory.specs.Limits.{maxDepth};
 ghost use Rattle.stored.specs.Automaton.{maskSize, hash};
 ghost use Rattle.stored.specs.RunContracts.{Opens, OpensBy};
-ghost use Rattle.stored.specs.Openable.{Openable, Ready, Usable};
+ghost use Rattle.stored.specs.Usable.{Openable, Ready, Usable};
 ghost use Rattle.stored.specs.Run.{runSize};
 ghost use Rattle.stored.specs.RunCalls.{depthOf, withRow, openRun, openWalk};
 

@@ -23,7 +23,7 @@ ghost use Prim.Native.Nat.{_≤_};
 ghost use Rattle.text.specs.Order.{given};
 ghost use Rattle.stored.specs.RunCalls.{depthOf, rootClosed, nameConditions, openOthers, closeOthers};
 ghost use Rattle.stored.specs.Asking.{askRefusal, RowName};
-ghost use Rattle.stored.specs.Openable.{Ready};
+ghost use Rattle.stored.specs.Usable.{Ready};
 
 // The name in the row of an open element, where it stands.
 pub fn stored_name<'a, 'r>(a: &'a [u8], run: &'r [u8], d: usize) -> &'r [u8]
@@ -36,7 +36,7 @@ pub fn stored_name<'a, 'r>(a: &'a [u8], run: &'r [u8], d: usize) -> &'r [u8]
 }
 
 // 9, 5, which are next.
-fn name_refusal(e: &[u8]) -> u8
+fn form_refusal(e: &[u8]) -> u8
     ensures { λ r. ⌜ r ≡ given (nameConditions (now (e .entry))) ⌝ }
 {
     if !names::name_form(e) {
@@ -62,7 +62,7 @@ fn root_closed(run: &[u8], c: Counters) -> bool
 pub fn open_others(run: &[u8], c: Counters, e: &[u8]) -> u8
     ensures { λ r. ⌜ r ≡ given (openOthers (now (run .entry)) c (now (e .entry))) ⌝ }
 {
-    let first = name_refusal(e);
+    let first = form_refusal(e);
     if first != 0 {
         return first;
     }
@@ -83,7 +83,7 @@ pub fn close_others(a: &[u8], run: &[u8], e: &[u8]) -> u8
     requires { ⌜ Ready (now a) (now run) ⌝ }
     ensures { λ r. ⌜ r ≡ given (closeOthers (now (run .entry)) (now (e .entry))) ⌝ }
 {
-    let first = name_refusal(e);
+    let first = form_refusal(e);
     if first != 0 {
         return first;
     }

@@ -5,6 +5,7 @@ use mathlib.Core.Bool.{Bool, true, false, _&&_, _||_, cond}
 use mathlib.Core.List.{List, [], _∷_}
 use lib.Dec.{leb, ltb, eqb}
 use lib.ListN.{getD}
+use Rattle.text.specs.Refusals.{numberOf, tooLarge, malformedSet, outOfOrder, nameTooLong, pathTooLong, overCapacity}
 use Rattle.text.specs.Names.{maxName, beginsName, inName, digit, within}
 use Rattle.notation.specs.Limits.{maxSteps, maxPaths, maxLabels}
 use Rattle.notation.specs.Print.{header, folderWord}
@@ -89,7 +90,7 @@ folderRead n t = record {
   paths = t .paths;
   steps = t .steps;
   labels = t .labels;
-  fault = orElse (t .fault) (cond (leb n (t .last)) 4 0);
+  fault = orElse (t .fault) (cond (leb n (t .last)) (numberOf outOfOrder) 0);
 }
 
 -- a path begins after its bracket
@@ -142,7 +143,7 @@ labelBegun t = record {
 
 -- a step over the path's limit (6)
 abbrev pub stepFault : Tally → ℕ
-stepFault t = cond (leb maxSteps (t .steps - t .first)) 6 0
+stepFault t = cond (leb maxSteps (t .steps - t .first)) (numberOf pathTooLong) 0
 
 -- a step has ended, with a label over the length of a name (5) or not; `more` is 1 for a label and 0 for `*`
 abbrev pub stepRead : ℕ → ℕ → Tally → Tally
@@ -161,7 +162,7 @@ stepRead more long t = record {
 }
 
 abbrev pub labelRead : Tally → Tally
-labelRead t = stepRead 1 (cond (leb (suc maxName) (t .at - t .from)) 5 0) t
+labelRead t = stepRead 1 (cond (leb (suc maxName) (t .at - t .from)) (numberOf nameTooLong) 0) t
 
 abbrev pub starRead : Tally → Tally
 starRead t = stepRead 0 0 t
@@ -237,9 +238,9 @@ isDone Malformed = false
 unfoldable pub ended : Scan → ℕ
 ended s =
     cond (isDone (s .mode))
-    (orElse (s .tally .fault) (cond (ltb maxPaths (s .tally .paths) || ltb maxLabels (s .tally .labels)) 7 0))
-    3
+    (orElse (s .tally .fault) (cond (ltb maxPaths (s .tally .paths) || ltb maxLabels (s .tally .labels)) (numberOf overCapacity) 0))
+    (numberOf malformedSet)
 
 -- what reading a text is refused with, in build's order; 0 for an accepted set
-unfoldable pub refusalOf : List ℕ → ℕ
-refusalOf text = cond (overBytes text) 2 (ended (scan start text))
+unfoldable pub scanRefusal : List ℕ → ℕ
+scanRefusal text = cond (overBytes text) (numberOf tooLarge) (ended (scan start text))

@@ -11,7 +11,7 @@ use Rattle.text.specs.Bytes.{le16}
 use Rattle.notation.specs.Reads.{labelCount, labelName}
 use Rattle.stored.specs.Automaton.{failIn, automatonSize, linkEntryAt}
 use Rattle.stored.specs.Tables.{parentAt, sizeAt, sizeOf, failOf, walkOver}
-use Rattle.stored.specs.Walkable.{Walkable}
+use Rattle.stored.specs.Usable.{Walkable}
 
 -- where the walk arrives from the parent's failure state with the label's name; the words of one symbol have no parent
 unfoldable pub failTo : List ℕ → ℕ → ℕ

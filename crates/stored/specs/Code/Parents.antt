@@ -12,7 +12,7 @@ use Rattle.notation.specs.declared.reads.PathAt.{PathAt}
 use Rattle.notation.specs.declared.reads.StepAt.{StepAt}
 use Rattle.stored.specs.Automaton.{parentIn, sizeIn, linkEntryAt}
 use Rattle.stored.specs.Tables.{sizeOf, goto}
-use Rattle.stored.specs.Walkable.{Searchable}
+use Rattle.stored.specs.Usable.{Searchable}
 use Rattle.stored.specs.declared.place.Place.{Place}
 
 -- the bytes, and how far the pass is: the labels and the paths met, and the state of the word before the next step
@@ -69,8 +69,8 @@ unfoldable pub parented : ℕ → ℕ → Place → List ℕ → List ℕ
 parented zero i at a = a
 parented (suc left) i at a = parented left (i + 1) (passed i at a .place) (passed i at a .bytes)
 
-abbrev pub outset : Place
-outset = record { labels = 0; paths = 0; state = 0 }
+abbrev pub beforePaths : Place
+beforePaths = record { labels = 0; paths = 0; state = 0 }
 
 -- between steps the chains can be searched, and the numbers stay small
 pub record Sound (most : ℕ) (at : Place) (a : List ℕ) : Type 0 where

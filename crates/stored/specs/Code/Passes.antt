@@ -10,7 +10,7 @@ use Rattle.notation.specs.Layout.{setSize, setPart}
 use Rattle.notation.specs.Reads.{stepCount, labelCount}
 use Rattle.stored.specs.Automaton.{automatonSize}
 use Rattle.stored.specs.Code.Chains.{chained}
-use Rattle.stored.specs.Code.Parents.{parented, outset}
+use Rattle.stored.specs.Code.Parents.{parented, beforePaths}
 use Rattle.stored.specs.Code.Fails.{failedTo}
 use Rattle.stored.specs.Code.Masks.{withMasks, withStart}
 
@@ -22,7 +22,7 @@ abbrev pub withChains : List ℕ → List ℕ
 withChains a = chained (min (labelCount a) maxLabels) a
 
 abbrev pub withParents : List ℕ → List ℕ
-withParents a = parented (stepCount a) 0 outset a
+withParents a = parented (stepCount a) 0 beforePaths a
 
 abbrev pub withFails : List ℕ → List ℕ
 withFails a = failedTo (labelCount a) (suc maxSteps) a

@@ -10,13 +10,13 @@ use lib.ListN.{length}
 use Rattle.text.specs.Names.{Name}
 use Rattle.notation.specs.Sets.{Path, child, axisOf, testOf}
 use Rattle.text.proofs.Laws.Tests.{cases}
-use Rattle.notation.specs.Fit.{Takes, stepAt, nameAt, Fits}
+use Rattle.notation.specs.Fit.{Takes, nthStep, nameAt, Fits}
 
 -- from the position of step i to that of the next
 pub record Link (p : Path) (names : List Name) (i a b : ℕ) : Type 0 where
   pub rises : a < b
-  pub adjacent : axisOf (stepAt p (suc i)) ≡ child → b ≡ suc a
-  pub takes : Takes (testOf (stepAt p (suc i))) (nameAt names b)
+  pub adjacent : axisOf (nthStep p (suc i)) ≡ child → b ≡ suc a
+  pub takes : Takes (testOf (nthStep p (suc i))) (nameAt names b)
 
 pub record Chain (p : Path) (names : List Name) (s m : ℕ) : Type 0 where
   pub pos : ℕ → ℕ
@@ -96,6 +96,6 @@ module _ (p : Path) (names : List Name) where
         next = λ i l k. c .each i k .adjacent;
       }
     where
-      taken : (i : ℕ) → 1 ≤ i → i ≤ length p → Takes (testOf (stepAt p i)) (nameAt names (c .pos i))
+      taken : (i : ℕ) → 1 ≤ i → i ≤ length p → Takes (testOf (nthStep p i)) (nameAt names (c .pos i))
       taken zero l k = absurd (omega arith)
       taken (suc i) l k = c .each i k .takes

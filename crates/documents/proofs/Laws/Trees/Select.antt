@@ -9,7 +9,7 @@ use lib.ListN.{length, drop, length-drop}
 use lib.Seq.{drop-cons, drop-length, drop-drop}
 use Rattle.text.specs.Names.{Name}
 use Rattle.notation.specs.Sets.{Test, label, star, Step, step, Path, axisOf, testOf, child as slash, descendant as doubleSlash}
-use Rattle.notation.specs.Fit.{Takes, stepAt, Fits}
+use Rattle.notation.specs.Fit.{Takes, nthStep, Fits}
 use Rattle.documents.specs.Tree.{Document, Place, Kind, elementNode, kindAt, isNode}
 use Rattle.documents.specs.XPath.{Child, LocationPath, start, IsElement, Passes, nodeTest, selects, withStep, spelled, selected}
 use Rattle.documents.specs.NameList.{namesTo}
@@ -40,7 +40,7 @@ record Onward (d : Document) (s : Step) (y z : Place) : Type 0 where
 -- the first s steps of a path, spelled out
 stepsTo : Path → ℕ → LocationPath
 stepsTo p zero = start
-stepsTo p (suc s) = withStep (stepsTo p s) (stepAt p (suc s))
+stepsTo p (suc s) = withStep (stepsTo p s) (nthStep p (suc s))
 
 steps-from : (p : Path) (n s : ℕ) → n + s ≡ length p → spelled (stepsTo p s) (drop s p) ≡ stepsTo p (length p)
 unfolding stepsTo spelled
@@ -100,7 +100,7 @@ module _ (d : Document) where
       let none-left : m ≡ 0 = omega (arith, length-drop j x, ap length e) in
       rw none-left (nothing-yet p (namesTo d x))
   to-chain p x (suc s) j m h sel =
-      let (y, before, o) = step-to (stepsTo p s) (stepAt p (suc s)) (drop j x) sel in
+      let (y, before, o) = step-to (stepsTo p s) (nthStep p (suc s)) (drop j x) sel in
       let inside : suc (o .k) ≤ m = omega (arith, o .inside, length-drop j x) in
       let up : y ≡ drop (j + suc (o .k)) x = o .from ∙ drop-drop (suc (o .k)) j x in
       one-more p (namesTo d x) s (m - suc (o .k)) m
@@ -123,7 +123,7 @@ module _ (d : Document) where
       let k = pred (m - a) in
       let back : j + (m - a) ≡ j + suc k = omega (arith, link .rises) in
       let (n, kind) = above-or-self d x j is (omega (arith, link .rises)) in
-      step-from (stepsTo p s) (stepAt p (suc s)) (drop (j + (m - a)) x) (drop j x)
+      step-from (stepsTo p s) (nthStep p (suc s)) (drop (j + (m - a)) x) (drop j x)
       (from-chain p x s (j + (m - a)) a is (omega (arith, link .rises)) (one-less p (namesTo d x) s m c))
       (record {
         k = k;
@@ -162,7 +162,7 @@ module _ (d : Document) where
       last : (s : ℕ) → 1 ≤ s → selects d (stepsTo p s) [] x → IsElement (kindAt d x)
       last zero l t = absurd (omega arith)
       last (suc s) l t =
-          let (y, before, o) = step-to (stepsTo p s) (stepAt p (suc s)) x t in
+          let (y, before, o) = step-to (stepsTo p s) (nthStep p (suc s)) x t in
           (o .name, o .kind)
 
   -- demand 2: a path selects at least one element of the tree exactly when it fits the name list of some element of the tree
@@ -176,5 +176,5 @@ unfolding stepsTo
 selects-elements d p x some sel =
     let last : length p ≡ suc (pred (length p)) = omega arith in
     let e : spelled start p ≡ stepsTo p (suc (pred (length p))) = all-steps p ∙ ap (stepsTo p) last in
-    let (y, before, on) = step-to d (stepsTo p (pred (length p))) (stepAt p (suc (pred (length p)))) x (rw e at sel) in
+    let (y, before, on) = step-to d (stepsTo p (pred (length p))) (nthStep p (suc (pred (length p)))) x (rw e at sel) in
     (on .name, on .kind)

@@ -15,7 +15,7 @@ use Rattle.notation.specs.Activity.{fits}
 use Rattle.notation.proofs.Laws.Meaning.Fit.{fits-is}
 use Rattle.text.specs.Refusals.{notOneRoot}
 use Rattle.text.specs.Order.{first}
-use Rattle.theory.specs.Calls.{Call, Level, State, openNames, pathAt, fresh, run}
+use Rattle.theory.specs.Calls.{Call, Level, State, openNames, pathOfPlace, fresh, run}
 use Rattle.theory.specs.Folders.{folderMatched}
 use Rattle.theory.specs.Elements.{elementsOf, childlessDepths}
 use Rattle.theory.specs.History.{acceptedCalls}
@@ -40,7 +40,7 @@ use Rattle.filing.proofs.Laws.Filing.FilingRun.{taken-after, taken-acce
 use Rattle.filing.proofs.Laws.Filing.FilingChildless.{count-in, calls-childless}
 use Rattle.filing.proofs.Laws.Filing.FilingAdded.{added}
 
-fresh-matched : (set : FolderSet) (place : ℕ) (l : List (List Name)) → (fresh set .matched place || any (fits (pathAt set place)) l) ≡ any (fits (pathAt set place)) l
+fresh-matched : (set : FolderSet) (place : ℕ) (l : List (List Name)) → (fresh set .matched place || any (fits (pathOfPlace set place)) l) ≡ any (fits (pathOfPlace set place)) l
 unfolding fresh
 fresh-matched set place l = refl
 
@@ -86,20 +86,20 @@ module _ (set : FolderSet) (bytes : List ℕ) (m : State) (f : FiledWith set byt
   all-taken = taken-accepted set events (fresh set) m filed-events
 
   -- matched: some passed list fits
-  matched-passed : (place : ℕ) → m .matched place ≡ any (fits (pathAt set place)) (passedIn report)
+  matched-passed : (place : ℕ) → m .matched place ≡ any (fits (pathOfPlace set place)) (passedIn report)
   matched-passed place =
       taken-matched set place events (fresh set) m filed-events
       ∙ fresh-matched set place (passed (openNames (fresh set)) events)
-      ∙ ap (λ (l : List Name). any (fits (pathAt set place)) (passed l events)) (fresh-names set)
+      ∙ ap (λ (l : List Name). any (fits (pathOfPlace set place)) (passed l events)) (fresh-names set)
 
-  paths : (place : ℕ) → (m .matched place ≡ true) ↔ SelectsElement (documentIn report) (pathAt set place)
+  paths : (place : ℕ) → (m .matched place ≡ true) ↔ SelectsElement (documentIn report) (pathOfPlace set place)
   paths place = (
     λ h.
-        let (l, i, t) = any-is (fits (pathAt set place)) (passedIn report) (sym (matched-passed place) ∙ h) in
-        report-selects bytes report (pathAt set place) .1 (l, i, fits-is (pathAt set place) l .1 t),
+        let (l, i, t) = any-is (fits (pathOfPlace set place)) (passedIn report) (sym (matched-passed place) ∙ h) in
+        report-selects bytes report (pathOfPlace set place) .1 (l, i, fits-is (pathOfPlace set place) l .1 t),
     λ h.
-        let (l, i, t) = report-selects bytes report (pathAt set place) .0 h in
-        matched-passed place ∙ is-any (fits (pathAt set place)) (passedIn report) i (fits-is (pathAt set place) l .0 t),
+        let (l, i, t) = report-selects bytes report (pathOfPlace set place) .0 h in
+        matched-passed place ∙ is-any (fits (pathOfPlace set place)) (passedIn report) i (fits-is (pathOfPlace set place) l .0 t),
   )
 
   folders : (number : ℕ) → (folderMatched set m number ≡ true) ↔ FolderSelects set (documentIn report) number

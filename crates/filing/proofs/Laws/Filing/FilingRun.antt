@@ -15,7 +15,7 @@ use Rattle.text.specs.Refusals.{notOneRoot}
 use Rattle.notation.specs.Activity.{fits}
 use Rattle.text.proofs.Laws.Bytes.SameName.{sameName-is}
 use Rattle.text.specs.Order.{first}
-use Rattle.theory.specs.Calls.{asLeft, openCall, closeCall, Level, level, nameOf, State, openNames, pathAt, nothingOpen, fresh, opened, closedFrom, closed, refusal, accepted, step, after}
+use Rattle.theory.specs.Calls.{asLeft, openCall, closeCall, Level, level, nameOf, State, openNames, pathOfPlace, nothingOpen, fresh, opened, closedFrom, closed, refusal, accepted, step, after}
 use Rattle.theory.proofs.Laws.Machine.Calls.{open-accepted, Closable, close-accepted}
 use Rattle.theory.proofs.Laws.Machine.Steps.{open-accepted-is, close-accepted-is, step-accepted, names-opened, step-close-names}
 use Rattle.theory.proofs.Laws.Machine.Sound.{Sound, fresh-sound, open-sound, close-sound}
@@ -144,7 +144,7 @@ close-names set m e a =
     ap dropLast (step-close-names set m e a) ∙ last-off (openNames (step set m (closeCall asLeft e))) e ∙ ap openNames (step-accepted set m (closeCall asLeft e) a)
 
 -- what an open and a close do to matches and opens
-opened-matched : (set : FolderSet) (m : State) (e : Name) (place : ℕ) → opened set m e .matched place ≡ (m .matched place || fits (pathAt set place) (openNames (opened set m e)))
+opened-matched : (set : FolderSet) (m : State) (e : Name) (place : ℕ) → opened set m e .matched place ≡ (m .matched place || fits (pathOfPlace set place) (openNames (opened set m e)))
 unfolding opened
 opened-matched set m e place = refl
 
@@ -163,18 +163,18 @@ closed-opens [] m = refl
 closed-opens (level n w ∷ outer) m = refl
 
 pub taken-matched : (set : FolderSet) (place : ℕ) (es : List Event) (m n : State) → fileEvents (sharedMachine set) m es ≡ filed n
-    → n .matched place ≡ (m .matched place || any (fits (pathAt set place)) (passed (openNames m) es))
+    → n .matched place ≡ (m .matched place || any (fits (pathOfPlace set place)) (passed (openNames m) es))
 unfolding any passed
 taken-matched set place =
-    taken set (λ m es n. n .matched place ≡ (m .matched place || any (fits (pathAt set place)) (passed (openNames m) es)))
+    taken set (λ m es n. n .matched place ≡ (m .matched place || any (fits (pathOfPlace set place)) (passed (openNames m) es)))
     (λ n. sym (or-false (n .matched place)))
     (λ m n e es a p.
-    p ∙ ap (λ (b : Bool). b || any (fits (pathAt set place)) (passed (openNames (opened set m e)) es)) (opened-matched set m e place)
-    ∙ ap (λ (l : List Name). (m .matched place || fits (pathAt set place) l) || any (fits (pathAt set place)) (passed l es)) (names-opened set m e)
-    ∙ or-assoc (m .matched place) (fits (pathAt set place) (openNames m ++ (e ∷ []))) (any (fits (pathAt set place)) (passed (openNames m ++ (e ∷ [])) es)))
+    p ∙ ap (λ (b : Bool). b || any (fits (pathOfPlace set place)) (passed (openNames (opened set m e)) es)) (opened-matched set m e place)
+    ∙ ap (λ (l : List Name). (m .matched place || fits (pathOfPlace set place) l) || any (fits (pathOfPlace set place)) (passed l es)) (names-opened set m e)
+    ∙ or-assoc (m .matched place) (fits (pathOfPlace set place) (openNames m ++ (e ∷ []))) (any (fits (pathOfPlace set place)) (passed (openNames m ++ (e ∷ [])) es)))
     (λ m n e es a p.
-    p ∙ ap (λ (b : Bool). b || any (fits (pathAt set place)) (passed (openNames (closed m)) es)) (closed-matched (m .levels) m place)
-    ∙ ap (λ (l : List Name). m .matched place || any (fits (pathAt set place)) (passed l es)) (sym (close-names set m e a)))
+    p ∙ ap (λ (b : Bool). b || any (fits (pathOfPlace set place)) (passed (openNames (closed m)) es)) (closed-matched (m .levels) m place)
+    ∙ ap (λ (l : List Name). m .matched place || any (fits (pathOfPlace set place)) (passed l es)) (sym (close-names set m e a)))
     (λ m n b es l p. p)
     (λ m n b es p. p)
 

@@ -20,7 +20,7 @@ use Rattle.theory.proofs.Laws.Machine.Steps.{open-accepted-is, close-accepted-i
 use Rattle.stored.specs.Run.{runSize}
 use Rattle.stored.specs.RunCalls.{depthOf, openOthers, openRefusal, closeOthers, closeRefusal}
 use Rattle.stored.specs.Demand3.{Left, started}
-use Rattle.stored.specs.Openable.{Usable}
+use Rattle.stored.specs.Usable.{Usable}
 use Rattle.stored.proofs.Laws.Running.Means.{Means}
 use Rattle.stored.proofs.Laws.Running.Following.{leftOf, few-step, one-leaves, start-left}
 use Rattle.stored.proofs.Laws.Shapes.Given.{open-others, close-others, lent-usable}

@@ -13,7 +13,7 @@ use Rattle.text.specs.Refusals.{Refusal}
 use Rattle.text.specs.Answers.{Answer, value}
 use Rattle.notation.specs.declared.PathPlace.{PathPlace}
 use Rattle.notation.specs.declared.FolderNumber.{FolderNumber}
-use Rattle.theory.specs.Calls.{Call, State, pathAt}
+use Rattle.theory.specs.Calls.{Call, State, pathOfPlace}
 use Rattle.theory.specs.History.{FittedAfterOpen}
 use Rattle.theory.specs.Folders.{folderMatched}
 use Rattle.stored.specs.Run.{runSize, runOf}
@@ -57,16 +57,16 @@ module _ (s : FolderSet) (a : List ℕ) (w : Means s a) (rest report : List ℕ)
   abbrev calls : List Call
   calls = callsIn (eventsOf (d .report .run .tokens))
 
-  selects : (place : ℕ) → FittedAfterOpen s calls place ↔ SelectsElement (documentIn (d .report)) (pathAt s place)
+  selects : (place : ℕ) → FittedAfterOpen s calls place ↔ SelectsElement (documentIn (d .report)) (pathOfPlace s place)
   selects place = (
     λ f. d .paths place .0 (ap (λ (x : State). x .matched place) (sym (d .machine)) ∙ run-matched s calls place .1 f),
     λ x. run-matched s calls place .0 (ap (λ (x : State). x .matched place) (d .machine) ∙ d .paths place .1 x),
   )
 
   ask-places : (place : PathPlace)
-      → Answers (place .0 < length (pathsOf s)) (SelectsElement (documentIn (d .report)) (pathAt s (place .0))) (askPath a (runOf s m ++ rest) place)
+      → Answers (place .0 < length (pathsOf s)) (SelectsElement (documentIn (d .report)) (pathOfPlace s (place .0))) (askPath a (runOf s m ++ rest) place)
   ask-places place =
-      subst (λ (x : State). Answers (place .0 < length (pathsOf s)) (SelectsElement (documentIn (d .report)) (pathAt s (place .0))) (askPath a (runOf s x ++ rest) place)) (d .machine)
+      subst (λ (x : State). Answers (place .0 < length (pathsOf s)) (SelectsElement (documentIn (d .report)) (pathOfPlace s (place .0))) (askPath a (runOf s x ++ rest) place)) (d .machine)
       (same-answers (selects (place .0)) (path-answers s a w rest calls place))
 
   folder-selects : (number : ℕ) → HasMatchedPath s a (runOf s m ++ rest) number ↔ FolderSelects s (documentIn (d .report)) number

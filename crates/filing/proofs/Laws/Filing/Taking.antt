@@ -18,7 +18,7 @@ use Rattle.text.specs.Order.{gives, first, numberIn, given}
 use Rattle.stored.specs.Answers.{openedSays}
 use Rattle.stored.specs.RunCalls.{depthOf, startConditions, startRefusal, startRun, openOthers, openRefusal, openWalk, openRun, openCounters, closeOthers, closeRun, closeCounters, noCounters}
 use Rattle.stored.specs.RunContracts.{Starts, Opens, Closes}
-use Rattle.stored.specs.Openable.{Usable}
+use Rattle.stored.specs.Usable.{Usable}
 use Rattle.stored.specs.Demand3.{Left, started}
 use Rattle.stored.specs.declared.counters.Counters.{Counters}
 use Rattle.stored.specs.declared.answers.Opened.{Opened}
@@ -37,7 +37,7 @@ use Rattle.reports.specs.Code.Seen.{tagName, nameOfToken}
 use Rattle.filing.specs.Filing.{Outcome, refused, filed, andThen, unless, fileEvents}
 use Rattle.filing.specs.ReportRefusals.{storedMachine, leftBy, Files}
 use Rattle.filing.specs.Code.Filing.{isTorn, tokensIn, fileReport}
-use Rattle.filing.specs.Code.Taking.{Answered, Takes, leftIn, Leaves, fileOpen, fileClose, fileText, fileFound, fileLast, noTokenAt, runFrom}
+use Rattle.filing.specs.Code.Taking.{Answered, Taking, leftIn, Leaves, fileOpen, fileClose, fileText, fileFound, fileLast, noTokenAt, runFrom}
 use Rattle.filing.proofs.Laws.Filing.FilingParts.{then-filed, then-same, events-append}
 use Rattle.filing.proofs.Laws.Filing.FilingOrder.{report-is, start-refused, start-lent, once-started, report-own}
 use Rattle.reports.proofs.Laws.Read.Next.{tokensFrom, token-next, from-end, from-none, from-late, from-next}
@@ -70,7 +70,7 @@ module _ (a run : List ℕ) (c : Counters) (e : Name) (u : Usable a run c) (run'
   abbrev t : Left
   t = record { bytes = run; counters = c }
 
-  pub open-taken : (answer : Opened) → n ≡ numberSaid (openedSays answer) → Opens a run c e answer run' c' → Takes a run (fileOpen a t e) n run' c'
+  pub open-taken : (answer : Opened) → n ≡ numberSaid (openedSays answer) → Opens a run c e answer run' c' → Taking a run (fileOpen a t e) n run' c'
   unfolding given
   open-taken answer is o =
       let same : n ≡ openRefusal a run c e = is ∙ ap numberSaid (o .answers) ∙ said-number (openRefusal a run c e) (openWalk a run e .moves) in
@@ -80,7 +80,7 @@ module _ (a run : List ℕ) (c : Counters) (e : Name) (u : Usable a run c) (run'
         restarts = restarted a n run' (openRun a run e) run r (λ z. open-restart a run c e (sym same ∙ z));
       }
 
-  pub close-taken : Closes a run c e n run' c' → Takes a run (fileClose a t e) n run' c'
+  pub close-taken : Closes a run c e n run' c' → Taking a run (fileClose a t e) n run' c'
   unfolding given
   close-taken o =
       let r = rw (← o .answers) at (o .runAfter) in
@@ -90,15 +90,15 @@ module _ (a run : List ℕ) (c : Counters) (e : Name) (u : Usable a run c) (run'
       }
 
 -- calls, and nothing more after a refusal; or then others
-pub taken-stops : (a run : List ℕ) (o : Outcome Left) (k : Left → Outcome Left) (n : ℕ) (run' : List ℕ) (c' : Counters) → Takes a run o n run' c' → (n ≡ 0 → ⊥)
-    → Takes a run (andThen o k) n run' c'
+pub taken-stops : (a run : List ℕ) (o : Outcome Left) (k : Left → Outcome Left) (n : ℕ) (run' : List ℕ) (c' : Counters) → Taking a run o n run' c' → (n ≡ 0 → ⊥)
+    → Taking a run (andThen o k) n run' c'
 taken-stops a run o k n run' c' t h = record { answered = stops o n run' c' (t .answered) k h; restarts = t .restarts }
 
 pub taken-on : (a run : List ℕ) (o : Outcome Left) (k : Left → Outcome Left) (n₁ : ℕ) (run₁ : List ℕ) (c₁ : Counters) (n : ℕ) (run' : List ℕ) (c' : Counters)
-    → Takes a run o n₁ run₁ c₁ → n₁ ≡ 0 → Takes a run₁ (k (record { bytes = run₁; counters = c₁ })) n run' c' → Takes a run (andThen o k) n run' c'
+    → Taking a run o n₁ run₁ c₁ → n₁ ≡ 0 → Taking a run₁ (k (record { bytes = run₁; counters = c₁ })) n run' c' → Taking a run (andThen o k) n run' c'
 taken-on a run o k n₁ run₁ c₁ n run' c' t z u = rw (goes-on o n₁ run₁ c₁ (t .answered) z) (record { answered = u .answered; restarts = u .restarts ∙ t .restarts })
 
-pub taken-here : (a run : List ℕ) (o : Outcome Left) (n : ℕ) (c' : Counters) → Answered o n run c' → Takes a run o n run c'
+pub taken-here : (a run : List ℕ) (o : Outcome Left) (n : ℕ) (c' : Counters) → Answered o n run c' → Taking a run o n run c'
 taken-here a run o n c' t = record { answered = t; restarts = refl }
 
 -- a token, by what the code says of it, is its events
@@ -202,7 +202,7 @@ module _ (run : List ℕ) (c : Counters) (all : Bool) (n : ℕ) (c' : Counters) 
   unfolding first
   text-blank h z e = rw (h, and-false (eqb (depthOf run) 0)) (z, rw e)
 
-  pub text-outside : all ≡ false → depthOf run ≡ 0 → n ≡ 10 → textAnswered
+  pub text-outside : all ≡ false → depthOf run ≡ 0 → n ≡ numberOf notOneRoot → textAnswered
   unfolding first
   text-outside h z e = rw (h, eq-eqb (depthOf run) 0 z) e
 
@@ -215,11 +215,11 @@ module _ (run : List ℕ) (c : Counters) (n : ℕ) (c' : Counters) where
   abbrev endAnswered : Type 0
   endAnswered = Answered (fileLast (record { bytes = run; counters = c })) n run c'
 
-  pub end-rootless : c .opens ≡ 0 → n ≡ 10 → endAnswered
+  pub end-rootless : c .opens ≡ 0 → n ≡ numberOf notOneRoot → endAnswered
   unfolding first
   end-rootless z e = rw (eq-eqb (c .opens) 0 z) e
 
-  pub end-open : (c .opens ≡ 0 → ⊥) → (depthOf run ≡ 0 → ⊥) → n ≡ 10 → endAnswered
+  pub end-open : (c .opens ≡ 0 → ⊥) → (depthOf run ≡ 0 → ⊥) → n ≡ numberOf notOneRoot → endAnswered
   unfolding first
   end-open y z e = rw (ne-eqb (c .opens) 0 y, ne-eqb (depthOf run) 0 z) e
 
@@ -336,7 +336,7 @@ found-fit a t (End from to end) e u = close-fit a t e u
 found-fit a t (Text end all) e u = unless-fit a (first (gives (eqb (depthOf (t .bytes)) 0 && not all) notOneRoot ∷ [])) t (λ n. u)
 
 -- what an open that is accepted leaves
-pub opened-usable : (a run : List ℕ) (c : Counters) (e : Name) (n : ℕ) (run' : List ℕ) (c' : Counters) → Takes a run (fileOpen a (record { bytes = run; counters = c }) e) n run' c'
+pub opened-usable : (a run : List ℕ) (c : Counters) (e : Name) (n : ℕ) (run' : List ℕ) (c' : Counters) → Taking a run (fileOpen a (record { bytes = run; counters = c }) e) n run' c'
     → Usable a run c → n ≡ 0 → Usable a run' c'
 opened-usable a run c e n run' c' t u = fit-answered a (fileOpen a (record { bytes = run; counters = c }) e) n run' c' (t .answered) (open-fit a (record { bytes = run; counters = c }) e u)
 
@@ -354,7 +354,7 @@ module _ (a s : List ℕ) (i : ℕ) (f : Found) (is : f ≡ foundOf (length s) i
       rw ends (next .0, next .1 .0)
 
   pub turn-taken : (run : List ℕ) (n : ℕ) (c : Counters) (n' : ℕ) (run' : List ℕ) (c' : Counters) (all : Outcome Left) → Turn a s i n run c all
-      → ((o : Outcome Left) → Answered o n run c → Takes a run (andThen o (λ t. fileFound a t f (tagName (readToken (drop i s))))) n' run' c') → Turn a s end n' run' c' all
+      → ((o : Outcome Left) → Answered o n run c → Taking a run (andThen o (λ t. fileFound a t f (tagName (readToken (drop i s))))) n' run' c') → Turn a s end n' run' c' all
   turn-taken run n c n' run' c' all t takes =
       let k : Left → Outcome Left = λ t. fileFound a t f (tagName (readToken (drop i s))) in
       let next = taken-next a s i f is (t .outcome) inside all-read in

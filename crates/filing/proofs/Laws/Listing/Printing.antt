@@ -10,7 +10,7 @@ use borrow.Author.Tests.{le-ltb, ltb-false}
 use native.Mathlib.Nat.{zero-add}
 use native.Mathlib.Omega.{arith}
 use Rattle.notation.specs.Sets.{FolderSet}
-use Rattle.text.specs.Refusals.{Refusal, numberOf}
+use Rattle.text.specs.Refusals.{Refusal, numberOf, shortBuffer}
 use Rattle.notation.specs.Accepted.{Accepted}
 use Rattle.notation.specs.Judged.{RefusedText, Verdict, refuses, accepts, Judged, verdictNumber}
 use Rattle.text.proofs.Laws.Numbers.{number-within, some-number}
@@ -120,7 +120,7 @@ module _ (text : List ℕ) (s : FolderSet) (acc : Accepted text s) (behind run r
 
 -- `print_set`, and then `print_filing`
 module _ (text report a run out : List ℕ) where
-  pub too-small : tooSmall a run out ≡ true → Prints text report a run out (Written.Refused 1) a run out
+  pub too-small : tooSmall a run out ≡ true → Prints text report a run out (Written.Refused (numberOf shortBuffer)) a run out
   too-small h = record {
     short = λ _. (refl, (refl, (refl, refl)));
     printed = λ f. clash h f;

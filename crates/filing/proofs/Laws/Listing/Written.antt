@@ -10,7 +10,7 @@ use borrow.Author.Tests.{leb-true, leb-false, lt-ltb, le-ltb, ltb-false, not-fal
 use Rattle.notation.specs.Limits.{maxSetBytes}
 use Rattle.text.specs.Decimal.{decimal}
 use Rattle.notation.specs.Print.{footer}
-use Rattle.text.specs.Refusals.{shortBuffer, badShape}
+use Rattle.text.specs.Refusals.{shortBuffer, badShape, numberOf}
 use Rattle.text.specs.Order.{first, given}
 use Rattle.stored.specs.RunCalls.{shaped, tooShort, lentConditions}
 use Rattle.text.specs.declared.written.Written.{Written}
@@ -41,7 +41,7 @@ module _ (a run : List ℕ) (c : Counters) (out : List ℕ) where
       (t .0, not-false (shaped a run c) (not-given (not (shaped a run c)) badShape _ (t .1) .0))
 
   -- a buffer that is too short for every listing
-  pub out-short : length out < listingSize → listingRefusal a run c out ≡ 1
+  pub out-short : length out < listingSize → listingRefusal a run c out ≡ numberOf shortBuffer
   unfolding given first
   out-short h =
       let t : ltb (length out) (listingRoom a run c) ≡ true = lt-ltb (length out) (listingRoom a run c) (omega (arith, room-least)) in
@@ -57,7 +57,7 @@ module _ (a run : List ℕ) (c : Counters) (out : List ℕ) where
         (λ f. cases (shaped a run c) (λ s. absurd (n (rw (f, s)))) (λ s. rw (f, s, le-ltb (length out) listingSize h)))
 
     -- they are not: the length of what is stored is left
-    length-left : given (lentConditions a run c) ≡ 0 → listingRefusal a run c out ≡ cond (leb (length (listingIn a run c)) (length out)) 0 1
+    length-left : given (lentConditions a run c) ≡ 0 → listingRefusal a run c out ≡ cond (leb (length (listingIn a run c)) (length out)) 0 (numberOf shortBuffer)
     unfolding listingRoom given first
     length-left z =
         let (t, s) = lent-good z in
@@ -71,7 +71,7 @@ module _ (a run : List ℕ) (c : Counters) (out : List ℕ) where
         rw (t, s, l, y))
 
     pub dry-says : {after : List ℕ} {cursor : Cursor} → given (lentConditions a run c) ≡ 0 → Composes true (listingIn a run c) out after cursor
-        → listingRefusal a run c out ≡ cond (cursor .fits) 0 1
+        → listingRefusal a run c out ≡ cond (cursor .fits) 0 (numberOf shortBuffer)
     dry-says z x = rw (fits-as x) (length-left z)
 
   -- where nothing is refused the listing has room
@@ -102,6 +102,6 @@ line-written n out h l x =
     let y : ltb (length out) listingSize ≡ false = le-ltb (length out) listingSize l in
     written-as (refusedConditions out) (refusedLine n) out (rw y) (omega (arith, refused-short n h)) x
 
-pub line-short : (n : ℕ) (out : List ℕ) → length out < listingSize → RefusedWritten n out (Written.Refused 1) out
+pub line-short : (n : ℕ) (out : List ℕ) → length out < listingSize → RefusedWritten n out (Written.Refused (numberOf shortBuffer)) out
 unfolding given first
 line-short n out h = let y : ltb (length out) listingSize ≡ true = lt-ltb (length out) listingSize h in record { answers = rw y; leaves = rw y }

@@ -1,6 +1,6 @@
 -- `walk::walk_from`: the walk over the tables, whose current prefix is shorter at each failure move.
 use Rattle.stored.proofs.Laws.Tables.Fuel.{fail-state, fail-shorter, size-within, stays, over-follows, over-empty, over-falls}
-use Rattle.stored.specs.Walkable.{Walkable}
+use Rattle.stored.specs.Usable.{Walkable}
 use Rattle.stored.specs.Tables.{sizeOf, failOf, goto, oneMore, walkOver}
 use Rattle.notation.specs.Reads.{labelCount}
 use Rattle.notation.specs.Limits.{maxSteps, maxLabels}

@@ -2,7 +2,7 @@
 use Rattle.stored.proofs.Laws.Tables.Goto.{hash-small, goto-end}
 use Rattle.stored.proofs.Laws.Tables.Fuel.{goto-found, goto-further}
 use Rattle.stored.proofs.Laws.Tables.ChainTurns.{left, low, rises}
-use Rattle.stored.specs.Walkable.{Searchable}
+use Rattle.stored.specs.Usable.{Searchable}
 use Rattle.stored.specs.Tables.{headAt, nextAt, follows, gotoFrom, goto}
 use Rattle.stored.specs.Automaton.{hashes, hash, headsAt, linksAt, linkSize, automatonSize}
 use Rattle.notation.specs.Reads.{labelCount}

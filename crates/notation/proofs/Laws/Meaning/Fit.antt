@@ -11,7 +11,7 @@ use lib.ListN.{length, take, getD}
 use lib.Seq.{length-take-le, take-take}
 use Rattle.text.specs.Names.{Name}
 use Rattle.notation.specs.Sets.{Axis, child, descendant, Test, label, star, Path, axisOf, testOf}
-use Rattle.notation.specs.Fit.{Takes, stepAt, nameAt, Active, Fits}
+use Rattle.notation.specs.Fit.{Takes, nthStep, nameAt, Active, Fits}
 use Rattle.notation.specs.Activity.{takes, byAxis, allowed, here, isEmpty, active, seen, fits}
 use Rattle.text.proofs.Laws.Bytes.SameName.{sameName-is}
 use Rattle.notation.proofs.Laws.Meaning.Innermost.{active-none, active-zero, active-last, seen-is}
@@ -25,17 +25,17 @@ takes-is star n = (λ e. tt, λ u. refl)
 -- what the test of one element says: the step is there, takes the name, and is allowed
 pub here-is : (p : Path) (root : Bool) (below above : ℕ → Bool) (e : Name) (k : ℕ)
     → (here p root below above e (suc k) ≡ true)
-    ↔ ((suc k ≤ length p) × Takes (testOf (stepAt p (suc k))) e × (allowed p root below above k ≡ true))
+    ↔ ((suc k ≤ length p) × Takes (testOf (nthStep p (suc k))) e × (allowed p root below above k ≡ true))
 unfolding here
 here-is p root below above e k = (
   λ t.
       let room = leb (suc k) (length p) in
-      let test = takes (testOf (stepAt p (suc k))) e in
+      let test = takes (testOf (nthStep p (suc k))) e in
       let may = allowed p root below above k in
       let one = and-eq-true-iff room (test && may) .0 t in
       let two = and-eq-true-iff test may .0 (one .1) in
-      (leb-true (suc k) (length p) (one .0), takes-is (testOf (stepAt p (suc k))) e .0 (two .0), two .1),
-  λ h. rw (le-leb (suc k) (length p) (h .0), takes-is (testOf (stepAt p (suc k))) e .1 (h .1), h .2),
+      (leb-true (suc k) (length p) (one .0), takes-is (testOf (nthStep p (suc k))) e .0 (two .0), two .1),
+  λ h. rw (le-leb (suc k) (length p) (h .0), takes-is (testOf (nthStep p (suc k))) e .1 (h .1), h .2),
 )
 
 isEmpty-is : (names : List Name) → (isEmpty names ≡ true) ↔ (length names ≡ 0)
@@ -79,7 +79,7 @@ module _ (p : Path) (s : ℕ) (names : List Name) (n : ℕ) (less : n ≤ length
 -- what an active step asks of the innermost element and of those around it
 module _ (p : Path) (names : List Name) (n : ℕ) (e : length names ≡ suc n) where
   abbrev Asked : ℕ → Type 0
-  Asked k = (suc k ≤ length p) × Takes (testOf (stepAt p (suc k))) (nameAt names (length names))
+  Asked k = (suc k ≤ length p) × Takes (testOf (nthStep p (suc k))) (nameAt names (length names))
       × (allowed p (isEmpty (take n names)) (λ i. active p i (take n names)) (λ i. seen p i (take n names)) k ≡ true)
 
   asked : (k : ℕ) → (active p (suc k) names ≡ true) ↔ Asked k
@@ -87,9 +87,9 @@ module _ (p : Path) (names : List Name) (n : ℕ) (e : length names ≡ suc n) w
       let there = here-is p (isEmpty (take n names)) (λ i. active p i (take n names)) (λ i. seen p i (take n names)) (getD names n []) k in (
         λ t.
             let h = there .0 (sym (active-last p (suc k) names n e) ∙ t) in
-            (h .0, subst (λ (m : ℕ). Takes (testOf (stepAt p (suc k))) (nameAt names m)) (sym e) (h .1), h .2),
+            (h .0, subst (λ (m : ℕ). Takes (testOf (nthStep p (suc k))) (nameAt names m)) (sym e) (h .1), h .2),
         λ h. active-last p (suc k) names n e ∙ there .1
-            (h .0, subst (λ (m : ℕ). Takes (testOf (stepAt p (suc k))) (nameAt names m)) e (h .1), h .2),
+            (h .0, subst (λ (m : ℕ). Takes (testOf (nthStep p (suc k))) (nameAt names m)) e (h .1), h .2),
       )
 
 -- by induction over the steps, from the last to the first
@@ -100,13 +100,13 @@ sound p (suc zero) names t =
     let n : ℕ = pred (length names) in
     let e : length names ≡ suc n = omega arith in
     let (room, test, may) = asked p names n e zero .0 t in
-    onFirst p names some room test (root-is (axisOf (stepAt p 1)) names n e .0 may)
+    onFirst p names some room test (root-is (axisOf (nthStep p 1)) names n e .0 may)
 sound p (suc (suc j)) names t =
     let some : 1 ≤ length names = some-open p (suc (suc j)) names t in
     let n : ℕ = pred (length names) in
     let e : length names ≡ suc n = omega arith in
     let (room, test, may) = asked p names n e (suc j) .0 t in
-    let (k, pos, le, a, near) = link-to p (suc j) names n (omega arith) (axisOf (stepAt p (suc (suc j)))) may in
+    let (k, pos, le, a, near) = link-to p (suc j) names n (omega arith) (axisOf (nthStep p (suc (suc j)))) may in
     onward p j names k (sound p (suc j) (take k names) a) (omega arith) room test (λ c. omega (arith, near c))
 
 complete : (p : Path) (s : ℕ) (names : List Name) → Active p s names → active p s names ≡ true
@@ -116,8 +116,8 @@ complete p (suc zero) names a =
     let e : length names ≡ suc n = omega (arith, a .innermost, a .within) in
     asked p names n e zero .1 (
       a .there .1,
-      subst (λ (m : ℕ). Takes (testOf (stepAt p 1)) (nameAt names m)) (a .innermost) (a .taken 1 (omega arith) (omega arith)),
-      root-is (axisOf (stepAt p 1)) names n e .1 (λ c. omega (arith, a .innermost, a .first c)),
+      subst (λ (m : ℕ). Takes (testOf (nthStep p 1)) (nameAt names m)) (a .innermost) (a .taken 1 (omega arith) (omega arith)),
+      root-is (axisOf (nthStep p 1)) names n e .1 (λ c. omega (arith, a .innermost, a .first c)),
     )
 complete p (suc (suc j)) names a =
     let n : ℕ = pred (length names) in
@@ -127,8 +127,8 @@ complete p (suc (suc j)) names a =
     let e : length names ≡ suc n = omega arith in
     asked p names n e (suc j) .1 (
       a .there .1,
-      subst (λ (m : ℕ). Takes (testOf (stepAt p (suc (suc j)))) (nameAt names m)) last (a .taken (suc (suc j)) (omega arith) (omega arith)),
-      link-from p (suc j) names n (omega arith) (axisOf (stepAt p (suc (suc j)))) (
+      subst (λ (m : ℕ). Takes (testOf (nthStep p (suc (suc j)))) (nameAt names m)) last (a .taken (suc (suc j)) (omega arith) (omega arith)),
+      link-from p (suc j) names n (omega arith) (axisOf (nthStep p (suc (suc j)))) (
         k,
         positive a (suc j) (omega arith) (omega arith),
         omega arith,

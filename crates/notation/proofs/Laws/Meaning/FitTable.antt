@@ -5,7 +5,7 @@ use mathlib.Core.Bool.{Bool, true, false, _&&_, and-eq-true-iff, Bool·beq}
 use mathlib.Core.List.{List, [], _∷_, List·Memᴰ, List·Memᴰ·not-nil, List·Memᴰ·cases-cons}
 use Rattle.notation.specs.Fit.{Fits}
 use Rattle.text.specs.Names.{sameName}
-use Rattle.notation.specs.Activity.{here, activeIn, seenIn, fits}
+use Rattle.notation.specs.Activity.{here, activeReversed, seenReversed, fits}
 use Rattle.notation.specs.FitTable.{Row, fitTable}
 use Rattle.notation.proofs.Laws.Meaning.Fit.{fits-is}
 
@@ -35,7 +35,7 @@ at (x ∷ rs) t r m =
     (List·Memᴰ·cases-cons m)
 
 computed : all-right fitTable ≡ true
-unfolding fitTable right all-right activeIn seenIn here sameName
+unfolding fitTable right all-right activeReversed seenReversed here sameName
 computed = refl
 
 pub fit-table : (r : Row) → List·Memᴰ r fitTable → Fits (r .path) (r .names) ↔ (r .answer ≡ true)

@@ -13,8 +13,8 @@ use lib.Seq.{take-suc, take-length}
 use Rattle.text.proofs.Laws.Tests.{cases}
 use Rattle.text.specs.Names.{Name}
 use Rattle.notation.specs.Sets.{Path, testOf}
-use Rattle.notation.specs.Fit.{stepAt}
-use Rattle.notation.specs.Activity.{takes, allowed, here, isEmpty, activeIn, seenIn, active, seen}
+use Rattle.notation.specs.Fit.{nthStep}
+use Rattle.notation.specs.Activity.{takes, allowed, here, isEmpty, activeReversed, seenReversed, active, seen}
 
 isEmpty-more : (names : List Name) (e : Name) → isEmpty (names ++ (e ∷ [])) ≡ false
 isEmpty-more [] e = refl
@@ -34,7 +34,7 @@ past : (p : Path) (s : ℕ) → length p < s → (root : Bool) (below above : �
 unfolding here
 past p zero h root below above e = refl
 past p (suc k) h root below above e =
-    ap (λ (b : Bool). b && (takes (testOf (stepAt p (suc k))) e && allowed p root below above k)) (lt-leb (suc k) (length p) h)
+    ap (λ (b : Bool). b && (takes (testOf (nthStep p (suc k))) e && allowed p root below above k)) (lt-leb (suc k) (length p) h)
 
 zeroth : (p : Path) (root : Bool) (below above : ℕ → Bool) (e : Name) → here p root below above e zero ≡ false
 unfolding here
@@ -43,37 +43,37 @@ zeroth p root below above e = refl
 module _ (p : Path) (s : ℕ) where
   -- with nothing open, no step is active
   pub active-none : active p s [] ≡ false
-  unfolding activeIn seenIn
+  unfolding activeReversed seenReversed
   active-none = refl
 
   pub seen-none : seen p s [] ≡ false
-  unfolding activeIn seenIn
+  unfolding activeReversed seenReversed
   seen-none = refl
 
   -- one more element open: active on it by what was active around it
   pub active-more : (names : List Name) (e : Name)
       → active p s (names ++ (e ∷ [])) ≡ here p (isEmpty names) (λ i. active p i names) (λ i. seen p i names) e s
-  unfolding activeIn seenIn
+  unfolding activeReversed seenReversed
   active-more names e =
-      ap (λ (l : List Name). activeIn l p s) (reverse-append names (e ∷ []))
+      ap (λ (l : List Name). activeReversed l p s) (reverse-append names (e ∷ []))
       ∙ ap (λ (b : Bool). here p b (λ i. active p i names) (λ i. seen p i names) e s) (isEmpty-reverse names)
 
   pub seen-more : (names : List Name) (e : Name)
       → seen p s (names ++ (e ∷ [])) ≡ (active p s (names ++ (e ∷ [])) || seen p s names)
-  unfolding activeIn seenIn
+  unfolding activeReversed seenReversed
   seen-more names e =
-      ap (λ (l : List Name). seenIn l p s) (reverse-append names (e ∷ []))
-      ∙ ap (λ (l : List Name). activeIn l p s || seen p s names) (sym (reverse-append names (e ∷ [])))
+      ap (λ (l : List Name). seenReversed l p s) (reverse-append names (e ∷ []))
+      ∙ ap (λ (l : List Name). activeReversed l p s || seen p s names) (sym (reverse-append names (e ∷ [])))
 
   -- a test that holds of no innermost element holds of none further out
   never : (names : List Name)
       → ((root : Bool) (below above : ℕ → Bool) (e : Name) → here p root below above e s ≡ false)
-      → (activeIn names p s ≡ false) × (seenIn names p s ≡ false)
-  unfolding activeIn seenIn
+      → (activeReversed names p s ≡ false) × (seenReversed names p s ≡ false)
+  unfolding activeReversed seenReversed
   never [] h = (refl, refl)
   never (e ∷ outer) h =
-      let now = h (isEmpty outer) (λ i. activeIn outer p i) (λ i. seenIn outer p i) e in
-      (now, ap (λ (b : Bool). b || seenIn outer p s) now ∙ never outer h .1)
+      let now = h (isEmpty outer) (λ i. activeReversed outer p i) (λ i. seenReversed outer p i) e in
+      (now, ap (λ (b : Bool). b || seenReversed outer p s) now ∙ never outer h .1)
 
   -- a step past the path's last is never active
   pub active-past : length p < s → (names : List Name) → active p s names ≡ false

@@ -10,7 +10,7 @@ use lib.ListN.{length, take}
 use lib.Seq.{length-take-le, getD-take}
 use Rattle.text.specs.Names.{Name}
 use Rattle.notation.specs.Sets.{child, Path, axisOf, testOf}
-use Rattle.notation.specs.Fit.{Takes, stepAt, nameAt, Active}
+use Rattle.notation.specs.Fit.{Takes, nthStep, nameAt, Active}
 use Rattle.text.proofs.Laws.Tests.{cases}
 
 -- what holds of 1 .. n and of the next number holds of 1 .. n + 1
@@ -42,7 +42,7 @@ nameAt-take names k d pos le = getD-take k names (pred d) [] (omega arith)
 
 -- the first step has one position, the innermost element's
 pub onFirst : (p : Path) (names : List Name) → 1 ≤ length names → 1 ≤ length p
-    → Takes (testOf (stepAt p 1)) (nameAt names (length names)) → (axisOf (stepAt p 1) ≡ child → length names ≡ 1)
+    → Takes (testOf (nthStep p 1)) (nameAt names (length names)) → (axisOf (nthStep p 1) ≡ child → length names ≡ 1)
     → Active p 1 names
 onFirst p names some room takes near = record {
   d = λ i. length names;
@@ -50,7 +50,7 @@ onFirst p names some room takes near = record {
   within = omega arith;
   rising = λ i pos le. absurd (omega arith);
   innermost = refl;
-  taken = one-more (λ (i : ℕ). Takes (testOf (stepAt p i)) (nameAt names (length names))) 0 (λ i pos le. absurd (omega arith)) takes;
+  taken = one-more (λ (i : ℕ). Takes (testOf (nthStep p i)) (nameAt names (length names))) 0 (λ i pos le. absurd (omega arith)) takes;
   first = near;
   next = λ i pos le. absurd (omega arith);
 }
@@ -67,7 +67,7 @@ module _ (p : Path) (j : ℕ) (names : List Name) where
         rising = λ i pos le. a .rising i pos (omega arith);
         innermost = sym (length-take-le (a .d (suc j)) names short);
         taken = λ i pos le.
-            subst (λ (n : Name). Takes (testOf (stepAt p i)) n)
+            subst (λ (n : Name). Takes (testOf (nthStep p i)) n)
             (sym (nameAt-take names (a .d (suc j)) (a .d i) (positive a i pos (omega arith)) (ordered a i (suc j) pos le (omega arith))))
             (a .taken i pos (omega arith));
         first = a .first;
@@ -76,8 +76,8 @@ module _ (p : Path) (j : ℕ) (names : List Name) where
 
   module _ (k : ℕ) (b : Active p (suc j) (take k names)) (less : k < length names)
       (room : suc (suc j) ≤ length p)
-      (takes : Takes (testOf (stepAt p (suc (suc j)))) (nameAt names (length names)))
-      (near : axisOf (stepAt p (suc (suc j))) ≡ child → length names ≡ suc k) where
+      (takes : Takes (testOf (nthStep p (suc (suc j)))) (nameAt names (length names)))
+      (near : axisOf (nthStep p (suc (suc j))) ≡ child → length names ≡ suc k) where
     -- the positions up to the last step's
     d' : ℕ → ℕ
     d' i = cond (leb i (suc j)) (b .d i) (length names)
@@ -105,16 +105,16 @@ module _ (p : Path) (j : ℕ) (names : List Name) where
           (omega (arith, low (suc j) (omega arith), high, end)) i pos (omega arith);
       innermost = high;
       taken =
-          one-more (λ (i : ℕ). Takes (testOf (stepAt p i)) (nameAt names (d' i))) (suc j)
+          one-more (λ (i : ℕ). Takes (testOf (nthStep p i)) (nameAt names (d' i))) (suc j)
           (λ i pos le.
-          subst (λ (n : Name). Takes (testOf (stepAt p i)) n)
+          subst (λ (n : Name). Takes (testOf (nthStep p i)) n)
           (nameAt-take names k (b .d i) (positive b i pos le) (omega (arith, ordered b i (suc j) pos le (omega arith), end))
           ∙ ap (λ (m : ℕ). nameAt names m) (sym (low i le)))
           (b .taken i pos le))
-          (subst (λ (m : ℕ). Takes (testOf (stepAt p (suc (suc j)))) (nameAt names m)) (sym high) takes);
+          (subst (λ (m : ℕ). Takes (testOf (nthStep p (suc (suc j)))) (nameAt names m)) (sym high) takes);
       first = λ e. low 1 (omega arith) ∙ b .first e;
       next = λ i pos le.
-          one-more (λ (i : ℕ). axisOf (stepAt p (suc i)) ≡ child → d' (suc i) ≡ suc (d' i)) j
+          one-more (λ (i : ℕ). axisOf (nthStep p (suc i)) ≡ child → d' (suc i) ≡ suc (d' i)) j
           (λ i pos le e. omega (arith, low i (omega arith), low (suc i) (omega arith), b .next i pos (omega arith) e))
           (λ e. omega (arith, low (suc j) (omega arith), high, end, near e)) i pos (omega arith);
     }

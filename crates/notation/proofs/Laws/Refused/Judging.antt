@@ -10,7 +10,7 @@ use Rattle.notation.specs.Print.{print}
 use Rattle.notation.specs.Form.{formed, OfForm, overBytes, overLimits, faults}
 use Rattle.notation.specs.Accepted.{Accepted}
 use Rattle.notation.specs.Judged.{RefusedText, overLong, notOfForm, faulty, overfull, Verdict, refuses, accepts, Judged, verdictNumber}
-use Rattle.notation.specs.Code.Scan.{scan, start, isDone, ended, refusalOf, orElse}
+use Rattle.notation.specs.Code.Scan.{scan, start, isDone, ended, scanRefusal, orElse}
 use Rattle.text.proofs.Laws.Tests.{cases}
 use Rattle.notation.proofs.Laws.Form.Sound.{sound}
 use Rattle.notation.proofs.Laws.Scan.FirstFault.{firstOf}
@@ -45,29 +45,29 @@ module _ (text : List ℕ) where
 
   -- what the code's reader answers
 
-  over-answer : overBytes text ≡ true → refusalOf text ≡ 2
-  unfolding refusalOf
+  over-answer : overBytes text ≡ true → scanRefusal text ≡ numberOf tooLarge
+  unfolding scanRefusal
   over-answer e = rw e
 
-  bent-answer : overBytes text ≡ false → (OfForm text → ⊥) → refusalOf text ≡ 3
-  unfolding refusalOf ended
-  bent-answer few none = rw few (cases (isDone (scan start text .mode)) (λ e. absurd (none (sound text e))) (λ e. rw e))
+  malformed-answer : overBytes text ≡ false → (OfForm text → ⊥) → scanRefusal text ≡ numberOf malformedSet
+  unfolding scanRefusal ended
+  malformed-answer few none = rw few (cases (isDone (scan start text .mode)) (λ e. absurd (none (sound text e))) (λ e. rw e))
 
   form-answer : (s : FolderSet) → formed s ≡ true → print s ≡ text → overBytes text ≡ false
-      → refusalOf text ≡ orElse (firstOf (faults s)) (cond (overLimits s) 7 0)
+      → scanRefusal text ≡ orElse (firstOf (faults s)) (cond (overLimits s) (numberOf overCapacity) 0)
   form-answer s well prints few =
       let here : overBytes (print s) ≡ false = rw prints few in
       rw (← prints) (refusal-complete s well ∙ rw here)
 
-  refused-number : (r : Refusal) → RefusedText text r → refusalOf text ≡ numberOf r
+  refused-number : (r : Refusal) → RefusedText text r → scanRefusal text ≡ numberOf r
   refused-number r (overLong e over) = over-answer over ∙ sym (ap numberOf e)
-  refused-number r (notOfForm e few none) = bent-answer few none ∙ sym (ap numberOf e)
+  refused-number r (notOfForm e few none) = malformed-answer few none ∙ sym (ap numberOf e)
   refused-number r (faulty few o later e) =
       form-answer (o .set) (o .well) (o .prints) few ∙ rw (e, ne-eqb (numberOf r) 0 (some-number r))
   refused-number r (overfull e few o none y) =
       form-answer (o .set) (o .well) (o .prints) few ∙ (rw (none, y) (sym (ap numberOf e)))
 
-  pub verdict-number : (v : Verdict) → Judged text v → refusalOf text ≡ verdictNumber v
+  pub verdict-number : (v : Verdict) → Judged text v → scanRefusal text ≡ verdictNumber v
   verdict-number (refuses r) j = refused-number r j
   verdict-number (accepts s) a = form-answer s (a .well) (a .prints) (a .short) ∙ rw (accepted-faultless text s a, a .room)
 
@@ -83,7 +83,7 @@ module _ (text : List ℕ) where
   one-verdict = let (v, j) = some-verdict in (v, j, λ w k. only-verdict w v k j)
 
   -- 0 is the answer of an accepted text only
-  pub accepted-set : refusalOf text ≡ 0 → (s : FolderSet) × Accepted text s
+  pub accepted-set : scanRefusal text ≡ 0 → (s : FolderSet) × Accepted text s
   accepted-set z = let (v, j) = some-verdict in go v j
     where
       go : (v : Verdict) → Judged text v → (s : FolderSet) × Accepted text s

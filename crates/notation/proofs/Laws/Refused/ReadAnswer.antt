@@ -11,7 +11,7 @@ use Rattle.notation.specs.Accepted.{Accepted}
 use Rattle.notation.specs.Layout.{setSize}
 use Rattle.notation.specs.Judged.{RefusedText, Verdict, refuses, accepts, Judged, verdictNumber}
 use Rattle.notation.specs.ReadSet.{ReadSet, readInto}
-use Rattle.notation.specs.Code.Scan.{refusalOf}
+use Rattle.notation.specs.Code.Scan.{scanRefusal}
 use Rattle.notation.specs.Code.Emit.{partRead}
 use Rattle.text.proofs.Laws.Numbers.{some-number}
 use Rattle.notation.proofs.Laws.Refused.AcceptedSet.{part-accepted}
@@ -24,14 +24,14 @@ module _ (text before : List ℕ) where
   read-short h = record { short = λ _. (refl, refl); judged = λ k. absurd (omega arith) }
 
   module _ (h : setSize ≤ length before) where
-    pub read-refused : (n : ℕ) → n ≡ refusalOf text → (n ≡ 0 → ⊥) → ReadSet text before n before
+    pub read-refused : (n : ℕ) → n ≡ scanRefusal text → (n ≡ 0 → ⊥) → ReadSet text before n before
     read-refused n e some = record { short = λ k. absurd (omega arith); judged = λ _. go }
       where
         go : (v : Verdict) → Judged text v → (n ≡ verdictNumber v) × (before ≡ readInto v before)
         go (refuses r) j = (e ∙ verdict-number text (refuses r) j, refl)
         go (accepts s) a = absurd (some (e ∙ verdict-number text (accepts s) a))
 
-    pub read-filled : (after : List ℕ) → refusalOf text ≡ 0 → after ≡ partRead text ++ drop setSize before → ReadSet text before 0 after
+    pub read-filled : (after : List ℕ) → scanRefusal text ≡ 0 → after ≡ partRead text ++ drop setSize before → ReadSet text before 0 after
     read-filled after z e = record { short = λ k. absurd (omega arith); judged = λ _. go }
       where
         go : (v : Verdict) → Judged text v → (0 ≡ verdictNumber v) × (after ≡ readInto v before)

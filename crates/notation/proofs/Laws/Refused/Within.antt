@@ -8,7 +8,7 @@ use Rattle.notation.specs.Limits.{maxSetBytes}
 use Rattle.notation.specs.Sets.{FolderSet}
 use Rattle.notation.specs.Print.{print}
 use Rattle.notation.specs.Form.{formed}
-use Rattle.notation.specs.Code.Scan.{scan, start, refusalOf}
+use Rattle.notation.specs.Code.Scan.{scan, start, scanRefusal}
 use Rattle.notation.specs.Code.Put.{Within}
 use Rattle.notation.proofs.Laws.Scan.Complete.{scan-complete}
 use Rattle.notation.proofs.Laws.Refused.Fitting.{Fitting}
@@ -26,7 +26,7 @@ set-within s well f =
       labels = rw (c .labels) (f .labels);
     }
 
-pub accepted-within : (text : List ℕ) → refusalOf text ≡ 0 → (length text ≤ maxSetBytes) × Within (scan start text .tally)
+pub accepted-within : (text : List ℕ) → scanRefusal text ≡ 0 → (length text ≤ maxSetBytes) × Within (scan start text .tally)
 accepted-within text e =
     let (s, a) = accepted-set text e in
     let f = accepted-fits text s a in

@@ -4,11 +4,12 @@ use native.Mathlib.Omega.{arith}
 use mathlib.Core.Path.{_≡_, sym, _∙_}
 use mathlib.Core.Bool.{true, cond}
 use lib.ListN.{length, length-map}
+use Rattle.text.specs.Refusals.{numberOf, overCapacity, tooLarge}
 use Rattle.notation.specs.Sets.{FolderSet}
 use Rattle.notation.specs.Print.{print}
 use Rattle.notation.specs.Form.{formed, pathsOf, stepsOf, labelsOf, overBytes, overLimits, faults}
 use Rattle.notation.specs.Layout.{stepEntry, tablesOf}
-use Rattle.notation.specs.Code.Scan.{scan, start, ended, refusalOf, orElse}
+use Rattle.notation.specs.Code.Scan.{scan, start, ended, scanRefusal, orElse}
 use Rattle.notation.specs.Code.Emit.{tablesRead}
 use Rattle.notation.specs.declared.scan.Mode.the-variants.{Done}
 use Rattle.notation.specs.declared.scan.Scan.{Scan}
@@ -49,6 +50,6 @@ module _ (s : FolderSet) (well : formed s ≡ true) where
   unfolding tablesRead
   tables-complete = sym (all-tables begin (print s)) ∙ set-read s well .tables
 
-  pub refusal-complete : refusalOf (print s) ≡ cond (overBytes (print s)) 2 (orElse (firstOf (faults s)) (cond (overLimits s) 7 0))
-  unfolding refusalOf ended overLimits
+  pub refusal-complete : scanRefusal (print s) ≡ cond (overBytes (print s)) (numberOf tooLarge) (orElse (firstOf (faults s)) (cond (overLimits s) (numberOf overCapacity) 0))
+  unfolding scanRefusal ended overLimits
   refusal-complete = rw (scan-complete .mode, scan-complete .fault, scan-complete .paths, scan-complete .labels)

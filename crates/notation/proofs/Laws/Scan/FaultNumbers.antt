@@ -68,14 +68,14 @@ set-ours (folder n ps ∷ fs) last =
     ours-append (cond (leb n last) (outOfOrder ∷ []) []) (pathsFaults ps ++ faultsAfter n fs) (turn-ours (leb n last))
     (ours-append (pathsFaults ps) (faultsAfter n fs) (paths-ours ps) (set-ours fs n))
 
-none-left : (fs : List Refusal) → every ours fs ≡ true → has 4 fs ≡ false → has 5 fs ≡ false → has 6 fs ≡ false → fs ≡ []
+none-left : (fs : List Refusal) → every ours fs ≡ true → has (numberOf outOfOrder) fs ≡ false → has (numberOf nameTooLong) fs ≡ false → has (numberOf pathTooLong) fs ≡ false → fs ≡ []
 unfolding every any
 none-left [] o e₄ e₅ e₆ = refl
 none-left (r ∷ fs) o e₄ e₅ e₆ =
     let one : ours r ≡ true = and-left (ours r) (every ours fs) o in
-    let n₄ : eqb (numberOf r) 4 ≡ false = or-left (eqb (numberOf r) 4) (has 4 fs) e₄ in
-    let n₅ : eqb (numberOf r) 5 ≡ false = or-left (eqb (numberOf r) 5) (has 5 fs) e₅ in
-    let n₆ : eqb (numberOf r) 6 ≡ false = or-left (eqb (numberOf r) 6) (has 6 fs) e₆ in
+    let n₄ : eqb (numberOf r) 4 ≡ false = or-left (eqb (numberOf r) 4) (has (numberOf outOfOrder) fs) e₄ in
+    let n₅ : eqb (numberOf r) 5 ≡ false = or-left (eqb (numberOf r) 5) (has (numberOf nameTooLong) fs) e₅ in
+    let n₆ : eqb (numberOf r) 6 ≡ false = or-left (eqb (numberOf r) 6) (has (numberOf pathTooLong) fs) e₆ in
     let none : ours r ≡ false = rw (n₄, n₅, n₆) in
     absurd (true≢false (sym one ∙ none))
 

@@ -33,45 +33,45 @@ has-append k xs ys = any-append (λ r. eqb (numberOf r) k) xs ys
 abbrev stepList : Bool → Bool → List Refusal
 stepList p q = cond p (nameTooLong ∷ []) [] ++ cond q (pathTooLong ∷ []) []
 
-step-has-4 : (p q : Bool) → has 4 (stepList p q) ≡ false
+step-has-4 : (p q : Bool) → has (numberOf outOfOrder) (stepList p q) ≡ false
 unfolding any
 step-has-4 true true = refl
 step-has-4 true false = refl
 step-has-4 false true = refl
 step-has-4 false false = refl
 
-step-has-5 : (p q : Bool) → has 5 (stepList p q) ≡ p
+step-has-5 : (p q : Bool) → has (numberOf nameTooLong) (stepList p q) ≡ p
 unfolding any
 step-has-5 true true = refl
 step-has-5 true false = refl
 step-has-5 false true = refl
 step-has-5 false false = refl
 
-step-has-6 : (p q : Bool) → has 6 (stepList p q) ≡ q
+step-has-6 : (p q : Bool) → has (numberOf pathTooLong) (stepList p q) ≡ q
 unfolding any
 step-has-6 true true = refl
 step-has-6 true false = refl
 step-has-6 false true = refl
 step-has-6 false false = refl
 
-turn-has : (k : ℕ) (c : Bool) → has k (cond c (outOfOrder ∷ []) []) ≡ (c && eqb 4 k)
+turn-has : (k : ℕ) (c : Bool) → has k (cond c (outOfOrder ∷ []) []) ≡ (c && eqb (numberOf outOfOrder) k)
 unfolding any
-turn-has k true = or-false (eqb 4 k)
+turn-has k true = or-false (eqb (numberOf outOfOrder) k)
 turn-has k false = refl
 
 -- 4: nothing in the paths, and the numbers
 
-path-has-4 : (p : Path) (k : ℕ) → has 4 (pathFaults k p) ≡ false
+path-has-4 : (p : Path) (k : ℕ) → has (numberOf outOfOrder) (pathFaults k p) ≡ false
 unfolding pathFaults any
 path-has-4 [] k = refl
 path-has-4 (s ∷ p) k =
-    has-append 4 (stepFaults k s) (pathFaults (suc k) p) ∙
+    has-append (numberOf outOfOrder) (stepFaults k s) (pathFaults (suc k) p) ∙
     ap₂ (λ a b. a || b) (step-has-4 (longTest (testOf s)) (leb maxSteps k)) (path-has-4 p (suc k))
 
-paths-has-4 : (ps : List Path) → has 4 (pathsFaults ps) ≡ false
+paths-has-4 : (ps : List Path) → has (numberOf outOfOrder) (pathsFaults ps) ≡ false
 unfolding pathsFaults any
 paths-has-4 [] = refl
-paths-has-4 (p ∷ ps) = has-append 4 (pathFaults 0 p) (pathsFaults ps) ∙ ap₂ (λ a b. a || b) (path-has-4 p 0) (paths-has-4 ps)
+paths-has-4 (p ∷ ps) = has-append (numberOf outOfOrder) (pathFaults 0 p) (pathsFaults ps) ∙ ap₂ (λ a b. a || b) (path-has-4 p 0) (paths-has-4 ps)
 
 -- 5: the labels
 
@@ -80,55 +80,55 @@ unfolding any
 test-labels (label n) = sym (or-false (tooLong n))
 test-labels star = refl
 
-path-has-5 : (p : Path) (k : ℕ) → has 5 (pathFaults k p) ≡ any tooLong (labelsOf p)
+path-has-5 : (p : Path) (k : ℕ) → has (numberOf nameTooLong) (pathFaults k p) ≡ any tooLong (labelsOf p)
 unfolding pathFaults labelsOf any
 path-has-5 [] k = refl
 path-has-5 (s ∷ p) k =
-    has-append 5 (stepFaults k s) (pathFaults (suc k) p) ∙
+    has-append (numberOf nameTooLong) (stepFaults k s) (pathFaults (suc k) p) ∙
     (ap₂ (λ a b. a || b)
     (step-has-5 (longTest (testOf s)) (leb maxSteps k) ∙ test-labels (testOf s))
     (path-has-5 p (suc k)) ∙
     sym (any-append tooLong (labelOf (testOf s)) (labelsOf p)))
 
-paths-has-5 : (ps : List Path) → has 5 (pathsFaults ps) ≡ any tooLong (labelsOf (stepsOf ps))
+paths-has-5 : (ps : List Path) → has (numberOf nameTooLong) (pathsFaults ps) ≡ any tooLong (labelsOf (stepsOf ps))
 unfolding pathsFaults labelsOf stepsOf any
 paths-has-5 [] = refl
 paths-has-5 (p ∷ ps) =
-    has-append 5 (pathFaults 0 p) (pathsFaults ps) ∙
+    has-append (numberOf nameTooLong) (pathFaults 0 p) (pathsFaults ps) ∙
     (ap₂ (λ a b. a || b) (path-has-5 p 0) (paths-has-5 ps) ∙
     sym (ap (λ l. any tooLong l) (labels-append p (stepsOf ps)) ∙ any-append tooLong (labelsOf p) (labelsOf (stepsOf ps))))
 
 -- 6: the paths
 
-path-has-6 : (p : Path) (k : ℕ) → k ≤ maxSteps → has 6 (pathFaults k p) ≡ ltb maxSteps (k + length p)
+path-has-6 : (p : Path) (k : ℕ) → k ≤ maxSteps → has (numberOf pathTooLong) (pathFaults k p) ≡ ltb maxSteps (k + length p)
 unfolding pathFaults any
 path-has-6 [] k h = sym (le-ltb maxSteps (k + 0) (omega arith))
 path-has-6 (s ∷ p) k h =
-    has-append 6 (stepFaults k s) (pathFaults (suc k) p) ∙
-    (ap (λ a. a || has 6 (pathFaults (suc k) p)) (step-has-6 (longTest (testOf s)) (leb maxSteps k)) ∙
+    has-append (numberOf pathTooLong) (stepFaults k s) (pathFaults (suc k) p) ∙
+    (ap (λ a. a || has (numberOf pathTooLong) (pathFaults (suc k) p)) (step-has-6 (longTest (testOf s)) (leb maxSteps k)) ∙
     cases (leb maxSteps k)
     (λ e. rw e (sym (lt-ltb maxSteps (k + suc (length p)) (omega (arith, leb-true maxSteps k e)))))
     (λ e.
     let same : suc k + length p ≡ k + suc (length p) = omega arith in
     rw e (path-has-6 p (suc k) (leb-false maxSteps k e) ∙ ap (λ n. ltb maxSteps n) same)))
 
-paths-has-6 : (ps : List Path) → has 6 (pathsFaults ps) ≡ any pathLong ps
+paths-has-6 : (ps : List Path) → has (numberOf pathTooLong) (pathsFaults ps) ≡ any pathLong ps
 unfolding pathsFaults any
 paths-has-6 [] = refl
 paths-has-6 (p ∷ ps) =
     let same : 0 + length p ≡ length p = omega arith in
-    has-append 6 (pathFaults 0 p) (pathsFaults ps) ∙
+    has-append (numberOf pathTooLong) (pathFaults 0 p) (pathsFaults ps) ∙
     ap₂ (λ a b. a || b) (path-has-6 p 0 (omega arith) ∙ ap (λ n. ltb maxSteps n) same) (paths-has-6 ps)
 
 -- a set's faults of one number: those of the first line's number and paths, and of the other lines
 line-has : (k last n : ℕ) (ps : List Path) (fs : FolderSet)
-    → has k (faultsAfter last (folder n ps ∷ fs)) ≡ (leb n last && eqb 4 k || (has k (pathsFaults ps) || has k (faultsAfter n fs)))
+    → has k (faultsAfter last (folder n ps ∷ fs)) ≡ (leb n last && eqb (numberOf outOfOrder) k || (has k (pathsFaults ps) || has k (faultsAfter n fs)))
 unfolding faultsAfter
 line-has k last n ps fs =
     has-append k (cond (leb n last) (outOfOrder ∷ []) []) (pathsFaults ps ++ faultsAfter n fs) ∙
     ap₂ (λ a b. a || b) (turn-has k (leb n last)) (has-append k (pathsFaults ps) (faultsAfter n fs))
 
-pub has-4 : (s : FolderSet) (last : ℕ) → has 4 (faultsAfter last s) ≡ numbersFallAfter last s
+pub has-4 : (s : FolderSet) (last : ℕ) → has (numberOf outOfOrder) (faultsAfter last s) ≡ numbersFallAfter last s
 unfolding numbersFallAfter faultsAfter any
 has-4 [] last = refl
 has-4 (folder n ps ∷ fs) last =
@@ -136,7 +136,7 @@ has-4 (folder n ps ∷ fs) last =
     (ap₂ (λ a b. leb n last && true || (a || b)) (paths-has-4 ps) (has-4 fs n) ∙
     ap (λ a. a || numbersFallAfter n fs) (and-true (leb n last)))
 
-pub has-5 : (s : FolderSet) (last : ℕ) → has 5 (faultsAfter last s) ≡ any tooLong (labelsOf (stepsOf (pathsOf s)))
+pub has-5 : (s : FolderSet) (last : ℕ) → has (numberOf nameTooLong) (faultsAfter last s) ≡ any tooLong (labelsOf (stepsOf (pathsOf s)))
 unfolding faultsAfter any labelsOf stepsOf pathsOf
 has-5 [] last = refl
 has-5 (folder n ps ∷ fs) last =
@@ -148,7 +148,7 @@ has-5 (folder n ps ∷ fs) last =
     (ap (λ l. any tooLong l) (labels-append (stepsOf ps) (stepsOf (pathsOf fs))) ∙
     any-append tooLong (labelsOf (stepsOf ps)) (labelsOf (stepsOf (pathsOf fs)))))))
 
-pub has-6 : (s : FolderSet) (last : ℕ) → has 6 (faultsAfter last s) ≡ any pathLong (pathsOf s)
+pub has-6 : (s : FolderSet) (last : ℕ) → has (numberOf pathTooLong) (faultsAfter last s) ≡ any pathLong (pathsOf s)
 unfolding faultsAfter any pathsOf
 has-6 [] last = refl
 has-6 (folder n ps ∷ fs) last =

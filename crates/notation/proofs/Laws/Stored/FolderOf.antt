@@ -9,7 +9,7 @@ use lib.Dec.{eqb, leb}
 use lib.ListN.{length}
 use Rattle.notation.specs.Limits.{maxPaths}
 use Rattle.notation.specs.Layout.{setSize}
-use Rattle.notation.specs.Reads.{folderCount, present, hasFolder, storedNumber, searchFolder, folderOf}
+use Rattle.notation.specs.Reads.{folderCount, present, folderThere, storedNumber, searchFolder, folderOf}
 use Rattle.notation.specs.declared.FolderNumber.{FolderNumber}
 use Rattle.notation.specs.declared.reads.FolderIndex.{FolderIndex}
 use Rattle.text.proofs.Laws.Tests.{cases}
@@ -52,7 +52,7 @@ found part number k (suc left) i e =
 
 -- the folder of a number, where there is one
 pub folder-of-found : (part : List ℕ) (n : FolderNumber) (i : ℕ) → folderOf part n ≡ FolderIndex.At i
-    → (hasFolder part i ≡ true) × (storedNumber part i ≡ n .0) × ((j : ℕ) → j < i → storedNumber part j ≡ n .0 → ⊥)
+    → (folderThere part i ≡ true) × (storedNumber part i ≡ n .0) × ((j : ℕ) → j < i → storedNumber part j ≡ n .0 → ⊥)
 unfolding folderOf present
 folder-of-found part n i e =
     cases (leb setSize (length part))

@@ -1,5 +1,5 @@
 use Rattle.notation.specs.Limits.{maxSetBytes}
-use Rattle.notation.specs.Code.Scan.{refusalOf, ended}
+use Rattle.notation.specs.Code.Scan.{scanRefusal, ended}
 use mathlib.Core.Path.{_∙_, ap}
 use borrow.Author.Tests.{lt-ltb, le-ltb}
 use borrow.Author.Needs.{needs}
@@ -7,7 +7,7 @@ use Rattle.notation.proofs.scan.refusal.Statement.{statement}
 use Rattle.notation.proofs.scan.refusal.Tie as tie
 
 returns : tie.Need-returns
-unfolding refusalOf maxSetBytes
+unfolding scanRefusal maxSetBytes
 returns c = rw (lt-ltb _ _ (c .if1 .taken))
 
 run-requires : tie.Need-run-requires
@@ -17,7 +17,7 @@ verdict-requires : tie.Need-verdict-requires
 verdict-requires c κs = search needs
 
 returns-2 : tie.Need-returns-2
-unfolding refusalOf maxSetBytes
+unfolding scanRefusal maxSetBytes
 returns-2 c = rw (le-ltb _ _ (c .before .before .if1 .left)) (c .verdict .ensures ∙ ap ended (c .before .run .ensures))
 
 pub refusal-spec : {M : Type 1} → statement M

@@ -5,6 +5,7 @@ use mathlib.Core.List.{List}
 use lib.ListN.{length}
 use lib.Seq.{sets}
 use borrow.Author.Tests.{lt-ltb, le-ltb}
+use Rattle.text.specs.Refusals.{numberOf, shortBuffer}
 use Rattle.notation.specs.Reads.{textOf}
 use Rattle.text.specs.Order.{first, given}
 use Rattle.notation.specs.WriteText.{WriteText}
@@ -13,7 +14,7 @@ use borrow.Author.Needs.{needs}
 use Rattle.notation.proofs.write.write_text.Statement.{statement}
 use Rattle.notation.proofs.write.write_text.Tie as tie
 
-short : (part before text : List ℕ) → text ≡ textOf part → length before < length text → WriteText part before (Written.Refused 1) before
+short : (part before text : List ℕ) → text ≡ textOf part → length before < length text → WriteText part before (Written.Refused (numberOf shortBuffer)) before
 unfolding given first
 short part before text e h =
     let h' : length before < length (textOf part) = rw e at h in

@@ -13,7 +13,7 @@ use Rattle.notation.proofs.Laws.Stored.Sections.{layout-length}
 use Rattle.notation.proofs.Laws.Refused.Fitting.{Fitting, roomy}
 use Rattle.notation.proofs.Laws.Refused.AcceptedSet.{accepted-fits}
 use Rattle.stored.specs.Automaton.{hashes, automatonSize, allLabels, heads, Link, assembled, automatonOf, allMasks}
-use Rattle.stored.specs.Walkable.{Searchable}
+use Rattle.stored.specs.Usable.{Searchable}
 use Rattle.stored.specs.Code.Fails.{Growing}
 use Rattle.stored.specs.Code.Masks.{withMasks, withStart}
 use Rattle.stored.specs.Code.Passes.{ReadIn, cleared, withChains, withParents, withFails, made}

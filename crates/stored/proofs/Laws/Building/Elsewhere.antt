@@ -12,7 +12,7 @@ use Rattle.notation.specs.Layout.{wordSize, labelCountAt}
 use Rattle.notation.specs.Reads.{word16, labelCount}
 use Rattle.stored.specs.Automaton.{hashes, headsAt, linksAt, linkSize, parentIn, sizeIn, headEntryAt, linkEntryAt}
 use Rattle.stored.specs.Tables.{headAt, nextAt, sizeOf}
-use Rattle.stored.specs.Walkable.{Searchable}
+use Rattle.stored.specs.Usable.{Searchable}
 use Rattle.stored.specs.Code.Parents.{wordStored}
 use Rattle.text.proofs.Laws.Tests.{cases}
 use Rattle.stored.proofs.Laws.Bytes.Beside.{byte-before, byte-behind, word-same}

@@ -24,9 +24,9 @@ use Rattle.notation.proofs.Laws.Stored.ReadPaths.{path-read, path-missing}
 use Rattle.theory.specs.Words.{document, name, Word, labelWords}
 use Rattle.theory.specs.Walk.{followedBy}
 use Rattle.theory.specs.Prefix.{IsPrefix}
-use Rattle.stored.specs.Automaton.{Link, find, allSteps, allLabels, wordsIn, allWords, sameWord, stateIn, stateOf, shortened, heads, nexts, assembled, parentIn, sizeIn, allMasks, linkEntryAt}
+use Rattle.stored.specs.Automaton.{Link, find, allSteps, allLabels, wordsIn, allWords, sameWord, stateAmong, stateOf, shortened, heads, nexts, assembled, parentIn, sizeIn, allMasks, linkEntryAt}
 use Rattle.stored.specs.Tables.{sizeAt, sizeOf, goto}
-use Rattle.stored.specs.Code.Parents.{startsAt, wordStored, labelled, tested, passedBy, passed, parented, outset}
+use Rattle.stored.specs.Code.Parents.{startsAt, wordStored, labelled, tested, passedBy, passed, parented, beforePaths}
 use Rattle.stored.specs.declared.place.Place.{Place}
 use Rattle.text.proofs.Laws.Tests.{cases, clash}
 use Rattle.stored.proofs.Laws.Bytes.Tabulate.{tabulate-length}
@@ -183,7 +183,7 @@ module _ (s : FolderSet) (fit : Fitting s) (ls : List Link) (ms : List ℕ) (f :
       ∙ e
 
   size-here : (l : ℕ) (w : Word) → l ≤ length (allLabels s) → Seen s l w → sizeOf (stage l) (stateOf s w) ≡ length w
-  unfolding sizeOf stateIn
+  unfolding sizeOf stateAmong
   size-here l w h (nothing e) = rw e
   size-here l w h (rooted e) = rw e
   size-here l w h (earlier m k e) =
@@ -273,7 +273,7 @@ module _ (s : FolderSet) (fit : Fitting s) (ls : List Link) (ms : List ℕ) (f :
   after : (i l begun left : ℕ) (w : Word) (a : Axis) (t : Test) (p : Path) (ps : List Path) → Ready s i l begun w (step a t) p ps
       → ((l' : ℕ) (w' : Word) → Here s (i + 1) l' begun w' p ps → parented left (i + 1) (at l' begun w') (stage l') ≡ stage (length (allLabels s)))
       → parented left (i + 1) (tested (isStar t) (at l begun w) (stage l) .place) (tested (isStar t) (at l begun w) (stage l) .bytes) ≡ stage (length (allLabels s))
-  unfolding at labelWords stateIn
+  unfolding at labelWords stateAmong
   after i l begun left w a (label n) p ps r k =
       let e : getD (allWords s) l [] ≡ followedBy w n = rw (r .words) (getD-at (r .done) (followedBy w n) (labelWords (followedBy w n) p ++ wordsIn ps) [] l (r .doneSize)) in
       let h : l < length (allLabels s) =
@@ -312,7 +312,7 @@ module _ (s : FolderSet) (fit : Fitting s) (ls : List Link) (ms : List ℕ) (f :
 
   -- the steps of a path, and then the paths after it
   inside : (p : Path) (ps : List Path) → Claim [] ps → Claim p ps
-  unfolding Claim parented passed at stateIn labelWords
+  unfolding Claim parented passed at stateAmong labelWords
   inside [] ps k i l begun w h = k i l begun w h
   inside (step child t ∷ p) ps k i l begun w h =
       next-step (length (p ++ stepsOf ps)) i (at l begun w) (stage l) false
@@ -327,7 +327,7 @@ module _ (s : FolderSet) (fit : Fitting s) (ls : List Link) (ms : List ℕ) (f :
 
   -- the paths that are left
   outside : (ps : List Path) → Claim [] ps
-  unfolding Claim parented passed at stateIn labelWords stepsOf wordsIn every
+  unfolding Claim parented passed at stateAmong labelWords stepsOf wordsIn every
   outside [] i l begun w h =
       let e : l ≡ length (allLabels s) = omega (arith, words-count s, ap length (h .words), length-append {A = Word} (h .done) [], h .doneSize) in
       ap stage e
@@ -349,11 +349,11 @@ module _ (s : FolderSet) (fit : Fitting s) (ls : List Link) (ms : List ℕ) (f :
 
   -- the whole pass
   pub parented-is : every nonEmpty (pathsOf s) ≡ true
-      → parented (stepCount (assembled s (heads (allLabels s)) ls ms f ++ rest)) 0 outset (assembled s (heads (allLabels s)) ls ms f ++ rest)
+      → parented (stepCount (assembled s (heads (allLabels s)) ls ms f ++ rest)) 0 beforePaths (assembled s (heads (allLabels s)) ls ms f ++ rest)
       ≡ assembled s (heads (allLabels s)) (placed s (allWords s) ls) ms f ++ rest
-  unfolding stage at Claim stateIn labelWords stepsOf
+  unfolding stage at Claim stateAmong labelWords stepsOf
   parented-is overCapacity =
-      let all : parented (length (allSteps s)) 0 outset (stage 0) ≡ stage (length (allLabels s)) = outside (pathsOf s) 0 0 0 [] (record {
+      let all : parented (length (allSteps s)) 0 beforePaths (stage 0) ≡ stage (length (allLabels s)) = outside (pathsOf s) 0 0 0 [] (record {
         front = [];
         steps = refl;
         frontSize = refl;
@@ -367,6 +367,6 @@ module _ (s : FolderSet) (fit : Fitting s) (ls : List Link) (ms : List ℕ) (f :
         seen = nothing refl;
         overCapacity = overCapacity;
       }) in
-      ap (λ (n : ℕ). parented n 0 outset (stage 0)) (step-count s fit (heads (allLabels s)) ls ms f rest)
+      ap (λ (n : ℕ). parented n 0 beforePaths (stage 0)) (step-count s fit (heads (allLabels s)) ls ms f rest)
       ∙ all
       ∙ ap (λ (ks : List Link). assembled s (heads (allLabels s)) ks ms f ++ rest) (ap (upTo s ls) (sym count) ∙ upTo-all s ls counted)

@@ -16,13 +16,13 @@ use Rattle.text.specs.Answers.{Answer, value, said}
 use Rattle.text.proofs.Laws.Said.{said-refused}
 use Rattle.text.proofs.Laws.Numbers.{some-number}
 use Rattle.notation.specs.Fit.{nameAt, Active}
-use Rattle.text.specs.Refusals.{Refusal, numberOf}
+use Rattle.text.specs.Refusals.{Refusal, numberOf, notFound}
 use Rattle.notation.specs.declared.PathPlace.{PathPlace}
 use Rattle.notation.specs.declared.FolderNumber.{FolderNumber}
 use Rattle.theory.specs.Prefix.{prefixOf}
 use Rattle.theory.specs.Walk.{movesOf, walk}
 use Rattle.text.specs.Order.{first, numberIn, given}
-use Rattle.theory.specs.Calls.{asLeft, Call, openCall, closeCall, State, openNames, pathAt, activeStep, refusal, run}
+use Rattle.theory.specs.Calls.{asLeft, Call, openCall, closeCall, State, openNames, pathOfPlace, activeStep, refusal, run}
 use Rattle.theory.specs.History.{stillOpen, FittedAfterOpen, opensOf, SameAnswers}
 use Rattle.theory.specs.Moves.{OpenMoves}
 use Rattle.theory.specs.Folders.{placesOf, folderMatched}
@@ -136,15 +136,15 @@ module _ (s : FolderSet) (a : List ℕ) (m : Means s a) (rest : List ℕ) (calls
           (λ p. let q = within-out k (length (getD (pathsOf s) i [])) (rw p at t) in (ltb-true i (length (pathsOf s)) p, q .0, q .1))
           (λ p. clash (rw p at t) refl)
 
-  active-there : (i k : ℕ) → Active (pathAt s i) k held → StepThere s i k
+  active-there : (i k : ℕ) → Active (pathOfPlace s i) k held → StepThere s i k
   active-there i k x = cases (ltb i (length (pathsOf s))) (λ p. (ltb-true i (length (pathsOf s)) p, x .there .0, x .there .1)) (λ p.
       let e : getD (pathsOf s) i [] ≡ [] = List·getD-eq-default (pathsOf s) [] (ltb-false i (length (pathsOf s)) p) in
       absurd (omega (arith, x .there .0, x .there .1, ap length e)))
 
-  pub step-answers : (place : PathPlace) (k : ℕ) → Answers (StepThere s (place .0) k) (Active (pathAt s (place .0)) k held) (askStep a bytes place k)
+  pub step-answers : (place : PathPlace) (k : ℕ) → Answers (StepThere s (place .0) k) (Active (pathOfPlace s (place .0)) k held) (askStep a bytes place k)
   step-answers place k =
       let i = place .0 in
-      answers-from (StepThere s i k) (Active (pathAt s i) k held) (askStep a bytes place k) (ltb i (length (pathsOf s)) && within 1 (length (getD (pathsOf s) i [])) k) (activeStep s st i k)
+      answers-from (StepThere s i k) (Active (pathOfPlace s i) k held) (askStep a bytes place k) (ltb i (length (pathsOf s)) && within 1 (length (getD (pathsOf s) i [])) k) (activeStep s st i k)
       (ask-step s a m st few rest place k) (step-there i k) (whole s calls .steps i k) (active-there i k)
 
   pub name-answers : (d : ℕ) → 1 ≤ d → d ≤ length held → (askName a bytes d ≡ nameAt held d) × (nameRefusal a bytes d ≡ 0)
@@ -152,7 +152,7 @@ module _ (s : FolderSet) (a : List ℕ) (m : Means s a) (rest : List ℕ) (calls
       let w : within 1 (length (openNames st)) d ≡ true = within-in d (length (openNames st)) lo (omega (arith, ap length counted)) in
       (ask-name s a m st few rest d ∙ rw w (ap (λ (l : List Name). nameAt l d) counted), ask-name-refused s a m st few rest d ∙ rw w)
 
-  pub no-name-answers : (d : ℕ) → ((1 ≤ d) × (d ≤ length held) → ⊥) → (askName a bytes d ≡ []) × (nameRefusal a bytes d ≡ 13)
+  pub no-name-answers : (d : ℕ) → ((1 ≤ d) × (d ≤ length held) → ⊥) → (askName a bytes d ≡ []) × (nameRefusal a bytes d ≡ numberOf notFound)
   no-name-answers d h =
       let w : within 1 (length (openNames st)) d ≡ false = within-not d (length (openNames st)) (λ p. h (p .0, omega (arith, ap length counted, p .1))) in
       (ask-name s a m st few rest d ∙ rw w, ask-name-refused s a m st few rest d ∙ rw w)

@@ -19,7 +19,7 @@ use Rattle.notation.proofs.Laws.Stored.PathTable.{stepsBefore}
 use Rattle.notation.proofs.Laws.Stored.LabelTable.{noStep}
 use Rattle.stored.specs.Automaton.{allSteps, allLabels, Role, role, roles, rolesIn, roleAt}
 use Rattle.stored.specs.Chain.{chainLabels}
-use Rattle.stored.specs.Compiled.{placesOf, Compiled}
+use Rattle.stored.specs.Compiled.{labelPlaces, Compiled}
 use Rattle.text.proofs.Laws.Tests.{cases, clash}
 use Rattle.text.proofs.Laws.Lists.{any-is, is-any}
 use Rattle.theory.proofs.Laws.Keywords.Words.{same-name, name-same}
@@ -35,8 +35,8 @@ abbrev pub isLabelRole : Name → Role → Bool
 isLabelRole e (role s first last) = isLabel e (testOf s)
 
 -- membership in the places of a name
-named-in : (e : Name) (j : ℕ) (names : List Name) (l : ℕ) → l < length names → sameName (getD names l []) e ≡ true → List·Memᴰ (j + l) (placesOf e j names)
-unfolding placesOf
+named-in : (e : Name) (j : ℕ) (names : List Name) (l : ℕ) → l < length names → sameName (getD names l []) e ≡ true → List·Memᴰ (j + l) (labelPlaces e j names)
+unfolding labelPlaces
 named-in e j [] l h t = absurd (not-suc-le-zero h)
 named-in e j (n ∷ names) zero h t =
     let z : j + 0 ≡ j = omega arith in
@@ -45,8 +45,8 @@ named-in e j (n ∷ names) (suc l) h t =
     let z : j + suc l ≡ suc j + l = omega arith in
     rw z (Memᴰ·append-right (cond (sameName n e) (j ∷ []) []) (named-in e (suc j) names l (le-of-suc-le-suc h) t))
 
-in-named : (e : Name) (j : ℕ) (names : List Name) (x : ℕ) → List·Memᴰ x (placesOf e j names) → (l : ℕ) × (l < length names) × (x ≡ j + l) × (sameName (getD names l []) e ≡ true)
-unfolding placesOf
+in-named : (e : Name) (j : ℕ) (names : List Name) (x : ℕ) → List·Memᴰ x (labelPlaces e j names) → (l : ℕ) × (l < length names) × (x ≡ j + l) × (sameName (getD names l []) e ≡ true)
+unfolding labelPlaces
 in-named e j [] x p = absurd (List·Memᴰ·not-nil p)
 in-named e j (n ∷ names) x p = go (λ q. in-named e (suc j) names x q) (List·Memᴰ·append-cases (cond (sameName n e) (j ∷ []) []) p)
   where
@@ -54,8 +54,8 @@ in-named e j (n ∷ names) x p = go (λ q. in-named e (suc j) names x q) (List·
     first true t q = (0, omega arith, omega (arith, List·Memᴰ·eq-of-singleton q), t)
     first false t q = absurd (List·Memᴰ·not-nil q)
 
-    go : (List·Memᴰ x (placesOf e (suc j) names) → (l : ℕ) × (l < length names) × (x ≡ suc j + l) × (sameName (getD names l []) e ≡ true))
-        → List·Memᴰ x (cond (sameName n e) (j ∷ []) []) ⊎ List·Memᴰ x (placesOf e (suc j) names)
+    go : (List·Memᴰ x (labelPlaces e (suc j) names) → (l : ℕ) × (l < length names) × (x ≡ suc j + l) × (sameName (getD names l []) e ≡ true))
+        → List·Memᴰ x (cond (sameName n e) (j ∷ []) []) ⊎ List·Memᴰ x (labelPlaces e (suc j) names)
         → (l : ℕ) × (l < length (n ∷ names)) × (x ≡ j + l) × (sameName (getD (n ∷ names) l []) e ≡ true)
     go f (inl q) = first (sameName n e) refl q
     go f (inr q) = let r = f q in (suc (r .0), omega (arith, r .1), omega (arith, r .2), r .3)
@@ -114,11 +114,11 @@ module _ (s : FolderSet) (a : List ℕ) (c : Compiled s a) where
   pub label-bits : (e : Name) (i : ℕ) → any (λ l. eqb (labelStep a l) i) (chainLabels a e) ≡ roleAt (isLabelRole e) (roles s) i
   label-bits e i =
       rw (c .chain e)
-      (same-test (any (λ l. eqb (labelStep a l) i) (placesOf e 0 (allLabels s))) (roleAt (isLabelRole e) (roles s) i) there' back)
+      (same-test (any (λ l. eqb (labelStep a l) i) (labelPlaces e 0 (allLabels s))) (roleAt (isLabelRole e) (roles s) i) there' back)
     where
-      there' : any (λ l. eqb (labelStep a l) i) (placesOf e 0 (allLabels s)) ≡ true → roleAt (isLabelRole e) (roles s) i ≡ true
+      there' : any (λ l. eqb (labelStep a l) i) (labelPlaces e 0 (allLabels s)) ≡ true → roleAt (isLabelRole e) (roles s) i ≡ true
       there' t =
-          let r = any-is (λ l. eqb (labelStep a l) i) (placesOf e 0 (allLabels s)) t in
+          let r = any-is (λ l. eqb (labelStep a l) i) (labelPlaces e 0 (allLabels s)) t in
           let q = in-named e 0 (allLabels s) (r .0) (r .1) in
           let l = q .0 in
           let is : r .0 ≡ l = omega (arith, q .2) in
@@ -126,7 +126,7 @@ module _ (s : FolderSet) (a : List ℕ) (c : Compiled s a) where
           let at : labelStep a l ≡ i = ap (λ (n : ℕ). labelStep a n) (sym is) ∙ eqb-true (labelStep a (r .0)) i (r .2) in
           rw (← at) (role-step e (pathsOf s) (labelStep a l) (x .below) ∙ rw (x .test) (q .3))
 
-      inside : i < length ss → roleAt (isLabelRole e) (roles s) i ≡ true → any (λ l. eqb (labelStep a l) i) (placesOf e 0 (allLabels s)) ≡ true
+      inside : i < length ss → roleAt (isLabelRole e) (roles s) i ≡ true → any (λ l. eqb (labelStep a l) i) (labelPlaces e 0 (allLabels s)) ≡ true
       inside h t =
           let y = is-label e (testOf (getD ss i noStep)) (sym (role-step e (pathsOf s) i h) ∙ t) in
           let l = length (labelsOf (take i ss)) in
@@ -134,8 +134,8 @@ module _ (s : FolderSet) (a : List ℕ) (c : Compiled s a) where
           let x = c .owner l (z .0) in
           let at : labelStep a l ≡ i = label-one ss (labelStep a l) i (getD (allLabels s) l []) (y .0) (x .below) h (x .test) (y .1) (x .nth) in
           let n : getD (allLabels s) l [] ≡ e = z .1 ∙ y .2 in
-          is-any (λ l. eqb (labelStep a l) i) (placesOf e 0 (allLabels s)) (named-in e 0 (allLabels s) l (z .0) (rw n (name-same e)))
+          is-any (λ l. eqb (labelStep a l) i) (labelPlaces e 0 (allLabels s)) (named-in e 0 (allLabels s) l (z .0) (rw n (name-same e)))
           (rw (zero-add l) (eq-eqb (labelStep a l) i at))
 
-      back : roleAt (isLabelRole e) (roles s) i ≡ true → any (λ l. eqb (labelStep a l) i) (placesOf e 0 (allLabels s)) ≡ true
+      back : roleAt (isLabelRole e) (roles s) i ≡ true → any (λ l. eqb (labelStep a l) i) (labelPlaces e 0 (allLabels s)) ≡ true
       back t = cases (ltb i (length ss)) (λ h. inside (ltb-true i (length ss) h) t) (λ h. clash t (role-past (isLabelRole e) (pathsOf s) i (ltb-false i (length ss) h)))

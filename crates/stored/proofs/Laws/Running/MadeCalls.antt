@@ -5,6 +5,7 @@ use mathlib.Core.Bool.{Bool, true, false, cond}
 use mathlib.Core.List.{List, [], _∷_, _++_}
 use native.Mathlib.Omega.{arith}
 use lib.Dec.{eqb}
+use Rattle.text.specs.Refusals.{numberOf, shortBuffer}
 use Rattle.text.specs.Names.{Name}
 use Rattle.text.specs.Answers.{said, numberSaid}
 use Rattle.text.proofs.Laws.Said.{said-number}
@@ -104,11 +105,11 @@ closes-so a t e =
 abbrev nothing : Left
 nothing = record { bytes = []; counters = noCounters }
 
-short-open : (e : Name) → openRefusal [] [] noCounters e ≡ 1
+short-open : (e : Name) → openRefusal [] [] noCounters e ≡ numberOf shortBuffer
 unfolding openRefusal given first automatonSize
 short-open e = refl
 
-short-close : (e : Name) → closeRefusal [] [] noCounters e ≡ 1
+short-close : (e : Name) → closeRefusal [] [] noCounters e ≡ numberOf shortBuffer
 unfolding closeRefusal given first automatonSize
 short-close e = refl
 

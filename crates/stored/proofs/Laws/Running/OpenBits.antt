@@ -13,7 +13,7 @@ use Rattle.text.specs.Names.{Name}
 use Rattle.notation.specs.Sets.{Axis, child, descendant, Test, label, star, Path, FolderSet, axisOf, testOf}
 use Rattle.notation.specs.Form.{pathsOf, stepsOf}
 use Rattle.notation.specs.Reads.{isDescendant, isStar}
-use Rattle.notation.specs.Fit.{stepAt}
+use Rattle.notation.specs.Fit.{nthStep}
 use Rattle.notation.specs.Activity.{takes, byAxis, allowed, here, isEmpty, active, seen, fits}
 use Rattle.notation.proofs.Laws.Meaning.Innermost.{active-more, seen-more}
 use Rattle.notation.proofs.Laws.Stored.PathTable.{stepsBefore}
@@ -48,9 +48,9 @@ later-axis descendant false x false = refl
 
 permits-allowed : (p : Path) (root : Bool) (below above : ℕ → Bool) (x y : Bool) (k : ℕ) → ((j : ℕ) → k ≡ suc j → x ≡ below (suc j)) → ((j : ℕ) → k ≡ suc j → y ≡ above (suc j))
     → permits (roleOf p k) root x y ≡ allowed p root below above k
-permits-allowed p root below above x y zero f g = first-axis (axisOf (stepAt p 1)) root
+permits-allowed p root below above x y zero f g = first-axis (axisOf (nthStep p 1)) root
 permits-allowed p root below above x y (suc j) f g =
-    rw (ne-eqb (suc j) 0 (λ e. omega arith), f j refl, g j refl) (later-axis (axisOf (stepAt p (suc (suc j)))) root (below (suc j)) (above (suc j)))
+    rw (ne-eqb (suc j) 0 (λ e. omega arith), f j refl, g j refl) (later-axis (axisOf (nthStep p (suc (suc j)))) root (below (suc j)) (above (suc j)))
 
 takes-is : (t : Test) (e : Name) → (isStar t || isLabel e t) ≡ takes t e
 takes-is (label n) e = refl

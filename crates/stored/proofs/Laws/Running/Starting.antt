@@ -18,7 +18,7 @@ use Rattle.notation.proofs.Laws.Fill.Padded.{sets-front, padded-none}
 use Rattle.notation.proofs.Laws.Meaning.Innermost.{active-none, seen-none}
 use Rattle.theory.specs.Words.{document, begins}
 use Rattle.theory.specs.Prefix.{longestEnd, prefixOf}
-use Rattle.stored.specs.Automaton.{maskSize, stateIn, stateOf, startState, bitBytes}
+use Rattle.stored.specs.Automaton.{maskSize, stateAmong, stateOf, startState, bitBytes}
 use Rattle.theory.specs.Calls.{fresh}
 use Rattle.stored.specs.Tables.{startOf}
 use Rattle.stored.specs.Run.{matchesAt, rowsAt, nameIn, activeIn, seenIn, rowSize, rowAt, runSize, stepBit, matchBit, activeBits, seenBits, rowOf, rowsFrom, runWith, runOf}
@@ -55,7 +55,7 @@ no-bits f n h = bits-same f (λ i. false) n (λ i k. h i) ∙ bits-none n
 
 -- the state of nothing open
 start-state : (s : FolderSet) → stateOf s (prefixOf s []) ≡ startState s
-unfolding prefixOf longestEnd stateIn
+unfolding prefixOf longestEnd stateAmong
 start-state s = cases (begins s (document ∷ [])) (λ t. rw t) (λ t. rw t)
 
 gather : (two bits head state tail : List ℕ) → two ++ (bits ++ (((head ++ state) ++ (bits ++ bits)) ++ (tail ++ []))) ≡ (two ++ (bits ++ head)) ++ (state ++ (bits ++ (bits ++ tail)))

@@ -20,7 +20,7 @@ use Rattle.stored.specs.Shape.{automatonShaped}
 use Rattle.stored.specs.Run.{rowAt, rowsAt, rowSize, runSize, stateIn}
 use Rattle.stored.specs.RunCalls.{depthOf, storedName, runShaped, countersShaped, shaped, tooShort, lentConditions, nameConditions, openOthers, closeOthers, rootClosed, startRefusal, openRefusal, closeRefusal, startRun}
 use Rattle.stored.specs.Asking.{askRefusal}
-use Rattle.stored.specs.Openable.{Ready, Usable}
+use Rattle.stored.specs.Usable.{Ready, Usable}
 use Rattle.stored.specs.declared.counters.Counters.{Counters}
 use Rattle.text.proofs.Laws.Tests.{both, neither}
 use Rattle.text.proofs.Laws.Order.{not-given, given-first, given-then}

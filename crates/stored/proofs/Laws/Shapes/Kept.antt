@@ -23,7 +23,7 @@ use Rattle.stored.specs.Tables.{startOf}
 use Rattle.stored.specs.Shape.{automatonShaped}
 use Rattle.stored.specs.Run.{matchesAt, rowsAt, nameIn, stateIn, activeIn, seenIn, rowSize, rowAt, runSize, depthAt}
 use Rattle.stored.specs.RunCalls.{depthOf, nameLength, stateAt, rowShaped, runShaped, countersShaped, startRefusal, openRefusal, closeRefusal, startRun, noCounters, usedBytes, usedBits, nowActive, nowSeen, nowMatched, openWalk, stepBits, rowOpened, withRow, openRun, openCounters, closeRun, closeCounters}
-use Rattle.stored.specs.Openable.{Ready, Usable}
+use Rattle.stored.specs.Usable.{Ready, Usable}
 use Rattle.stored.specs.declared.counters.Counters.{Counters}
 use Rattle.text.proofs.Laws.Tests.{cases, both, both-true}
 use Rattle.stored.proofs.Laws.Bytes.AllBelow.{is-all}

@@ -15,7 +15,7 @@ use Rattle.notation.specs.Reads.{textLen, folderCount, pathCount, stepCount, la
 use Rattle.stored.specs.Automaton.{hashes}
 use Rattle.stored.specs.Tables.{headAt, nextAt, parentAt, failAt, sizeAt, startOf, sizeOf}
 use Rattle.stored.specs.Shape.{allBelow, countsShaped, folderShaped, pathShaped, stepShaped, labelShaped, headShaped, linkShaped, automatonShaped}
-use Rattle.stored.specs.Walkable.{Walkable}
+use Rattle.stored.specs.Usable.{Walkable}
 use Rattle.text.proofs.Laws.Tests.{both, both-true, either, either-right}
 use Rattle.stored.proofs.Laws.Bytes.AllBelow.{all-at, is-all}
 

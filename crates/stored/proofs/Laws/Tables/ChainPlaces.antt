@@ -14,7 +14,7 @@ use Rattle.notation.specs.Reads.{labelName}
 use Rattle.stored.specs.Automaton.{hash, find, allLabels, hasHash}
 use Rattle.stored.specs.Tables.{nextAt}
 use Rattle.stored.specs.Chain.{chainFrom, chainLabels}
-use Rattle.stored.specs.Compiled.{placesOf}
+use Rattle.stored.specs.Compiled.{labelPlaces}
 use Rattle.text.proofs.Laws.Tests.{cases, clash}
 use Rattle.theory.proofs.Laws.Keywords.Words.{same-name}
 use Rattle.stored.proofs.Laws.Bytes.Finding.{find-here, find-later, find-empty}
@@ -29,12 +29,12 @@ chain-on : (more : ℕ) (a : List ℕ) (e : Name) (l : ℕ) → chainFrom (suc m
 unfolding chainFrom
 chain-on more a e l = refl
 
-places-end : (e : Name) (k : ℕ) → placesOf e k [] ≡ []
-unfolding placesOf
+places-end : (e : Name) (k : ℕ) → labelPlaces e k [] ≡ []
+unfolding labelPlaces
 places-end e k = refl
 
-places-on : (e : Name) (k : ℕ) (n : Name) (names : List Name) → placesOf e k (n ∷ names) ≡ cond (sameName n e) (k ∷ []) [] ++ placesOf e (suc k) names
-unfolding placesOf
+places-on : (e : Name) (k : ℕ) (n : Name) (names : List Name) → labelPlaces e k (n ∷ names) ≡ cond (sameName n e) (k ∷ []) [] ++ labelPlaces e (suc k) names
+unfolding labelPlaces
 places-on e k n names = refl
 
 module _ (s : FolderSet) (a : List ℕ) (c : Chained s a) (e : Name) where
@@ -42,7 +42,7 @@ module _ (s : FolderSet) (a : List ℕ) (c : Chained s a) (e : Name) where
   other-name n h = cases (sameName n e) (λ t. clash (eq-eqb (hash n) (hash e) (ap hash (same-name n e t))) h) (λ t. t)
 
   along : (left j more : ℕ) → j + left ≡ length (allLabels s) → left ≤ more
-      → chainFrom more a e (find (hasHash (hash e)) (suc j) (drop j (allLabels s))) ≡ placesOf e j (drop j (allLabels s))
+      → chainFrom more a e (find (hasHash (hash e)) (suc j) (drop j (allLabels s))) ≡ labelPlaces e j (drop j (allLabels s))
   along zero j more size room =
       rw (past-end (allLabels s) j (omega arith), find-empty (hasHash (hash e)) (suc j)) (chain-end more a e ∙ sym (places-end e j))
   along (suc left) j zero size room = absurd (omega arith)
@@ -51,9 +51,9 @@ module _ (s : FolderSet) (a : List ℕ) (c : Chained s a) (e : Name) where
       rw (drop-cons (allLabels s) j [] h, places-on e j (getD (allLabels s) j []) (drop (suc j) (allLabels s)))
       (cases (hasHash (hash e) (getD (allLabels s) j [])) (hit h (along left (suc j) more (omega arith) (omega arith))) (miss (along left (suc j) (suc more) (omega arith) (omega arith))))
     where
-      hit : j < length (allLabels s) → chainFrom more a e (find (hasHash (hash e)) (suc (suc j)) (drop (suc j) (allLabels s))) ≡ placesOf e (suc j) (drop (suc j) (allLabels s))
+      hit : j < length (allLabels s) → chainFrom more a e (find (hasHash (hash e)) (suc (suc j)) (drop (suc j) (allLabels s))) ≡ labelPlaces e (suc j) (drop (suc j) (allLabels s))
           → hasHash (hash e) (getD (allLabels s) j []) ≡ true
-          → chainFrom (suc more) a e (find (hasHash (hash e)) (suc j) (getD (allLabels s) j [] ∷ drop (suc j) (allLabels s))) ≡ cond (sameName (getD (allLabels s) j []) e) (j ∷ []) [] ++ placesOf e (suc j) (drop (suc j) (allLabels s))
+          → chainFrom (suc more) a e (find (hasHash (hash e)) (suc j) (getD (allLabels s) j [] ∷ drop (suc j) (allLabels s))) ≡ cond (sameName (getD (allLabels s) j []) e) (j ∷ []) [] ++ labelPlaces e (suc j) (drop (suc j) (allLabels s))
       hit h ih k =
           let z : 0 + j ≡ j = omega arith in
           let next : nextAt a j ≡ find (hasHash (hash e)) (suc (suc j)) (drop (suc j) (allLabels s)) =
@@ -62,12 +62,12 @@ module _ (s : FolderSet) (a : List ℕ) (c : Chained s a) (e : Name) where
           (chain-on more a e j
           ∙ ap₂ (λ (n : Name) (rest : List ℕ). cond (sameName n e) (j ∷ []) [] ++ rest) (c .label j h) (ap (chainFrom more a e) next ∙ ih))
 
-      miss : chainFrom (suc more) a e (find (hasHash (hash e)) (suc (suc j)) (drop (suc j) (allLabels s))) ≡ placesOf e (suc j) (drop (suc j) (allLabels s))
+      miss : chainFrom (suc more) a e (find (hasHash (hash e)) (suc (suc j)) (drop (suc j) (allLabels s))) ≡ labelPlaces e (suc j) (drop (suc j) (allLabels s))
           → hasHash (hash e) (getD (allLabels s) j []) ≡ false
-          → chainFrom (suc more) a e (find (hasHash (hash e)) (suc j) (getD (allLabels s) j [] ∷ drop (suc j) (allLabels s))) ≡ cond (sameName (getD (allLabels s) j []) e) (j ∷ []) [] ++ placesOf e (suc j) (drop (suc j) (allLabels s))
+          → chainFrom (suc more) a e (find (hasHash (hash e)) (suc j) (getD (allLabels s) j [] ∷ drop (suc j) (allLabels s))) ≡ cond (sameName (getD (allLabels s) j []) e) (j ∷ []) [] ++ labelPlaces e (suc j) (drop (suc j) (allLabels s))
       miss ih k =
           rw (find-later (hasHash (hash e)) (suc j) (getD (allLabels s) j []) (drop (suc j) (allLabels s)) k, other-name (getD (allLabels s) j []) k) ih
 
-  pub chain-places : chainLabels a e ≡ placesOf e 0 (allLabels s)
+  pub chain-places : chainLabels a e ≡ labelPlaces e 0 (allLabels s)
   unfolding chainLabels
   chain-places = rw (c .head (hash e) (hash-small e)) (along (length (allLabels s)) 0 maxLabels (omega arith) (c .few))

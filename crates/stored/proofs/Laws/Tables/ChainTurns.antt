@@ -13,8 +13,7 @@ use Rattle.stored.specs.Automaton.{automatonSize}
 use Rattle.stored.specs.Tables.{nextAt}
 use Rattle.stored.specs.Chain.{ownLabel, chainFrom}
 use Rattle.stored.specs.Shape.{automatonShaped}
-use Rattle.stored.specs.Walkable.{Searchable}
-use Rattle.stored.specs.Openable.{Openable}
+use Rattle.stored.specs.Usable.{Searchable, Openable}
 use Rattle.stored.proofs.Laws.Shapes.Shaped.{shaped-is, shaped-walkable}
 
 pub openable : (a : List ℕ) → automatonShaped a ≡ true → automatonSize ≤ length a → Openable a

@@ -12,7 +12,7 @@ use Rattle.notation.specs.Limits.{maxSteps, maxLabels}
 use Rattle.notation.specs.Reads.{labelCount}
 use Rattle.stored.specs.Automaton.{hash}
 use Rattle.stored.specs.Tables.{headAt, nextAt, sizeOf, failOf, follows, gotoFrom, goto, oneMore, walkFrom, walkOver}
-use Rattle.stored.specs.Walkable.{Searchable, Falling, Walkable}
+use Rattle.stored.specs.Usable.{Searchable, Falling, Walkable}
 use Rattle.stored.specs.declared.walk.Walk.{Walk}
 use Rattle.text.proofs.Laws.Tests.{cases}
 use Rattle.stored.proofs.Laws.Tables.Goto.{hash-small, goto-end}

@@ -16,9 +16,9 @@ use Rattle.text.specs.Lists.{nonEmpty, every}
 use Rattle.notation.specs.Reads.{stepCount, labelCount}
 use Rattle.notation.proofs.Laws.Refused.Fitting.{Fitting}
 use Rattle.stored.specs.Automaton.{hashes, allLabels, allWords, heads, nexts, Link, link, assembled, allMasks}
-use Rattle.stored.specs.Walkable.{Searchable}
+use Rattle.stored.specs.Usable.{Searchable}
 use Rattle.stored.specs.Code.Chains.{chained}
-use Rattle.stored.specs.Code.Parents.{parented, outset}
+use Rattle.stored.specs.Code.Parents.{parented, beforePaths}
 use Rattle.stored.proofs.Laws.Bytes.Tabulate.{tabulate-length}
 use Rattle.stored.proofs.Laws.Tables.Assembled.{withNext, noLink, Sized}
 use Rattle.stored.proofs.Laws.Tables.SetReads.{label-count}
@@ -100,7 +100,7 @@ module _ (s : FolderSet) (fit : Fitting s) (ms : List ℕ) (f : ℕ) (rest : Lis
 
   -- the parents and lengths
   pub parents-made : every nonEmpty (pathsOf s) ≡ true
-      → parented (stepCount (assembled s (heads (allLabels s)) (chainLinks s) ms f ++ rest)) 0 outset (assembled s (heads (allLabels s)) (chainLinks s) ms f ++ rest)
+      → parented (stepCount (assembled s (heads (allLabels s)) (chainLinks s) ms f ++ rest)) 0 beforePaths (assembled s (heads (allLabels s)) (chainLinks s) ms f ++ rest)
       ≡ assembled s (heads (allLabels s)) (wordLinks s) ms f ++ rest
   unfolding wordLinks
   parents-made overCapacity = parented-is s fit (chainLinks s) ms f rest (chain-count s) masks (chain-next s) overCapacity

@@ -8,7 +8,7 @@ use Rattle.text.specs.Names.{Name}
 use Rattle.notation.specs.Sets.{FolderSet}
 use Rattle.notation.specs.Reads.{labelCount}
 use Rattle.stored.specs.Automaton.{hash, hasHash, headOf, allLabels, nexts}
-use Rattle.stored.specs.Walkable.{Searchable}
+use Rattle.stored.specs.Usable.{Searchable}
 use Rattle.stored.proofs.Laws.Bytes.Finding.{Ranged, nowhere, somewhere, find-range}
 use Rattle.stored.proofs.Laws.Tables.Goto.{Chained, next-at}
 

@@ -13,7 +13,7 @@ use Rattle.notation.proofs.Laws.Scan.TableSizes.{labels-append}
 use Rattle.theory.specs.Words.{document, name, Word, sameSymbol, before, labelWords, Begins, begins}
 use Rattle.theory.specs.Prefix.{IsPrefix}
 use Rattle.theory.specs.Walk.{followedBy}
-use Rattle.stored.specs.Automaton.{find, allLabels, wordsIn, allWords, sameWord, stateIn, stateOf, shortened}
+use Rattle.stored.specs.Automaton.{find, allLabels, wordsIn, allWords, sameWord, stateAmong, stateOf, shortened}
 use Rattle.text.proofs.Laws.Tests.{both, both-true, cases, clash}
 use Rattle.theory.proofs.Laws.Keywords.Words.{same-symbol, symbol-same, begins-is, is-begins, begins-shorter}
 use Rattle.theory.proofs.Laws.Keywords.Labels.{LabelWord, begins-label, Kind, empty, root, labelled, begins-kind}
@@ -135,8 +135,8 @@ module _ (s : FolderSet) (l : ℕ) (h : l < length (allLabels s)) where
       rw (e .1, shortened-followed (e .0) (getD (allLabels s) l [])) (inl (begins-is s (e .0) (begins-shorter s (e .0) (name (getD (allLabels s) l []) ∷ []) (is-begins s _ b))))
 
 -- the state of a word that ends with a name
-pub state-followed : (words : List Word) (w : Word) (e : Name) → stateIn words (followedBy w e) ≡ find (sameWord (followedBy w e)) 2 words
-unfolding stateIn
+pub state-followed : (words : List Word) (w : Word) (e : Name) → stateAmong words (followedBy w e) ≡ find (sameWord (followedBy w e)) 2 words
+unfolding stateAmong
 state-followed words [] e = refl
 state-followed words (document ∷ []) e = refl
 state-followed words (document ∷ s ∷ w) e = refl
@@ -169,11 +169,11 @@ label-state s u l =
     found u v n e = rw e (state-followed (allWords s) v n)
 
 pub state-empty : (s : FolderSet) (u : Word) → u ≡ [] → stateOf s u ≡ 0
-unfolding stateIn
+unfolding stateAmong
 state-empty s u e = rw e
 
 pub state-root : (s : FolderSet) (u : Word) → u ≡ document ∷ [] → stateOf s u ≡ 1
-unfolding stateIn
+unfolding stateAmong
 state-root s u e = rw e
 
 pub state-kind : (s : FolderSet) (u : Word) → IsPrefix s u → StateKind s u

@@ -13,7 +13,7 @@ use Rattle.notation.specs.Sets.{FolderSet}
 use Rattle.theory.specs.Words.{Word, begins}
 use Rattle.theory.specs.Prefix.{IsPrefix, longestEnd, failure}
 use Rattle.theory.specs.Walk.{followedBy, Walked, walked, counted, stuck, arrive, walkIn, walk}
-use Rattle.stored.specs.Automaton.{allLabels, allWords, stateIn, stateOf}
+use Rattle.stored.specs.Automaton.{allLabels, allWords, stateAmong, stateOf}
 use Rattle.stored.specs.Tables.{failAt, sizeOf, failOf, goto, oneMore, walkFrom, walkOver}
 use Rattle.stored.specs.Compiled.{storedWalk}
 use Rattle.stored.specs.declared.walk.Walk.{Walk}
@@ -37,7 +37,7 @@ stored-more s (walked m v) = ap (λ (k : ℕ). record { moves = k; state = state
 
 -- the failure move from the state of a word
 pub fail-word : (s : FolderSet) (a : List ℕ) (w : Word) → IsPrefix s w → FailsTo s a (length w) → failOf a (stateOf s w) ≡ stateOf s (failure s w)
-unfolding failOf failure longestEnd stateIn
+unfolding failOf failure longestEnd stateAmong
 fail-word s a w p fails = go (state-kind s w p)
   where
     go : StateKind s w → failOf a (stateOf s w) ≡ stateOf s (failure s w)

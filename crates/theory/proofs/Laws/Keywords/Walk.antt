@@ -9,13 +9,13 @@ use Rattle.text.specs.Names.{Name}
 use Rattle.notation.specs.Sets.{FolderSet}
 use Rattle.theory.specs.Words.{Symbol, document, name, Word, Begins, begins}
 use Rattle.theory.specs.Prefix.{wordOf, LongestProperEnd, longestEnd, prefixOf, failure}
-use Rattle.theory.specs.Walk.{followedBy, Walk, follows, stops, falls, Walked, walked, movesOf, arrivedAt, counted, arrive, walkIn, walk}
+use Rattle.theory.specs.Walk.{followedBy, Walks, follows, stops, falls, Walked, walked, movesOf, arrivedAt, counted, arrive, walkIn, walk}
 use Rattle.text.proofs.Laws.Tests.{cases, clash}
 use Rattle.theory.proofs.Laws.Keywords.Words.{begins-is, is-begins}
 use Rattle.theory.proofs.Laws.Keywords.Prefix.{longest-yes, longest-no, longest-append, failure-is, failure-only, failure-shorter}
 
 abbrev pub IsWalk : FolderSet → Name → Word → Walked → Type 0
-IsWalk set e w r = Walk set e w (movesOf r) (arrivedAt r)
+IsWalk set e w r = Walks set e w (movesOf r) (arrivedAt r)
 
 not-begins : (set : FolderSet) (w : Word) → begins set w ≡ false → Begins set w → ⊥
 not-begins set w h b = clash (is-begins set w b) h
@@ -46,13 +46,13 @@ unfolding walk
 walk-is set w e = walk-in (length w) set w e (omega arith)
 
 -- moves and the new word's length, bar its last symbol, are paid by the old length
-pub walk-paid : {set : FolderSet} {e : Name} {w v : Word} {moves : ℕ} → Walk set e w moves v → moves + pred (length v) ≤ length w
+pub walk-paid : {set : FolderSet} {e : Name} {w v : Word} {moves : ℕ} → Walks set e w moves v → moves + pred (length v) ≤ length w
 walk-paid {e} (follows {w = w} b) = omega (arith, length-append w (name e ∷ []))
 walk-paid (stops f) = omega arith
 walk-paid (falls {s = s} {w = w} f p r) = omega (arith, walk-paid r, p .proper)
 
 -- from a word, the walk ends in the longest end of that word with e
-pub walk-longest : {set : FolderSet} {e : Name} {w v : Word} {moves : ℕ} → Walk set e w moves v → v ≡ longestEnd set (followedBy w e)
+pub walk-longest : {set : FolderSet} {e : Name} {w v : Word} {moves : ℕ} → Walks set e w moves v → v ≡ longestEnd set (followedBy w e)
 unfolding longestEnd failure
 walk-longest {set} {e} (follows {w = []} b) = sym (longest-yes set (name e) [] (is-begins set (followedBy [] e) b))
 walk-longest {set} {e} (follows {w = s ∷ w} b) = sym (longest-yes set s (followedBy w e) (is-begins set (followedBy (s ∷ w) e) b))
@@ -63,7 +63,7 @@ walk-longest {set} {e} (falls {s = s} {w = w} {u = u} f p r) =
     ∙ (longest-append set w (name e ∷ [])
     ∙ sym (longest-no set s (followedBy w e) (no-begins set (followedBy (s ∷ w) e) f))))
 
-walk-in-only : {set : FolderSet} {e : Name} {w v : Word} {moves : ℕ} → Walk set e w moves v → (steps : ℕ) → length w ≤ steps → walkIn steps set w e ≡ walked moves v
+walk-in-only : {set : FolderSet} {e : Name} {w v : Word} {moves : ℕ} → Walks set e w moves v → (steps : ℕ) → length w ≤ steps → walkIn steps set w e ≡ walked moves v
 unfolding walkIn
 walk-in-only {set} {e} (follows {w = []} b) zero l = rw (is-begins set (followedBy [] e) b)
 walk-in-only {set} {e} (follows {w = []} b) (suc k) l = rw (is-begins set (followedBy [] e) b)
@@ -78,7 +78,7 @@ walk-in-only {set} {e} (falls {s = s} {w = w} {u = u} f p r) (suc k) l =
     ∙ ap counted (walk-in-only r k (omega (arith, p .proper))))
 
 -- and the only one
-pub walk-only : {set : FolderSet} {e : Name} {w v : Word} {moves : ℕ} → Walk set e w moves v → walk set w e ≡ walked moves v
+pub walk-only : {set : FolderSet} {e : Name} {w v : Word} {moves : ℕ} → Walks set e w moves v → walk set w e ≡ walked moves v
 unfolding walk
 walk-only {w} r = walk-in-only r (length w) (omega arith)
 

@@ -11,14 +11,14 @@ use Rattle.notation.specs.Sets.{Path, Folder, folder, FolderSet, folderNumber, 
 use Rattle.notation.specs.Form.{pathsFaults, faultsAfter, faults}
 use Rattle.text.specs.Refusals.{Refusal, outOfOrder}
 use Rattle.notation.specs.Fit.{Fits}
-use Rattle.theory.specs.Calls.{asLeft, Call, openCall, openNames, pathAt, run}
+use Rattle.theory.specs.Calls.{asLeft, Call, openCall, openNames, pathOfPlace, run}
 use Rattle.theory.specs.Folders.{placesOf, folderMatched, HasFolders}
 use Rattle.theory.proofs.Laws.Machine.Matches.{run-matched}
 use Rattle.theory.proofs.Laws.Machine.Folders.{folder-matched, PathOf, place-path, path-place}
 use Rattle.theory.proofs.Laws.Machine.Alike.{same-accepted, same-names}
 
 -- a path matched under one set is matched under another that has it, at its place there
-path-matched : (a b : FolderSet) (calls : List Call) (i j : ℕ) → pathAt a i ≡ pathAt b j → run a calls .matched i ≡ true → run b calls .matched j ≡ true
+path-matched : (a b : FolderSet) (calls : List Call) (i j : ℕ) → pathOfPlace a i ≡ pathOfPlace b j → run a calls .matched i ≡ true → run b calls .matched j ≡ true
 path-matched a b calls i j e m =
     let f = run-matched a calls i .0 m in
     run-matched b calls j .1 (record {
@@ -27,15 +27,15 @@ path-matched a b calls i j e m =
       later = f .later;
       joined = f .joined;
       isAccepted = same-accepted b a (f .before) (openCall asLeft (f .name)) ∙ f .isAccepted;
-      fitted = subst (λ (p : Path). Fits p (openNames (run b (f .before ++ (openCall asLeft (f .name) ∷ []))))) e (subst (Fits (pathAt a i)) (same-names a b (f .before ++ (openCall asLeft (f .name) ∷ []))) (f .fitted));
+      fitted = subst (λ (p : Path). Fits p (openNames (run b (f .before ++ (openCall asLeft (f .name) ∷ []))))) e (subst (Fits (pathOfPlace a i)) (same-names a b (f .before ++ (openCall asLeft (f .name) ∷ []))) (f .fitted));
     })
 
 -- a folder whose every path of its number in one set belongs to a folder of that number in the other
 carried : (a b : FolderSet) (number : ℕ) → ((path : Path) → PathOf a number path → PathOf b number path) → (calls : List Call) → folderMatched a (run a calls) number ≡ true → folderMatched b (run b calls) number ≡ true
 carried a b number has calls h =
     let m = folder-matched a (run a calls) number .0 h in
-    let o = has (pathAt a (m .place)) (place-path a number (m .place) (m .ofFolder)) in
-    let q = path-place b (o .owner) (pathAt a (m .place)) (o .inSet) (o .path-in) in
+    let o = has (pathOfPlace a (m .place)) (place-path a number (m .place) (m .ofFolder)) in
+    let q = path-place b (o .owner) (pathOfPlace a (m .place)) (o .inSet) (o .path-in) in
     folder-matched b (run b calls) number .1 (record {
       place = q .place;
       ofFolder = subst (λ (k : ℕ). List·Memᴰ (q .place) (placesOf b k)) (o .numbered) (q .ofFolder);

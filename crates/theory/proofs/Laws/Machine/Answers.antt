@@ -14,7 +14,7 @@ use Rattle.notation.specs.Activity.{active}
 use Rattle.notation.proofs.Laws.Meaning.Fit.{active-is}
 use Rattle.theory.specs.Limits.{maxDepth, maxOpens}
 use Rattle.theory.specs.Prefix.{CurrentPrefix, prefixOf}
-use Rattle.theory.specs.Calls.{asLeft, Call, openCall, State, openNames, depth, pathAt, activeStep, fresh, opened, after, run}
+use Rattle.theory.specs.Calls.{asLeft, Call, openCall, State, openNames, depth, pathOfPlace, activeStep, fresh, opened, after, run}
 use Rattle.theory.specs.History.{stillOpen, opensOf, SameAnswers}
 use Rattle.theory.proofs.Laws.Keywords.Prefix.{current-prefix}
 use Rattle.theory.proofs.Laws.Machine.Calls.{Openable, accepted-open}
@@ -28,10 +28,10 @@ run-current-prefix set calls =
     rw (run-prefix set calls) (subst (λ (names : List Name). CurrentPrefix set names (prefixOf set (openNames (run set calls)))) (run-names-counted set calls) (current-prefix set (openNames (run set calls))))
 
 -- and so are the active steps
-pub run-active : (set : FolderSet) (calls : List Call) (place k : ℕ) → (activeStep set (run set calls) place k ≡ true) ↔ Active (pathAt set place) k (stillOpen set calls)
+pub run-active : (set : FolderSet) (calls : List Call) (place k : ℕ) → (activeStep set (run set calls) place k ≡ true) ↔ Active (pathOfPlace set place) k (stillOpen set calls)
 run-active set calls place k =
-    let e = ap (λ (names : List Name). active (pathAt set place) k names) (run-names-counted set calls) in
-    (λ h. active-is (pathAt set place) k (stillOpen set calls) .1 (sym e ∙ h), λ a. e ∙ active-is (pathAt set place) k (stillOpen set calls) .0 a)
+    let e = ap (λ (names : List Name). active (pathOfPlace set place) k names) (run-names-counted set calls) in
+    (λ h. active-is (pathOfPlace set place) k (stillOpen set calls) .1 (sym e ∙ h), λ a. e ∙ active-is (pathOfPlace set place) k (stillOpen set calls) .0 a)
 
 after-open : (set : FolderSet) (s : State) (n : Name) (calls : List Call) → Openable s n → after set s (openCall asLeft n ∷ calls) ≡ after set (opened set s n) calls
 unfolding after
@@ -72,7 +72,7 @@ pub answers-by-names : (set : FolderSet) (calls others : List Call) → openName
 answers-by-names set calls others e = record {
   names = e;
   prefix = run-prefix set calls ∙ (ap (prefixOf set) e ∙ sym (run-prefix set others));
-  steps = λ place k. ap (λ (names : List Name). active (pathAt set place) k names) e;
+  steps = λ place k. ap (λ (names : List Name). active (pathOfPlace set place) k names) e;
 }
 
 -- so a fresh machine given only the opens of the open names answers the same

@@ -11,7 +11,7 @@ use lib.Seq.{getD-append-add}
 use borrow.Author.Tests.{eqb-true, eq-eqb}
 use Rattle.notation.specs.Sets.{Path, Folder, folder, FolderSet, folderNumber, folderPaths}
 use Rattle.notation.specs.Form.{pathsOf}
-use Rattle.theory.specs.Calls.{State, pathAt}
+use Rattle.theory.specs.Calls.{State, pathOfPlace}
 use Rattle.theory.specs.Folders.{countFrom, placesFrom, placesOf, FolderMatched, folderMatched}
 use Rattle.text.proofs.Laws.Tests.{cases}
 use Rattle.text.proofs.Laws.Lists.{any-is, is-any}
@@ -81,7 +81,7 @@ places-in (folder n ps ∷ fs) front number place m =
         record { owner = r .owner; inSet = List·Memᴰ·tail (r .inSet); numbered = r .numbered; path-in = Memᴰ·cast (ap (λ (l : List Path). getD l place []) (sym (append-assoc front ps (pathsOf fs)))) (r .path-in) }
 
 -- a place of a folder's number holds a path of a folder of that number
-pub place-path : (set : FolderSet) (number place : ℕ) → List·Memᴰ place (placesOf set number) → PathOf set number (pathAt set place)
+pub place-path : (set : FolderSet) (number place : ℕ) → List·Memᴰ place (placesOf set number) → PathOf set number (pathOfPlace set place)
 place-path set number place m = places-in set [] number place m
 
 pub record PlaceOf (set : FolderSet) (first : ℕ) (paths : List Path) (number : ℕ) (path : Path) : Type 0 where

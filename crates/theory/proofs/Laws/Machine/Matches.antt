@@ -13,7 +13,7 @@ use Rattle.notation.specs.Sets.{Path, FolderSet}
 use Rattle.notation.specs.Form.{pathsOf}
 use Rattle.notation.specs.Activity.{fits}
 use Rattle.notation.proofs.Laws.Meaning.Fit.{fits-is}
-use Rattle.theory.specs.Calls.{asLeft, otherwise, Call, openCall, closeCall, Level, level, State, openNames, pathAt, fresh, opened, closedFrom, accepted, done, step, after, run}
+use Rattle.theory.specs.Calls.{asLeft, otherwise, Call, openCall, closeCall, Level, level, State, openNames, pathOfPlace, fresh, opened, closedFrom, accepted, done, step, after, run}
 use Rattle.theory.specs.History.{FittedAfterOpen}
 use Rattle.text.proofs.Laws.Tests.{cases, clash, either, either-left, either-right}
 use Rattle.theory.proofs.Laws.Machine.Calls.{lent-otherwise-open, lent-otherwise-close}
@@ -24,7 +24,7 @@ pub record OpenFits (set : FolderSet) (s : State) (call : Call) (place : ℕ) : 
   pub name : Name
   pub isOpen : call ≡ openCall asLeft name
   pub isAccepted : accepted s call ≡ true
-  pub fitted : fits (pathAt set place) (openNames (step set s call)) ≡ true
+  pub fitted : fits (pathOfPlace set place) (openNames (step set s call)) ≡ true
 
 pub record SomeOpenFits (set : FolderSet) (s : State) (calls : List Call) (place : ℕ) : Type 0 where
   pub before : List Call
@@ -39,7 +39,7 @@ unfolding closedFrom
 closed-matched [] s place = refl
 closed-matched (level n w ∷ outer) s place = refl
 
-opened-matched : (set : FolderSet) (s : State) (e : Name) (place : ℕ) → opened set s e .matched place ≡ (s .matched place || fits (pathAt set place) (openNames (opened set s e)))
+opened-matched : (set : FolderSet) (s : State) (e : Name) (place : ℕ) → opened set s e .matched place ≡ (s .matched place || fits (pathOfPlace set place) (openNames (opened set s e)))
 unfolding opened
 opened-matched set s e place = refl
 
@@ -49,9 +49,9 @@ step-matched set s call place m = cases (accepted s call) (λ a. go call a m) (�
     go : (call : Call) → accepted s call ≡ true → step set s call .matched place ≡ true → (s .matched place ≡ true) ⊎ OpenFits set s call place
     go (openCall asLeft e) a m =
         let e₁ = step-accepted set s (openCall asLeft e) a in
-        elim (either (s .matched place) (fits (pathAt set place) (openNames (opened set s e))) (sym (opened-matched set s e place) ∙ (ap (λ (t : State). t .matched place) (sym e₁) ∙ m))) [
+        elim (either (s .matched place) (fits (pathOfPlace set place) (openNames (opened set s e))) (sym (opened-matched set s e place) ∙ (ap (λ (t : State). t .matched place) (sym e₁) ∙ m))) [
           | inl p ↦ inl p
-          | inr q ↦ inr (record { name = e; isOpen = refl; isAccepted = a; fitted = ap (λ (t : State). fits (pathAt set place) (openNames t)) e₁ ∙ q })
+          | inr q ↦ inr (record { name = e; isOpen = refl; isAccepted = a; fitted = ap (λ (t : State). fits (pathOfPlace set place) (openNames t)) e₁ ∙ q })
         ]
     go (openCall otherwise e) a m = clash a (lent-otherwise-open s e)
     go (closeCall asLeft e) a m = inl (sym (closed-matched (s .levels) s place) ∙ (ap (λ (t : State). t .matched place) (sym (step-accepted set s (closeCall asLeft e) a)) ∙ m))
@@ -62,18 +62,18 @@ step-stays : (set : FolderSet) (s : State) (call : Call) (place : ℕ) → s .ma
 step-stays set s call place m = cases (accepted s call) (λ a. ap (λ (t : State). t .matched place) (step-accepted set s call a) ∙ go call) (λ a. ap (λ (t : State). t .matched place) (step-refused set s call a) ∙ m)
   where
     go : (call : Call) → done set s call .matched place ≡ true
-    go (openCall l e) = opened-matched set s e place ∙ either-left (fits (pathAt set place) (openNames (opened set s e))) m
+    go (openCall l e) = opened-matched set s e place ∙ either-left (fits (pathOfPlace set place) (openNames (opened set s e))) m
     go (closeCall l e) = closed-matched (s .levels) s place ∙ m
 
 fits-matched : (set : FolderSet) (s : State) (call : Call) (place : ℕ) → OpenFits set s call place → step set s call .matched place ≡ true
 fits-matched set s call place o =
     let a : accepted s (openCall asLeft (o .name)) ≡ true = subst (λ (c : Call). accepted s c ≡ true) (o .isOpen) (o .isAccepted) in
-    let q : fits (pathAt set place) (openNames (step set s (openCall asLeft (o .name)))) ≡ true = subst (λ (c : Call). fits (pathAt set place) (openNames (step set s c)) ≡ true) (o .isOpen) (o .fitted) in
+    let q : fits (pathOfPlace set place) (openNames (step set s (openCall asLeft (o .name)))) ≡ true = subst (λ (c : Call). fits (pathOfPlace set place) (openNames (step set s c)) ≡ true) (o .isOpen) (o .fitted) in
     let e₁ = step-accepted set s (openCall asLeft (o .name)) a in
     ap (λ (c : Call). step set s c .matched place) (o .isOpen)
     ∙ (ap (λ (t : State). t .matched place) e₁
     ∙ (opened-matched set s (o .name) place
-    ∙ either-right (s .matched place) (ap (λ (t : State). fits (pathAt set place) (openNames t)) (sym e₁) ∙ q)))
+    ∙ either-right (s .matched place) (ap (λ (t : State). fits (pathOfPlace set place) (openNames t)) (sym e₁) ∙ q)))
 
 pub stays : (set : FolderSet) (calls : List Call) (s : State) (place : ℕ) → s .matched place ≡ true → after set s calls .matched place ≡ true
 unfolding after
@@ -111,7 +111,7 @@ pub run-matched : (set : FolderSet) (calls : List Call) (place : ℕ) → (run s
 run-matched set calls place = (λ m. out (run-matched-open set calls place .0 m), λ f. run-matched-open set calls place .1 (into f))
   where
     path : Path
-    path = pathAt set place
+    path = pathOfPlace set place
 
     out : SomeOpenFits set (fresh set) calls place → FittedAfterOpen set calls place
     out f =
@@ -146,5 +146,5 @@ run-matched set calls place = (λ m. out (run-matched-open set calls place .0 m)
 pub run-matched-there : (set : FolderSet) (calls : List Call) (place : ℕ) → run set calls .matched place ≡ true → place < length (pathsOf set)
 run-matched-there set calls place m = cases (ltb place (length (pathsOf set))) (λ t. ltb-true place (length (pathsOf set)) t) (λ h.
     let f = run-matched set calls place .0 m in
-    let e : pathAt set place ≡ [] = List·getD-eq-default (pathsOf set) [] (ltb-false place (length (pathsOf set)) h) in
+    let e : pathOfPlace set place ≡ [] = List·getD-eq-default (pathsOf set) [] (ltb-false place (length (pathsOf set)) h) in
     absurd (omega (arith, f .fitted .there .0, f .fitted .there .1, ap length e)))

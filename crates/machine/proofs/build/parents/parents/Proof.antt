@@ -6,7 +6,7 @@ use native.Mathlib.Nat.{sub-zero}
 use native.Mathlib.Omega.{arith}
 use borrow.Author.Needs.{needs}
 use lib.ListN.{length}
-use Rattle.stored.specs.Code.Parents.{passed, parented, outset, Sound}
+use Rattle.stored.specs.Code.Parents.{passed, parented, beforePaths, Sound}
 use Rattle.stored.specs.declared.place.Place.{Place}
 use Rattle.machine.proofs.build.parents.parents.Statement.{statement}
 use Rattle.machine.proofs.build.parents.parents.Tie as tie
@@ -21,7 +21,7 @@ unfolding parented
 none-left n i at a h = let z : n - i ≡ 0 = omega arith in rw z
 
 abbrev Inv-loop : tie.InvT-loop
-Inv-loop part₀ n at₀ i₀ part at i = (i ≤ n) × (Sound i at part) × (length part ≡ length part₀) × (parented (n - i) i at part ≡ parented n 0 outset part₀)
+Inv-loop part₀ n at₀ i₀ part at i = (i ≤ n) × (Sound i at part) × (length part ≡ length part₀) × (parented (n - i) i at part ≡ parented n 0 beforePaths part₀)
 
 abbrev μ-loop : tie.MeasureT-loop
 μ-loop part₀ n at₀ i₀ part at i = n - i
@@ -34,7 +34,7 @@ loop-holds c = (
   omega arith,
   record { searchable = c .before .before .before .pre .0; paths = omega arith; state = omega arith },
   refl,
-  ap (λ (n : ℕ). parented n 0 outset (c .before .before .before .args .part .now)) (sub-zero (c .steps .result)),
+  ap (λ (n : ℕ). parented n 0 beforePaths (c .before .before .before .args .part .now)) (sub-zero (c .steps .result)),
 )
 
 pass-step-requires : tie.Need-pass-step-requires Inv-loop μ-loop
@@ -63,7 +63,7 @@ returns : tie.Need-returns Inv-loop μ-loop
 returns c = let l = c .before .loop in
     none-left (c .before .before .steps .result) (l .i) (l .at) (l .part) (omega arith)
     ∙ l .inv .3
-    ∙ ap (λ (n : ℕ). parented n 0 outset (c .before .before .before .before .before .args .part .now)) (c .before .before .steps .ensures .0)
+    ∙ ap (λ (n : ℕ). parented n 0 beforePaths (c .before .before .before .before .before .args .part .now)) (c .before .before .steps .ensures .0)
 
 pub parents-spec : {M : Type 1} → statement M
 parents-spec =

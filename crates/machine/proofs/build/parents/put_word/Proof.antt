@@ -7,7 +7,7 @@ use borrow.Author.Tests.{lt-ltb, le-ltb}
 use Rattle.notation.specs.Limits.{maxLabels}
 use Rattle.notation.specs.Reads.{labelName, labelCount}
 use Rattle.stored.specs.Tables.{goto}
-use Rattle.stored.specs.Walkable.{Searchable}
+use Rattle.stored.specs.Usable.{Searchable}
 use Rattle.stored.specs.Code.Parents.{Passed, wordStored, labelled}
 use Rattle.stored.specs.declared.place.Place.{Place}
 use Rattle.stored.proofs.Laws.Building.Elsewhere.{searchable-stored}

@@ -2,8 +2,8 @@ use mathlib.Core.Path.{sym, _∙_}
 use borrow.Author.Tests.{not-true, not-false}
 use Rattle.text.specs.Order.{first, given}
 use borrow.Author.Needs.{needs}
-use Rattle.machine.proofs.run.refusals.name_refusal.Statement.{statement}
-use Rattle.machine.proofs.run.refusals.name_refusal.Tie as tie
+use Rattle.machine.proofs.run.refusals.form_refusal.Statement.{statement}
+use Rattle.machine.proofs.run.refusals.form_refusal.Tie as tie
 
 name-form-requires : tie.Need-name-form-requires
 name-form-requires c κs = search needs
@@ -23,6 +23,6 @@ returns-3 : tie.Need-returns-3
 unfolding given first
 returns-3 c = rw (sym (c .before .before .before .name-form .ensures) ∙ not-false _ (c .before .before .if1 .left), sym (c .before .too-long .ensures) ∙ c .if2 .left)
 
-pub name-refusal-spec : {M : Type 1} → statement M
-name-refusal-spec =
+pub form-refusal-spec : {M : Type 1} → statement M
+form-refusal-spec =
     tie.close (tie.spec name-form-requires returns too-long-requires returns-2 returns-3)

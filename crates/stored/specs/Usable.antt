@@ -1,0 +1,51 @@
+-- What inner functions may take for granted of an automaton and a run. A caller knows `Ready` or `Usable`, by the shape test; the rest follow
+-- from it by law, each the part that one function needs.
+use Prim.Native.Nat.{ℕ, suc, _≤_, _<_, _*_}
+use mathlib.Core.Path.{_≡_}
+use mathlib.Core.List.{List}
+use Rattle.notation.specs.Limits.{maxSteps, maxLabels, maxPaths}
+use Rattle.notation.specs.Reads.{labelCount, stepCount, labelStep}
+use Rattle.stored.specs.Automaton.{hashes, automatonSize}
+use Rattle.stored.specs.Tables.{headAt, nextAt, failAt, sizeAt, sizeOf}
+use mathlib.Core.Bool.{true}
+use lib.ListN.{length}
+use Rattle.stored.specs.Shape.{automatonShaped}
+use Rattle.stored.specs.Run.{runSize}
+use Rattle.stored.specs.RunCalls.{runShaped, countersShaped}
+use Rattle.stored.specs.declared.counters.Counters.{Counters}
+
+-- automaton and run have their size and pass the shape test
+pub record Ready (a run : List ℕ) : Type 0 where
+  pub size : automatonSize ≤ length a
+  pub shaped : automatonShaped a ≡ true
+  pub runLength : runSize ≤ length run
+  pub runIsShaped : runShaped a run ≡ true
+
+-- what a report's calls keep from token to token: automaton, run and counters of their size that pass the shape test
+pub record Usable (a run : List ℕ) (c : Counters) : Type 0 where
+  pub ready : Ready a run
+  pub counts : countersShaped run c ≡ true
+
+-- chains are of labels, and go on to a later one or end; a place on a chain is 1 more than its label
+pub record Searchable (a : List ℕ) : Type 0 where
+  pub few : labelCount a ≤ maxLabels
+  pub head : (h : ℕ) → h < hashes → headAt a h ≤ labelCount a
+  pub next : (l : ℕ) → l < labelCount a → nextAt a l ≤ labelCount a
+  pub later : (l m : ℕ) → l < labelCount a → nextAt a l ≡ suc m → l < m
+
+-- each failure link leads to a label's state, 0 or 1, and to a shorter word
+pub record Falling (a : List ℕ) : Type 0 where
+  pub fail : (l : ℕ) → l < labelCount a → failAt a l ≤ suc (labelCount a)
+  pub size : (l : ℕ) → l < labelCount a → sizeAt a l ≤ suc maxSteps
+  pub shorter : (l : ℕ) → l < labelCount a → sizeOf a (failAt a l) < sizeAt a l
+
+pub record Walkable (a : List ℕ) : Type 0 where
+  pub searchable : Searchable a
+  pub falling : Falling a
+
+-- what an open uses of an automaton's shape
+pub record Openable (a : List ℕ) : Type 0 where
+  pub walkable : Walkable a
+  pub steps : stepCount a ≤ maxPaths * maxSteps
+  pub step : (l : ℕ) → l < labelCount a → labelStep a l < stepCount a
+  pub size : automatonSize ≤ length a
