@@ -7,8 +7,8 @@ use mathlib.Core.List.{List, List·Memᴰ}
 use lib.Dec.{eqb}
 use Rattle.notation.specs.Sets.{Path, Folder, FolderSet, folderNumber}
 use Rattle.notation.specs.Accepted.{Accepted}
-use Rattle.theory.specs.Calls.{State, pathOfPlace, fresh, run}
-use Rattle.theory.specs.Folders.{placesOf, folderMatched, HasFolders}
+use Rattle.model.specs.Calls.{State, pathOfPlace, fresh, run}
+use Rattle.model.specs.Folders.{placesOf, folderMatched, HasFolders}
 use Rattle.documents.specs.Tree.{Node, element, text, comment, Nodes, none, _then_, Document, Place, kindAt}
 use Rattle.documents.specs.XPath.{IsElement, selected}
 use Rattle.documents.specs.Document.{eventsOf, elementsAmong, Report, documentIn}

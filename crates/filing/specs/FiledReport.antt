@@ -11,8 +11,8 @@ use Rattle.text.specs.Refusals.{Refusal, tooLarge, nameTooLong, invalidByte, sy
 use Rattle.notation.specs.Accepted.{Accepted}
 use Rattle.notation.specs.declared.PathPlace.{PathPlace}
 use Rattle.notation.specs.declared.FolderNumber.{FolderNumber}
-use Rattle.theory.specs.Calls.{State, pathOfPlace}
-use Rattle.theory.specs.Folders.{HasFolders}
+use Rattle.model.specs.Calls.{State, pathOfPlace}
+use Rattle.model.specs.Folders.{HasFolders}
 use Rattle.stored.specs.Build.{Built}
 use Rattle.stored.specs.Run.{runSize, runOf}
 use Rattle.stored.specs.RunCalls.{startRun, noCounters}

@@ -13,8 +13,8 @@ use Rattle.notation.specs.Sets.{FolderSet}
 use Rattle.text.specs.Lists.{every}
 use Rattle.text.specs.Refusals.{Refusal, tooLarge, invalidByte, syntaxError, notOneRoot, numberOf}
 use Rattle.text.specs.Order.{Condition, gives, first}
-use Rattle.theory.specs.Calls.{asLeft, Call, openCall, closeCall, State, fresh, accepted, step}
-use Rattle.theory.specs.Calls as calls
+use Rattle.model.specs.Calls.{asLeft, Call, openCall, closeCall, State, fresh, accepted, step}
+use Rattle.model.specs.Calls as calls
 use Rattle.filing.specs.Limits.{maxReportBytes}
 use Rattle.documents.specs.Tokens.{Token, blank, listed, RunOfTokens}
 use Rattle.documents.specs.Document.{Event, opening, closing, textHere, commentHere, eventsOf}

@@ -9,7 +9,7 @@ use Rattle.notation.specs.Print.{folderWord, footer}
 use Rattle.text.specs.Refusals.{shortBuffer, badShape}
 use Rattle.text.specs.Written.{TextWritten}
 use Rattle.notation.specs.declared.reads.FolderAt.{FolderAt}
-use Rattle.theory.specs.Folders.{countFrom}
+use Rattle.model.specs.Folders.{countFrom}
 use Rattle.text.specs.Order.{Condition, gives, given}
 use Rattle.stored.specs.RunCalls.{shaped, tooShort}
 use Rattle.stored.specs.HeldSet.{foldersHeld, folderHeld, pathHeld}

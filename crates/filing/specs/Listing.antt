@@ -7,7 +7,7 @@ use lib.ListN.{length}
 use Rattle.notation.specs.Sets.{Path, folder, FolderSet}
 use Rattle.text.specs.Decimal.{decimal}
 use Rattle.notation.specs.Print.{footer, printFolder}
-use Rattle.theory.specs.Calls.{State}
+use Rattle.model.specs.Calls.{State}
 
 -- "(filed" and the line's end
 unfoldable pub filedHeader : List ℕ

@@ -9,8 +9,8 @@ use Rattle.notation.specs.Print.{footer, printFolder}
 use Rattle.text.specs.Refusals.{Refusal, numberOf}
 use Rattle.notation.specs.Accepted.{Accepted}
 use Rattle.notation.specs.Judged.{RefusedText}
-use Rattle.theory.specs.Calls.{State}
-use Rattle.theory.specs.Moves.{OpenMoves}
+use Rattle.model.specs.Calls.{State}
+use Rattle.model.specs.Moves.{OpenMoves}
 use Rattle.documents.specs.Tree.{element, text, comment, Nodes, none, _then_, Document}
 use Rattle.documents.specs.Document.{Report, documentIn}
 use Rattle.filing.specs.Filing.{Refused, FiledWith}

@@ -16,7 +16,7 @@ use text::written::Written;
 ghost use mathlib.Core.Path.{_≡_};
 ghost use mathlib.Core.Bool.{false};
 ghost use Prim.Native.Nat.{_≤_};
-ghost use Rattle.theory.specs.Folders.{countFrom};
+ghost use Rattle.model.specs.Folders.{countFrom};
 ghost use Rattle.stored.specs.HeldSet.{foldersHeld, folderHeld};
 ghost use Rattle.text.specs.Output.{Within, Adds, Composes};
 ghost use Rattle.filing.specs.Listing.{movesLine, refusedLine};

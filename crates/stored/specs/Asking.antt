@@ -16,7 +16,7 @@ use Rattle.notation.specs.declared.reads.PathAt.{PathAt}
 use Rattle.notation.specs.declared.reads.FolderAt.{FolderAt}
 use Rattle.notation.specs.declared.reads.FolderIndex.{FolderIndex}
 use Rattle.text.specs.Lists.{any}
-use Rattle.theory.specs.Folders.{countFrom}
+use Rattle.model.specs.Folders.{countFrom}
 use Rattle.text.specs.Order.{Condition, gives, given}
 use Rattle.stored.specs.Tables.{sizeOf}
 use Rattle.stored.specs.Shape.{automatonShaped}

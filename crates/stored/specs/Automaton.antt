@@ -14,8 +14,8 @@ use Rattle.notation.specs.Form.{pathsOf, stepsOf, labelsOf}
 use Rattle.notation.specs.Layout.{wordSize, setSize, setPart}
 use Rattle.text.specs.Bytes.{le16, joined, padded}
 use Rattle.notation.specs.Reads.{isDescendant, isStar}
-use Rattle.theory.specs.Words.{document, name, Word, sameSymbol, before, labelWords, begins}
-use Rattle.theory.specs.Prefix.{failure}
+use Rattle.model.specs.Words.{document, name, Word, sameSymbol, before, labelWords, begins}
+use Rattle.model.specs.Prefix.{failure}
 
 -- sizes and offsets
 

@@ -9,10 +9,10 @@ use Rattle.text.specs.Names.{Name, sameName}
 use Rattle.notation.specs.Sets.{child, label, star, step, FolderSet, testOf}
 use Rattle.notation.specs.Form.{pathsOf, labelsOf}
 use Rattle.notation.specs.Reads.{labelStep, pathCount, stepCount, labelCount}
-use Rattle.theory.specs.Words.{Word, begins}
-use Rattle.theory.specs.Prefix.{IsPrefix, failure}
-use Rattle.theory.specs.Walk.{followedBy, Walked, movesOf, arrivedAt, walk}
-use Rattle.theory.specs.Calls.{fresh}
+use Rattle.model.specs.Words.{Word, begins}
+use Rattle.model.specs.Prefix.{IsPrefix, failure}
+use Rattle.model.specs.Walk.{followedBy, Walked, movesOf, arrivedAt, walk}
+use Rattle.model.specs.Calls.{fresh}
 use Rattle.stored.specs.Automaton.{maskSize, maskCount, maskAt, allSteps, allLabels, stateOf, roles, roleAt, startState, maskTest}
 use Rattle.stored.specs.Tables.{startOf, sizeOf, failOf, goto, walkOver}
 use Rattle.stored.specs.Bits.{bitIn}

@@ -16,14 +16,14 @@ use Rattle.notation.specs.Fit.{nameAt, Active}
 use Rattle.text.specs.Refusals.{Refusal, notFound, numberOf}
 use Rattle.notation.specs.declared.PathPlace.{PathPlace}
 use Rattle.notation.specs.declared.FolderNumber.{FolderNumber}
-use Rattle.theory.specs.Words.{Word}
-use Rattle.theory.specs.Prefix.{CurrentPrefix}
+use Rattle.model.specs.Words.{Word}
+use Rattle.model.specs.Prefix.{CurrentPrefix}
 use Rattle.text.specs.Order.{numberIn}
-use Rattle.theory.specs.Calls.{Lent, asLeft, otherwise, Call, openCall, closeCall, pathOfPlace, refusal, run}
-use Rattle.theory.specs.History.{acceptedCalls, opensIn, closesIn, stillOpen, FittedAfterOpen, opensOf}
-use Rattle.theory.specs.Moves.{OpenMoves, MovesCounted}
-use Rattle.theory.specs.Elements.{elementsOf, childlessDepths}
-use Rattle.theory.specs.Folders.{placesOf}
+use Rattle.model.specs.Calls.{Lent, asLeft, otherwise, Call, openCall, closeCall, pathOfPlace, refusal, run}
+use Rattle.model.specs.History.{acceptedCalls, opensIn, closesIn, stillOpen, FittedAfterOpen, opensOf}
+use Rattle.model.specs.Moves.{OpenMoves, MovesCounted}
+use Rattle.model.specs.Elements.{elementsOf, childlessDepths}
+use Rattle.model.specs.Folders.{placesOf}
 use Rattle.stored.specs.Answers.{openedSays}
 use Rattle.stored.specs.Build.{Built}
 use Rattle.stored.specs.Run.{runSize}

@@ -13,9 +13,9 @@ use Rattle.notation.specs.Form.{pathsOf}
 use Rattle.notation.specs.Layout.{wordSize}
 use Rattle.text.specs.Bytes.{le16, joined, padded}
 use Rattle.notation.specs.Activity.{active, seen}
-use Rattle.theory.specs.Prefix.{prefixOf}
+use Rattle.model.specs.Prefix.{prefixOf}
 use Rattle.stored.specs.Automaton.{maskSize, stateOf, bitBytes}
-use Rattle.theory.specs.Calls.{State, openNames}
+use Rattle.model.specs.Calls.{State, openNames}
 
 -- sizes and offsets
 

@@ -8,7 +8,7 @@ use lib.Seq.{sets}
 use Rattle.text.specs.Names.{Name, nameForm, tooLong, maxName, sameName}
 use Rattle.text.specs.Bytes.{le16, padded}
 use Rattle.notation.specs.Reads.{word16, stepCount, labelCount, labelStep}
-use Rattle.theory.specs.Limits.{maxDepth, maxOpens}
+use Rattle.model.specs.Limits.{maxDepth, maxOpens}
 use Rattle.stored.specs.Automaton.{maskSize, starMask, childMask, descendantMask, anywhereMask, rootMask, lastMask, automatonSize, maskAt, byteOf, tabulate}
 use Rattle.stored.specs.Tables.{startOf, walkOver}
 use Rattle.stored.specs.Chain.{chainLabels}

@@ -1,7 +1,7 @@
 // The counters of a run, the caller's small record.
 ghost use mathlib.Core.Path.{_≡_};
 ghost use Prim.Native.Nat.{_*_, _≤_};
-ghost use Rattle.theory.specs.Limits.{maxDepth, maxOpens};
+ghost use Rattle.model.specs.Limits.{maxDepth, maxOpens};
 ghost use Rattle.stored.specs.RunCalls.{noCounters, afterOpen, closeCounters};
 
 pub struct Counters {

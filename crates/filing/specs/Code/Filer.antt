@@ -3,7 +3,7 @@ use Prim.Native.Nat.{ℕ, zero, suc}
 use mathlib.Core.List.{List}
 use Rattle.notation.specs.Sets.{FolderSet}
 use Rattle.text.specs.Refusals.{numberOf}
-use Rattle.theory.specs.Calls.{State}
+use Rattle.model.specs.Calls.{State}
 use Rattle.stored.specs.RunCalls.{noCounters}
 use Rattle.text.specs.declared.written.Written.{Written}
 use Rattle.stored.specs.declared.counters.Counters.{Counters}

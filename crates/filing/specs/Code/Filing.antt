@@ -8,7 +8,7 @@ use Rattle.text.specs.Lists.{every}
 use Rattle.text.specs.Refusals.{tooLarge, invalidByte, syntaxError}
 use Rattle.notation.specs.Sets.{FolderSet}
 use Rattle.text.specs.Order.{Condition, gives, first}
-use Rattle.theory.specs.Calls.{State, fresh}
+use Rattle.model.specs.Calls.{State, fresh}
 use Rattle.documents.specs.Tokens.{Token, listed}
 use Rattle.text.specs.Read.{Read, fail, got}
 use Rattle.documents.specs.Reading.{readReport}

@@ -12,7 +12,7 @@ use text::store::put16;
 ghost use mathlib.Core.Path.{_≡_};
 ghost use Prim.Native.Nat.{_≤_, _<_};
 ghost use lib.ListN.{length};
-ghost use Rattle.theory.specs.Limits.{maxDepth};
+ghost use Rattle.model.specs.Limits.{maxDepth};
 ghost use Rattle.stored.specs.RunContracts.{Closes, ClosesBy};
 ghost use Rattle.stored.specs.Usable.{Usable};
 ghost use Rattle.stored.specs.Run.{runSize};

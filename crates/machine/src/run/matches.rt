@@ -9,7 +9,7 @@ use notation::reads::PathAt;
 use text::arith::minus;
 ghost use mathlib.Core.Path.{_≡_};
 ghost use Prim.Native.Nat.{_≤_};
-ghost use Rattle.theory.specs.Folders.{countFrom};
+ghost use Rattle.model.specs.Folders.{countFrom};
 ghost use Rattle.stored.specs.HeldSet.{folderHeld};
 ghost use Rattle.stored.specs.Asking.{placeMatched, anyMatched, pathsOfFolder};
 

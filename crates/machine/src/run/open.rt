@@ -25,7 +25,7 @@ ghost use lib.ListN.{length};
 ghost use Rattle.text.specs.Names.{maxName};
 ghost use Rattle.notation.specs.Limits.{maxSteps};
 ghost use Rattle.text.specs.Bytes.{le16, padded};
-ghost use Rattle.theory.specs.Limits.{maxDepth};
+ghost use Rattle.model.specs.Limits.{maxDepth};
 ghost use Rattle.stored.specs.Automaton.{maskSize, hash};
 ghost use Rattle.stored.specs.RunContracts.{Opens, OpensBy};
 ghost use Rattle.stored.specs.Usable.{Openable, Ready, Usable};

@@ -5,7 +5,7 @@ use crate::run::layout::STATE_IN;
 use notation::reads;
 ghost use mathlib.Core.Path.{_≡_};
 ghost use Prim.Native.Nat.{_+_, _≤_, _<_};
-ghost use Rattle.theory.specs.Limits.{maxDepth};
+ghost use Rattle.model.specs.Limits.{maxDepth};
 ghost use Rattle.stored.specs.Run.{rowAt, rowSize, runSize};
 ghost use Rattle.stored.specs.RunCalls.{nameLength, stateAt};
 

@@ -9,7 +9,7 @@ use stored::counters::Counters;
 use text::names::MAX_NAME;
 ghost use mathlib.Core.Path.{_≡_};
 ghost use Prim.Native.Nat.{_<_, _≤_};
-ghost use Rattle.theory.specs.Limits.{maxDepth};
+ghost use Rattle.model.specs.Limits.{maxDepth};
 ghost use Rattle.stored.specs.RunCalls.{depthOf, rowShaped, runShaped, countersShaped};
 
 // The count of open elements.

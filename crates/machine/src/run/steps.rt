@@ -19,7 +19,7 @@ ghost use Prim.Native.Nat.{ℕ, _+_, _*_, _≤_, _<_};
 ghost use lib.Dec.{eqb};
 ghost use lib.ListN.{length, getD};
 ghost use lib.Seq.{sets};
-ghost use Rattle.theory.specs.Limits.{maxDepth};
+ghost use Rattle.model.specs.Limits.{maxDepth};
 ghost use Rattle.stored.specs.Automaton.{maskSize, starMask, anywhereMask, rootMask, lastMask, maskCount, automatonSize, bitBytes};
 ghost use Rattle.stored.specs.Bits.{bitOf, bitIn, bitAt};
 ghost use Rattle.stored.specs.Run.{runSize};

@@ -15,14 +15,14 @@ use Rattle.notation.specs.Activity.{fits}
 use Rattle.notation.proofs.Laws.Meaning.Fit.{fits-is}
 use Rattle.text.specs.Refusals.{notOneRoot}
 use Rattle.text.specs.Order.{first}
-use Rattle.theory.specs.Calls.{Call, Level, State, openNames, pathOfPlace, fresh, run}
-use Rattle.theory.specs.Folders.{folderMatched}
-use Rattle.theory.specs.Elements.{elementsOf, childlessDepths}
-use Rattle.theory.specs.History.{acceptedCalls}
+use Rattle.model.specs.Calls.{Call, Level, State, openNames, pathOfPlace, fresh, run}
+use Rattle.model.specs.Folders.{folderMatched}
+use Rattle.model.specs.Elements.{elementsOf, childlessDepths}
+use Rattle.model.specs.History.{acceptedCalls}
 use Rattle.text.proofs.Laws.Lists.{any-is, is-any}
-use Rattle.theory.proofs.Laws.Machine.Folders.{folder-matched}
-use Rattle.theory.proofs.Laws.Machine.Sound.{Sound, sound}
-use Rattle.theory.proofs.Laws.Machine.Whole.{whole}
+use Rattle.model.proofs.Laws.Machine.Folders.{folder-matched}
+use Rattle.model.proofs.Laws.Machine.Sound.{Sound, sound}
+use Rattle.model.proofs.Laws.Machine.Whole.{whole}
 use Rattle.documents.specs.Tokens.{RunOfTokens}
 use Rattle.documents.specs.Document.{Event, eventsOf, TreeOf, Report, documentIn}
 use Rattle.documents.specs.Code.Events.{passed, passedIn}

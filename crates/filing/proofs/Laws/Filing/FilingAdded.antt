@@ -11,11 +11,11 @@ use Rattle.notation.specs.Sets.{Folder, FolderSet, folderNumber}
 use Rattle.notation.specs.Accepted.{Accepted}
 use Rattle.notation.proofs.Laws.Refused.AcceptedSet.{accepted-faultless}
 use Rattle.text.specs.Order.{first}
-use Rattle.theory.specs.Calls.{asLeft, Call, openCall, closeCall, Level, level, nameOf, State, fresh, isInnermost, refusal, accepted, done, after, run}
-use Rattle.theory.specs.Folders.{placesOf, folderMatched, HasFolders}
-use Rattle.theory.proofs.Laws.Machine.Steps.{open-accepted-is, close-accepted-is, step-accepted, one-more}
-use Rattle.theory.proofs.Laws.Machine.Alike.{run-alike, same-accepted}
-use Rattle.theory.proofs.Laws.Machine.Adding.{adding-folders}
+use Rattle.model.specs.Calls.{asLeft, Call, openCall, closeCall, Level, level, nameOf, State, fresh, isInnermost, refusal, accepted, done, after, run}
+use Rattle.model.specs.Folders.{placesOf, folderMatched, HasFolders}
+use Rattle.model.proofs.Laws.Machine.Steps.{open-accepted-is, close-accepted-is, step-accepted, one-more}
+use Rattle.model.proofs.Laws.Machine.Alike.{run-alike, same-accepted}
+use Rattle.model.proofs.Laws.Machine.Adding.{adding-folders}
 use Rattle.documents.specs.Document.{Event, opening, closing, textHere, commentHere}
 use Rattle.filing.specs.Filing.{Outcome, refused, filed, eventOrder, endOrder, eventLeaves, sharedMachine, FiledWith}
 use Rattle.filing.specs.Code.Filing.{fileWith}

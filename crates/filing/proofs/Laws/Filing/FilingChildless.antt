@@ -9,9 +9,9 @@ use borrow.Author.Tests.{ne-eqb}
 use native.Mathlib.Omega.{arith}
 use Rattle.text.specs.Names.{Name}
 use Rattle.notation.specs.Sets.{FolderSet}
-use Rattle.theory.specs.Calls.{asLeft, Call, openCall, closeCall, State, fresh, accepted, step}
-use Rattle.theory.specs.History.{acceptedAfter, acceptedCalls}
-use Rattle.theory.specs.Elements.{Element, element as item, Elements, elements, withChild, opening as openOne, closing as closeOne, elementsOf, sumDepths, childlessDepths}
+use Rattle.model.specs.Calls.{asLeft, Call, openCall, closeCall, State, fresh, accepted, step}
+use Rattle.model.specs.History.{acceptedAfter, acceptedCalls}
+use Rattle.model.specs.Elements.{Element, element as item, Elements, elements, withChild, opening as openOne, closing as closeOne, elementsOf, sumDepths, childlessDepths}
 use Rattle.documents.specs.Tree.{Node, element, text, comment, Nodes, none, _then_}
 use Rattle.documents.specs.NameList.{listsOf, listsIn}
 use Rattle.documents.specs.Document.{Event, opening, closing, textHere, commentHere, eventsAt, eventsIn, elementHere, elementsAmong, keep, documentOf}

@@ -6,13 +6,13 @@ use mathlib.Core.List.{List, [], _∷_, _++_, dropLast, append-assoc, append-nil
 use native.Mathlib.Omega.{arith}
 use Rattle.text.specs.Names.{Name}
 use Rattle.notation.specs.Sets.{FolderSet}
-use Rattle.theory.specs.Prefix.{prefixOf}
-use Rattle.theory.specs.Walk.{movesOf, walk}
-use Rattle.theory.specs.Calls.{asLeft, openCall, closeCall, Level, level, State, openNames, fresh, opened, closedFrom, accepted, step, after, run}
-use Rattle.theory.proofs.Laws.Machine.Calls.{open-accepted, close-accepted}
-use Rattle.theory.proofs.Laws.Machine.Steps.{step-accepted, step-open-names, step-close-names}
-use Rattle.theory.proofs.Laws.Machine.MovesCounted.{open-moves, open-moves-only}
-use Rattle.theory.proofs.Laws.Machine.Sound.{Sound, fresh-sound, open-sound, close-sound}
+use Rattle.model.specs.Prefix.{prefixOf}
+use Rattle.model.specs.Walk.{movesOf, walk}
+use Rattle.model.specs.Calls.{asLeft, openCall, closeCall, Level, level, State, openNames, fresh, opened, closedFrom, accepted, step, after, run}
+use Rattle.model.proofs.Laws.Machine.Calls.{open-accepted, close-accepted}
+use Rattle.model.proofs.Laws.Machine.Steps.{step-accepted, step-open-names, step-close-names}
+use Rattle.model.proofs.Laws.Machine.MovesCounted.{open-moves, open-moves-only}
+use Rattle.model.proofs.Laws.Machine.Sound.{Sound, fresh-sound, open-sound, close-sound}
 use Rattle.documents.specs.Tree.{Node, element, text, comment, Nodes, none, _then_}
 use Rattle.documents.specs.Document.{Event, opening, closing, textHere, commentHere, eventsAt, eventsIn, documentOf}
 use Rattle.text.proofs.Laws.Tests.{and-left, and-right}

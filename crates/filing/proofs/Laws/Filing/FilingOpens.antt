@@ -14,12 +14,12 @@ use Rattle.text.specs.Names.{Name}
 use Rattle.notation.specs.Sets.{FolderSet}
 use Rattle.text.specs.Refusals.{Refusal, tooLarge, invalidByte, syntaxError, overCapacity, numberOf}
 use Rattle.text.specs.Lists.{every, any}
-use Rattle.theory.specs.Limits.{maxOpens}
+use Rattle.model.specs.Limits.{maxOpens}
 use Rattle.text.specs.Order.{Condition, holds, refusalOf, first}
-use Rattle.theory.specs.Calls.{State, openNames, opensSpent, fresh, refusal}
+use Rattle.model.specs.Calls.{State, openNames, opensSpent, fresh, refusal}
 use Rattle.text.proofs.Laws.Tests.{clash}
 use Rattle.text.proofs.Laws.Lists.{any-is}
-use Rattle.theory.proofs.Laws.Machine.Steps.{close-accepted-is, names-opened}
+use Rattle.model.proofs.Laws.Machine.Steps.{close-accepted-is, names-opened}
 use Rattle.documents.specs.Tokens.{Token, declaration, comment, startTag, emptyTag, endTag, text, printAttributes, printToken, printTokens, RunOfTokens}
 use Rattle.documents.specs.Document.{Event, opening, closing, textHere, commentHere, eventsOf}
 use Rattle.documents.specs.Code.Events.{passed}

@@ -11,7 +11,7 @@ use Rattle.text.specs.Lists.{every}
 use Rattle.notation.specs.Sets.{FolderSet}
 use Rattle.text.specs.Refusals.{Refusal, syntaxError}
 use Rattle.text.specs.Order.{Condition, gives, refusalOf, FirstOf, first, given}
-use Rattle.theory.specs.Calls.{State, fresh}
+use Rattle.model.specs.Calls.{State, fresh}
 use Rattle.text.proofs.Laws.Tests.{clash}
 use Rattle.text.proofs.Laws.Order.{first-is, number-zero}
 use Rattle.stored.specs.RunCalls.{startConditions, startRefusal}

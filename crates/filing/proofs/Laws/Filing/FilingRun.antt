@@ -15,10 +15,10 @@ use Rattle.text.specs.Refusals.{notOneRoot}
 use Rattle.notation.specs.Activity.{fits}
 use Rattle.text.proofs.Laws.Bytes.SameName.{sameName-is}
 use Rattle.text.specs.Order.{first}
-use Rattle.theory.specs.Calls.{asLeft, openCall, closeCall, Level, level, nameOf, State, openNames, pathOfPlace, nothingOpen, fresh, opened, closedFrom, closed, refusal, accepted, step, after}
-use Rattle.theory.proofs.Laws.Machine.Calls.{open-accepted, Closable, close-accepted}
-use Rattle.theory.proofs.Laws.Machine.Steps.{open-accepted-is, close-accepted-is, step-accepted, names-opened, step-close-names}
-use Rattle.theory.proofs.Laws.Machine.Sound.{Sound, fresh-sound, open-sound, close-sound}
+use Rattle.model.specs.Calls.{asLeft, openCall, closeCall, Level, level, nameOf, State, openNames, pathOfPlace, nothingOpen, fresh, opened, closedFrom, closed, refusal, accepted, step, after}
+use Rattle.model.proofs.Laws.Machine.Calls.{open-accepted, Closable, close-accepted}
+use Rattle.model.proofs.Laws.Machine.Steps.{open-accepted-is, close-accepted-is, step-accepted, names-opened, step-close-names}
+use Rattle.model.proofs.Laws.Machine.Sound.{Sound, fresh-sound, open-sound, close-sound}
 use Rattle.documents.specs.Tokens.{blank}
 use Rattle.documents.specs.Document.{Event, opening, closing, textHere, commentHere}
 use Rattle.documents.specs.Code.Events.{balanced, passed}

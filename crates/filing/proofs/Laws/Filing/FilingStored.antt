@@ -13,10 +13,10 @@ use Rattle.text.specs.Lists.{nonEmpty}
 use Rattle.notation.specs.Sets.{FolderSet}
 use Rattle.text.specs.Refusals.{Refusal}
 use Rattle.text.specs.Order.{first, numberIn, given}
-use Rattle.theory.specs.Calls.{asLeft, openCall, closeCall, Level, State, opened, closed, nothingOpen, openOrder, closeOrder, fresh, refusal, step}
-use Rattle.theory.proofs.Laws.Machine.Moves.{Few, fresh-few}
+use Rattle.model.specs.Calls.{asLeft, openCall, closeCall, Level, State, opened, closed, nothingOpen, openOrder, closeOrder, fresh, refusal, step}
+use Rattle.model.proofs.Laws.Machine.Moves.{Few, fresh-few}
 use Rattle.text.proofs.Laws.Order.{number-some, number-zero}
-use Rattle.theory.proofs.Laws.Machine.Steps.{open-accepted-is, close-accepted-is, step-accepted}
+use Rattle.model.proofs.Laws.Machine.Steps.{open-accepted-is, close-accepted-is, step-accepted}
 use Rattle.stored.specs.Run.{runSize}
 use Rattle.stored.specs.RunCalls.{depthOf, openOthers, openRefusal, closeOthers, closeRefusal}
 use Rattle.stored.specs.Demand3.{Left, started}

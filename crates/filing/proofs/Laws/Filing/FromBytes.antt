@@ -13,17 +13,17 @@ use Rattle.text.specs.Refusals.{Refusal}
 use Rattle.text.specs.Answers.{Answer, value}
 use Rattle.notation.specs.declared.PathPlace.{PathPlace}
 use Rattle.notation.specs.declared.FolderNumber.{FolderNumber}
-use Rattle.theory.specs.Calls.{Call, State, pathOfPlace}
-use Rattle.theory.specs.History.{FittedAfterOpen}
-use Rattle.theory.specs.Folders.{folderMatched}
+use Rattle.model.specs.Calls.{Call, State, pathOfPlace}
+use Rattle.model.specs.History.{FittedAfterOpen}
+use Rattle.model.specs.Folders.{folderMatched}
 use Rattle.stored.specs.Run.{runSize, runOf}
 use Rattle.stored.specs.RunCalls.{startRun, noCounters}
 use Rattle.stored.specs.Asking.{askPath, askFolder}
 use Rattle.stored.specs.Demand3.{Left, started, Answers, HasFolder, HasMatchedPath}
 use Rattle.stored.specs.declared.counters.Counters.{Counters}
 use Rattle.text.proofs.Laws.Lists.{is-any}
-use Rattle.theory.proofs.Laws.Machine.Matches.{run-matched}
-use Rattle.theory.proofs.Laws.Machine.Moves.{Few, fresh-few}
+use Rattle.model.proofs.Laws.Machine.Matches.{run-matched}
+use Rattle.model.proofs.Laws.Machine.Moves.{Few, fresh-few}
 use Rattle.stored.proofs.Laws.Running.Means.{Means}
 use Rattle.stored.proofs.Laws.Running.FolderPlaces.{hasNumber}
 use Rattle.stored.proofs.Laws.Running.Asking.{ask-folder}

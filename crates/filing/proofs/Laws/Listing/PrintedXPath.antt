@@ -12,7 +12,7 @@ use Rattle.notation.specs.Sets.{Path, folder, FolderSet}
 use Rattle.notation.specs.Form.{pathsOf}
 use Rattle.notation.specs.Print.{footer}
 use Rattle.notation.specs.Accepted.{Accepted}
-use Rattle.theory.specs.Calls.{State, fresh, run as after}
+use Rattle.model.specs.Calls.{State, fresh, run as after}
 use Rattle.text.proofs.Laws.Tests.{cases, clash}
 use Rattle.text.specs.declared.written.Written.{Written}
 use Rattle.documents.specs.Tree.{Document}

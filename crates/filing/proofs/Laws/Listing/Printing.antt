@@ -26,7 +26,7 @@ use Rattle.text.specs.declared.written.Written.{Written}
 use Rattle.stored.specs.declared.counters.Counters.{Counters}
 use Rattle.stored.proofs.Laws.Running.Means.{Means, means}
 use Rattle.filing.specs.Limits.{listingSize}
-use Rattle.theory.specs.Calls.{State}
+use Rattle.model.specs.Calls.{State}
 use Rattle.filing.specs.Filing.{Outcome, refused, filed, numberGiven}
 use Rattle.filing.specs.Code.Filing.{fileWith}
 use Rattle.filing.specs.FiledReport.{Demand2Bytes}

@@ -13,14 +13,14 @@ use Rattle.notation.specs.Form.{pathsOf}
 use Rattle.notation.specs.Print.{printPath, printPaths, printFolder}
 use Rattle.notation.specs.declared.reads.FolderAt.{FolderAt}
 use Rattle.notation.proofs.Laws.Stored.FolderTable.{noFolder, pathsBefore, paths-between, paths-before-most}
-use Rattle.theory.specs.Folders.{countFrom}
-use Rattle.theory.specs.Calls.{State}
+use Rattle.model.specs.Folders.{countFrom}
+use Rattle.model.specs.Calls.{State}
 use Rattle.stored.specs.Run.{runOf}
 use Rattle.stored.specs.HeldSet.{foldersHeld, folderHeld, pathHeld}
 use Rattle.stored.specs.Asking.{placeMatched, anyMatched}
 use Rattle.stored.specs.declared.counters.Counters.{Counters}
 use Rattle.text.proofs.Laws.Tests.{cases}
-use Rattle.theory.proofs.Laws.Machine.Moves.{Few}
+use Rattle.model.proofs.Laws.Machine.Moves.{Few}
 use Rattle.stored.proofs.Laws.Running.Means.{Means}
 use Rattle.stored.proofs.Laws.Running.HeldSet.{folders-held, folder-held, path-held}
 use Rattle.stored.proofs.Laws.Running.Asking.{place-matched}

@@ -10,8 +10,8 @@ use Rattle.notation.specs.Sets.{Path, folder, FolderSet}
 use Rattle.text.specs.Decimal.{decimal}
 use Rattle.notation.specs.Print.{printPath, printPaths, folderWord, header, footer, printFolder, printFolders, print}
 use Rattle.notation.proofs.Laws.Refused.Fitting.{Fitting}
-use Rattle.theory.specs.Limits.{maxDepth, maxOpens}
-use Rattle.theory.specs.Calls.{State}
+use Rattle.model.specs.Limits.{maxDepth, maxOpens}
+use Rattle.model.specs.Calls.{State}
 use Rattle.text.proofs.Laws.Tests.{cases}
 use Rattle.filing.specs.Limits.{maxMovesLine, listingSize}
 use Rattle.filing.specs.Listing.{filedHeader, movesWord, matchedPaths, lineOf, linesFrom, movesLine, listing}

@@ -4,7 +4,7 @@ use native.Mathlib.Nat.{zero-add, add-zero, add-suc, suc-add}
 use mathlib.Core.Path.{_≡_, refl, sym, _∙_, ap}
 use mathlib.Core.Bool.{Bool, true, false, cond}
 use mathlib.Core.List.{List, [], _∷_, _++_, append-assoc, append-nil}
-use Rattle.theory.specs.Folders.{countFrom}
+use Rattle.model.specs.Folders.{countFrom}
 use Rattle.stored.specs.HeldSet.{folderHeld}
 use Rattle.stored.specs.Asking.{placeMatched, anyMatched, pathsOfFolder}
 use Rattle.text.specs.Decimal.{decimal}

@@ -7,12 +7,12 @@ use mathlib.Core.List.{List, [], _++_}
 use lib.ListN.{length}
 use borrow.Author.Tests.{le-ltb}
 use Rattle.notation.specs.Sets.{FolderSet}
-use Rattle.theory.specs.Calls.{State}
+use Rattle.model.specs.Calls.{State}
 use Rattle.stored.specs.Run.{runOf}
 use Rattle.text.specs.Order.{first, given}
 use Rattle.text.specs.Written.{TextWritten}
 use Rattle.text.specs.declared.written.Written.{Written}
-use Rattle.theory.proofs.Laws.Machine.Moves.{Few}
+use Rattle.model.proofs.Laws.Machine.Moves.{Few}
 use Rattle.stored.proofs.Laws.Running.Means.{Means}
 use Rattle.stored.proofs.Laws.Shapes.Passing.{countersOf, all-shaped, long-enough}
 use Rattle.filing.specs.Limits.{listingSize}

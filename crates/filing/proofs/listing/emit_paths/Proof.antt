@@ -3,7 +3,7 @@ use native.Mathlib.Omega.{arith}
 use Prim.Native.Nat.{ℕ, _≤_, _-_}
 use native.Mathlib.Numerals.{add-one}
 use mathlib.Core.Path.{_≡_, sym, _∙_, ap}
-use Rattle.theory.specs.Folders.{countFrom}
+use Rattle.model.specs.Folders.{countFrom}
 use Rattle.text.specs.Output.{Adds}
 use Rattle.filing.specs.Listed.{pathsListed}
 use Rattle.text.proofs.Laws.Output.{nothing, and-then, same-bytes}

@@ -15,15 +15,15 @@ use Rattle.notation.specs.Sets.{FolderSet}
 use Rattle.text.specs.Bytes.{le16}
 use Rattle.notation.specs.Reads.{labelCount, labelName}
 use Rattle.notation.proofs.Laws.Refused.Fitting.{Fitting}
-use Rattle.theory.specs.Words.{Symbol, name, Word}
-use Rattle.theory.specs.Prefix.{IsPrefix, failure}
-use Rattle.theory.specs.Walk.{followedBy}
+use Rattle.model.specs.Words.{Symbol, name, Word}
+use Rattle.model.specs.Prefix.{IsPrefix, failure}
+use Rattle.model.specs.Walk.{followedBy}
 use Rattle.stored.specs.Automaton.{allLabels, allWords, stateOf, shortened, heads, nexts, Link, link, linksOf, links, assembled, failIn, allMasks, linkEntryAt}
 use Rattle.stored.specs.Tables.{parentAt, sizeAt, sizeOf}
 use Rattle.stored.specs.Code.Fails.{failTo, failed, failedIf, failedBelow, failedTo}
 use Rattle.text.proofs.Laws.Tests.{cases}
-use Rattle.theory.proofs.Laws.Keywords.Prefix.{failure-is}
-use Rattle.theory.proofs.Laws.Keywords.Walk.{failure-extends, failure-single}
+use Rattle.model.proofs.Laws.Keywords.Prefix.{failure-is}
+use Rattle.model.proofs.Laws.Keywords.Walk.{failure-extends, failure-single}
 use Rattle.stored.proofs.Laws.Tables.Assembled.{withFailure, noLink, fail-put}
 use Rattle.stored.proofs.Laws.Tables.States.{StateKind, ofEmpty, ofRoot, ofLabel, state-kind, state-empty, words-count, word-ends, label-parent, shortened-followed}
 use Rattle.stored.proofs.Laws.Tables.Goto.{Linked}

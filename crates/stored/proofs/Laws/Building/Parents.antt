@@ -21,9 +21,9 @@ use Rattle.notation.proofs.Laws.Stored.LabelTable.{noStep}
 use Rattle.notation.proofs.Laws.Stored.PathTable.{stepsBefore}
 use Rattle.notation.proofs.Laws.Refused.Fitting.{Fitting}
 use Rattle.notation.proofs.Laws.Stored.ReadPaths.{path-read, path-missing}
-use Rattle.theory.specs.Words.{document, name, Word, labelWords}
-use Rattle.theory.specs.Walk.{followedBy}
-use Rattle.theory.specs.Prefix.{IsPrefix}
+use Rattle.model.specs.Words.{document, name, Word, labelWords}
+use Rattle.model.specs.Walk.{followedBy}
+use Rattle.model.specs.Prefix.{IsPrefix}
 use Rattle.stored.specs.Automaton.{Link, find, allSteps, allLabels, wordsIn, allWords, sameWord, stateAmong, stateOf, shortened, heads, nexts, assembled, parentIn, sizeIn, allMasks, linkEntryAt}
 use Rattle.stored.specs.Tables.{sizeAt, sizeOf, goto}
 use Rattle.stored.specs.Code.Parents.{startsAt, wordStored, labelled, tested, passedBy, passed, parented, beforePaths}

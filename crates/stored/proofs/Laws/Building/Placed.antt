@@ -12,8 +12,8 @@ use lib.ListN.{length, getD, set, take, drop, length-append, length-take, length
 use lib.Seq.{take-suc, drop-cons, drop-length, take-length, getD-take, getD-drop, getD-append-add, set-at, length-take-le}
 use Rattle.notation.specs.Sets.{child, descendant, label, star, step, Path, FolderSet}
 use Rattle.notation.specs.Form.{pathsOf}
-use Rattle.theory.specs.Words.{name, Word, before, labelWords}
-use Rattle.theory.specs.Walk.{followedBy}
+use Rattle.model.specs.Words.{name, Word, before, labelWords}
+use Rattle.model.specs.Walk.{followedBy}
 use Rattle.stored.specs.Automaton.{Link, link, find, wordsIn, allWords, stateOf, shortened}
 use Rattle.text.proofs.Laws.Tests.{cases}
 use Rattle.stored.proofs.Laws.Bytes.Finding.{find-here, find-later}

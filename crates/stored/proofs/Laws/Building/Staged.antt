@@ -9,12 +9,12 @@ use Rattle.notation.specs.Limits.{maxSteps, maxLabels}
 use Rattle.notation.specs.Sets.{FolderSet}
 use Rattle.notation.specs.Reads.{labelCount}
 use Rattle.notation.proofs.Laws.Refused.Fitting.{Fitting}
-use Rattle.theory.specs.Words.{name, Word}
-use Rattle.theory.specs.Prefix.{IsPrefix, failure}
+use Rattle.model.specs.Words.{name, Word}
+use Rattle.model.specs.Prefix.{IsPrefix, failure}
 use Rattle.stored.specs.Automaton.{hashes, automatonSize, allLabels, allWords, stateOf, shortened, heads, nexts, Link, assembled, allMasks}
 use Rattle.stored.specs.Tables.{failAt, sizeAt, sizeOf}
 use Rattle.stored.specs.Code.Fails.{Growing}
-use Rattle.theory.proofs.Laws.Keywords.Prefix.{failure-is}
+use Rattle.model.proofs.Laws.Keywords.Prefix.{failure-is}
 use Rattle.stored.proofs.Laws.Bytes.Tabulate.{tabulate-length}
 use Rattle.stored.proofs.Laws.Tables.Assembled.{noLink, Sized, assembled-length, fail-read, size-read}
 use Rattle.stored.proofs.Laws.Tables.SetReads.{label-count}

@@ -19,13 +19,13 @@ use Rattle.notation.proofs.Laws.Refused.Fitting.{Fitting}
 use Rattle.notation.proofs.Laws.Stored.Reads.{paths-read}
 use Rattle.notation.proofs.Laws.Stored.LabelTable.{noStep}
 use Rattle.notation.proofs.Laws.Stored.ReadSteps.{step-read}
-use Rattle.theory.specs.Words.{document, before, begins}
+use Rattle.model.specs.Words.{document, before, begins}
 use Rattle.stored.specs.Automaton.{allSteps, Link, startState, assembled}
 use Rattle.stored.specs.Code.Masks.{rooted, anyRooted, withStart}
 use Rattle.text.proofs.Laws.Tests.{both, clash}
 use Rattle.text.proofs.Laws.Lists.{any-is, is-any}
-use Rattle.theory.proofs.Laws.Keywords.Words.{begins-is, is-begins}
-use Rattle.theory.proofs.Laws.Keywords.Labels.{begins-document}
+use Rattle.model.proofs.Laws.Keywords.Words.{begins-is, is-begins}
+use Rattle.model.proofs.Laws.Keywords.Labels.{begins-document}
 use Rattle.stored.proofs.Laws.Tables.Goto.{same-test}
 use Rattle.stored.proofs.Laws.Tables.Assembled.{Sized, after-set, start-put}
 use Rattle.stored.proofs.Laws.Building.Masked.{path-in, steps-here}

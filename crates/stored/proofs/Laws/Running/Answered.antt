@@ -7,7 +7,7 @@ use lib.Dec.{leb}
 use borrow.Author.Tests.{leb-true}
 use Rattle.text.specs.Names.{within}
 use Rattle.text.specs.Lists.{any}
-use Rattle.theory.specs.Folders.{countFrom}
+use Rattle.model.specs.Folders.{countFrom}
 use Rattle.text.proofs.Laws.Tests.{both}
 
 -- of the numbers from `first + i` on, `left` of them

@@ -26,19 +26,19 @@ use Rattle.notation.proofs.Laws.Stored.PathTable.{stepsBefore, steps-through}
 use Rattle.notation.proofs.Laws.Stored.FolderTable.{noFolder, pathsBefore, paths-between, paths-before-most}
 use Rattle.notation.proofs.Laws.Stored.ReadPaths.{PathRead, path-read, path-missing}
 use Rattle.notation.proofs.Laws.Stored.ReadFolders.{folder-of-read}
-use Rattle.theory.specs.Prefix.{prefixOf}
-use Rattle.theory.specs.Folders.{countFrom, placesFrom, folderMatched}
+use Rattle.model.specs.Prefix.{prefixOf}
+use Rattle.model.specs.Folders.{countFrom, placesFrom, folderMatched}
 use Rattle.text.specs.Order.{first, given}
-use Rattle.theory.specs.Calls.{State, openNames, activeStep}
+use Rattle.model.specs.Calls.{State, openNames, activeStep}
 use Rattle.stored.specs.Automaton.{maskSize}
 use Rattle.stored.specs.Run.{runOf}
 use Rattle.stored.specs.Tables.{sizeOf}
 use Rattle.stored.specs.RunCalls.{depthOf, storedName, activeAt, matchedAt, stateAt}
 use Rattle.stored.specs.Asking.{askRefusal, hasPath, placeMatched, anyMatched, askPath, hasFolder, indexPaths, askFolder, askStep, askPrefix, nameRefusal, askName}
 use Rattle.text.proofs.Laws.Tests.{cases}
-use Rattle.theory.proofs.Laws.Keywords.Prefix.{current-prefix}
-use Rattle.theory.proofs.Laws.Machine.Sound.{Sound}
-use Rattle.theory.proofs.Laws.Machine.Moves.{Few}
+use Rattle.model.proofs.Laws.Keywords.Prefix.{current-prefix}
+use Rattle.model.proofs.Laws.Machine.Sound.{Sound}
+use Rattle.model.proofs.Laws.Machine.Moves.{Few}
 use Rattle.stored.proofs.Laws.Running.PathSteps.{bit-at, match-at}
 use Rattle.stored.proofs.Laws.Running.RunBytes.{matched-read, active-at, state-at, name-at}
 use Rattle.stored.proofs.Laws.Running.Means.{Means}

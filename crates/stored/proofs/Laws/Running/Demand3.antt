@@ -19,13 +19,13 @@ use Rattle.notation.specs.Fit.{nameAt, Active}
 use Rattle.text.specs.Refusals.{Refusal, numberOf, notFound}
 use Rattle.notation.specs.declared.PathPlace.{PathPlace}
 use Rattle.notation.specs.declared.FolderNumber.{FolderNumber}
-use Rattle.theory.specs.Prefix.{prefixOf}
-use Rattle.theory.specs.Walk.{movesOf, walk}
+use Rattle.model.specs.Prefix.{prefixOf}
+use Rattle.model.specs.Walk.{movesOf, walk}
 use Rattle.text.specs.Order.{first, numberIn, given}
-use Rattle.theory.specs.Calls.{asLeft, Call, openCall, closeCall, State, openNames, pathOfPlace, activeStep, refusal, run}
-use Rattle.theory.specs.History.{stillOpen, FittedAfterOpen, opensOf, SameAnswers}
-use Rattle.theory.specs.Moves.{OpenMoves}
-use Rattle.theory.specs.Folders.{placesOf, folderMatched}
+use Rattle.model.specs.Calls.{asLeft, Call, openCall, closeCall, State, openNames, pathOfPlace, activeStep, refusal, run}
+use Rattle.model.specs.History.{stillOpen, FittedAfterOpen, opensOf, SameAnswers}
+use Rattle.model.specs.Moves.{OpenMoves}
+use Rattle.model.specs.Folders.{placesOf, folderMatched}
 use Rattle.stored.specs.Automaton.{automatonSize, automatonOf}
 use Rattle.stored.specs.Run.{runSize, runOf}
 use Rattle.stored.specs.Answers.{openedSays}
@@ -37,12 +37,12 @@ use Rattle.stored.specs.declared.counters.Counters.{Counters}
 use Rattle.stored.specs.declared.answers.Opened.{Opened}
 use Rattle.text.proofs.Laws.Tests.{cases, clash, both-true}
 use Rattle.text.proofs.Laws.Lists.{any-is, is-any}
-use Rattle.theory.proofs.Laws.Machine.Matches.{run-matched, run-matched-there}
-use Rattle.theory.proofs.Laws.Machine.Moves.{Few}
-use Rattle.theory.proofs.Laws.Machine.History.{run-names-counted}
-use Rattle.theory.proofs.Laws.Machine.MovesCounted.{open-moves}
-use Rattle.theory.proofs.Laws.Machine.Whole.{whole}
-use Rattle.theory.proofs.Laws.Machine.Folders.{folder-matched}
+use Rattle.model.proofs.Laws.Machine.Matches.{run-matched, run-matched-there}
+use Rattle.model.proofs.Laws.Machine.Moves.{Few}
+use Rattle.model.proofs.Laws.Machine.History.{run-names-counted}
+use Rattle.model.proofs.Laws.Machine.MovesCounted.{open-moves}
+use Rattle.model.proofs.Laws.Machine.Whole.{whole}
+use Rattle.model.proofs.Laws.Machine.Folders.{folder-matched}
 use Rattle.stored.proofs.Laws.Building.Built.{built-is}
 use Rattle.stored.proofs.Laws.Running.Means.{Means, means}
 use Rattle.stored.proofs.Laws.Shapes.Passing.{all-shaped, open-refused, close-refused}

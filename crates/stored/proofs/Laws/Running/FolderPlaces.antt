@@ -14,7 +14,7 @@ use Rattle.text.specs.Lists.{any}
 use Rattle.notation.specs.Reads.{folderIndex}
 use Rattle.notation.specs.declared.reads.FolderIndex.{FolderIndex}
 use Rattle.notation.proofs.Laws.Stored.FolderTable.{noFolder, pathsBefore}
-use Rattle.theory.specs.Folders.{countFrom, placesFrom}
+use Rattle.model.specs.Folders.{countFrom, placesFrom}
 use Rattle.text.proofs.Laws.Tests.{cases}
 
 -- some folder of the set has this number

@@ -11,12 +11,12 @@ use Rattle.text.specs.Names.{maxName, Name}
 use Rattle.notation.specs.Sets.{FolderSet}
 use Rattle.notation.specs.Form.{pathsOf}
 use Rattle.notation.specs.Activity.{fits}
-use Rattle.theory.specs.Limits.{maxDepth}
-use Rattle.theory.specs.Words.{Word}
-use Rattle.theory.specs.Walk.{movesOf, walk}
+use Rattle.model.specs.Limits.{maxDepth}
+use Rattle.model.specs.Words.{Word}
+use Rattle.model.specs.Walk.{movesOf, walk}
 use Rattle.text.specs.Order.{isNone}
-use Rattle.theory.specs.Calls.{asLeft, otherwise, Call, openCall, closeCall, Level, nameOf, State, namesOf, openNames, fresh, opened, closedFrom, closed, refusal, accepted, step, after}
-use Rattle.theory.specs.Calls as machine
+use Rattle.model.specs.Calls.{asLeft, otherwise, Call, openCall, closeCall, Level, nameOf, State, namesOf, openNames, fresh, opened, closedFrom, closed, refusal, accepted, step, after}
+use Rattle.model.specs.Calls as machine
 use Rattle.stored.specs.Run.{runSize, runWith, runOf}
 use Rattle.stored.specs.RunCalls.{openWalk, openRun, openCounters, closeRun, closeCounters, noCounters}
 use Rattle.stored.specs.Demand3.{Made, callsOf, Left, started, Calls}
@@ -24,10 +24,10 @@ use Rattle.stored.specs.declared.counters.Counters.{Counters}
 use Rattle.stored.specs.declared.walk.Walk.{Walk}
 use Rattle.text.proofs.Laws.Tests.{cases}
 use Rattle.text.proofs.Laws.Order.{number-none}
-use Rattle.theory.proofs.Laws.Machine.Calls.{Openable, open-accepted, Closable, close-accepted, lent-otherwise-open, lent-otherwise-close, always}
-use Rattle.theory.proofs.Laws.Machine.Steps.{step-refused}
-use Rattle.theory.proofs.Laws.Machine.Sound.{Sound}
-use Rattle.theory.proofs.Laws.Machine.Moves.{Few, fresh-few, open-few, close-few}
+use Rattle.model.proofs.Laws.Machine.Calls.{Openable, open-accepted, Closable, close-accepted, lent-otherwise-open, lent-otherwise-close, always}
+use Rattle.model.proofs.Laws.Machine.Steps.{step-refused}
+use Rattle.model.proofs.Laws.Machine.Sound.{Sound}
+use Rattle.model.proofs.Laws.Machine.Moves.{Few, fresh-few, open-few, close-few}
 use Rattle.stored.proofs.Laws.Running.RunBytes.{Short}
 use Rattle.stored.proofs.Laws.Running.Means.{Means}
 use Rattle.stored.proofs.Laws.Running.Opening.{short-close, open-walk, open-run, close-run}

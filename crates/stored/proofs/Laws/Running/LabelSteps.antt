@@ -22,7 +22,7 @@ use Rattle.stored.specs.Chain.{chainLabels}
 use Rattle.stored.specs.Compiled.{labelPlaces, Compiled}
 use Rattle.text.proofs.Laws.Tests.{cases, clash}
 use Rattle.text.proofs.Laws.Lists.{any-is, is-any}
-use Rattle.theory.proofs.Laws.Keywords.Words.{same-name, name-same}
+use Rattle.model.proofs.Laws.Keywords.Words.{same-name, name-same}
 use Rattle.stored.proofs.Laws.Tables.Goto.{same-test}
 use Rattle.stored.proofs.Laws.Running.PathSteps.{anyStep, locate, role-at, role-past}
 

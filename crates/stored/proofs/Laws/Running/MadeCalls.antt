@@ -10,7 +10,7 @@ use Rattle.text.specs.Names.{Name}
 use Rattle.text.specs.Answers.{said, numberSaid}
 use Rattle.text.proofs.Laws.Said.{said-number}
 use Rattle.text.specs.Order.{first, given}
-use Rattle.theory.specs.Calls.{asLeft, otherwise, Call, openCall, closeCall}
+use Rattle.model.specs.Calls.{asLeft, otherwise, Call, openCall, closeCall}
 use Rattle.stored.specs.Automaton.{automatonSize}
 use Rattle.stored.specs.Answers.{openedSays}
 use Rattle.stored.specs.RunCalls.{noCounters, openRefusal, openRun, openWalk, openCounters, closeRefusal, closeRun, closeCounters}

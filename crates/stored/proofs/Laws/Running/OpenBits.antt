@@ -17,7 +17,7 @@ use Rattle.notation.specs.Fit.{nthStep}
 use Rattle.notation.specs.Activity.{takes, byAxis, allowed, here, isEmpty, active, seen, fits}
 use Rattle.notation.proofs.Laws.Meaning.Innermost.{active-more, seen-more}
 use Rattle.notation.proofs.Laws.Stored.PathTable.{stepsBefore}
-use Rattle.theory.specs.Limits.{maxDepth}
+use Rattle.model.specs.Limits.{maxDepth}
 use Rattle.stored.specs.Automaton.{maskSize, Role, roles, roleAt, isStarRole, isChildRole, isDescendantRole, isAnywhereRole, isRootRole, isLastRole, starMask, childMask, descendantMask, anywhereMask, rootMask, lastMask}
 use Rattle.stored.specs.Run.{stepBit, matchBit, activeBits, seenBits, runWith}
 use Rattle.stored.specs.RunCalls.{depthOf, activeAt, seenAt, candidate, shifted, permitted, nowActive, nowSeen, nowMatched}

@@ -16,14 +16,14 @@ use Rattle.notation.specs.Layout.{wordSize}
 use Rattle.notation.specs.Reads.{stepCount}
 use Rattle.notation.specs.Activity.{active, seen, fits}
 use Rattle.notation.proofs.Laws.Fill.Padded.{sets-front, joined-snoc}
-use Rattle.theory.specs.Limits.{maxDepth}
-use Rattle.theory.specs.Prefix.{prefixOf}
-use Rattle.theory.specs.Walk.{walk}
+use Rattle.model.specs.Limits.{maxDepth}
+use Rattle.model.specs.Prefix.{prefixOf}
+use Rattle.model.specs.Walk.{walk}
 use Rattle.stored.specs.Automaton.{maskSize, byteOf, bitBytes}
 use Rattle.stored.specs.Run.{matchesAt, rowsAt, rowSize, rowAt, matchBit, activeBits, seenBits, rowOf, rowsFrom, runWith, depthAt}
 use Rattle.stored.specs.RunCalls.{usedBytes, usedBits, nowActive, nowSeen, nowMatched, openWalk, stepBits, rowOpened, withRow, openRun, closeRun}
-use Rattle.theory.proofs.Laws.Keywords.Prefix.{current-prefix}
-use Rattle.theory.proofs.Laws.Keywords.Walk.{walk-current}
+use Rattle.model.proofs.Laws.Keywords.Prefix.{current-prefix}
+use Rattle.model.proofs.Laws.Keywords.Walk.{walk-current}
 use Rattle.stored.specs.Compiled.{storedWalk}
 use Rattle.stored.proofs.Laws.Bytes.Tabulate.{tabulate-length}
 use Rattle.stored.proofs.Laws.Bytes.MaskRows.{bits-same}

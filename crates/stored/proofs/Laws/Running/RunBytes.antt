@@ -17,15 +17,15 @@ use Rattle.notation.proofs.Laws.Fill.Padded.{length-padded}
 use Rattle.notation.proofs.Laws.Stored.Entries.{OfWidth, none, more, joined-length, entry}
 use Rattle.notation.proofs.Laws.Refused.Fitting.{Fitting}
 use Rattle.notation.proofs.Laws.Stored.Words.{word-read}
-use Rattle.theory.specs.Limits.{maxDepth}
-use Rattle.theory.specs.Prefix.{prefixOf}
+use Rattle.model.specs.Limits.{maxDepth}
+use Rattle.model.specs.Prefix.{prefixOf}
 use Rattle.stored.specs.Automaton.{maskSize, stateOf, bitBytes, byteOf}
 use Rattle.stored.specs.Bits.{bitIn}
 use Rattle.stored.specs.Run.{matchesAt, rowsAt, nameIn, stateIn, activeIn, seenIn, rowSize, rowAt, runSize, matchBit, activeBits, seenBits, rowOf, rowsFrom, runWith, depthAt}
 use Rattle.stored.specs.RunCalls.{depthOf, nameLength, storedName, stateAt, activeAt, seenAt, matchedAt, usedBytes}
 use Rattle.stored.proofs.Laws.Bytes.Tabulate.{tabulate-length}
 use Rattle.stored.proofs.Laws.Bytes.Bits.{bits-bit}
-use Rattle.theory.proofs.Laws.Keywords.Prefix.{current-prefix}
+use Rattle.model.proofs.Laws.Keywords.Prefix.{current-prefix}
 use Rattle.stored.proofs.Laws.Tables.States.{at-among, state-within}
 
 -- names that a row has room for

@@ -16,10 +16,10 @@ use Rattle.notation.specs.Layout.{wordSize}
 use Rattle.notation.specs.Activity.{active, seen}
 use Rattle.notation.proofs.Laws.Fill.Padded.{sets-front, padded-none}
 use Rattle.notation.proofs.Laws.Meaning.Innermost.{active-none, seen-none}
-use Rattle.theory.specs.Words.{document, begins}
-use Rattle.theory.specs.Prefix.{longestEnd, prefixOf}
+use Rattle.model.specs.Words.{document, begins}
+use Rattle.model.specs.Prefix.{longestEnd, prefixOf}
 use Rattle.stored.specs.Automaton.{maskSize, stateAmong, stateOf, startState, bitBytes}
-use Rattle.theory.specs.Calls.{fresh}
+use Rattle.model.specs.Calls.{fresh}
 use Rattle.stored.specs.Tables.{startOf}
 use Rattle.stored.specs.Run.{matchesAt, rowsAt, nameIn, activeIn, seenIn, rowSize, rowAt, runSize, stepBit, matchBit, activeBits, seenBits, rowOf, rowsFrom, runWith, runOf}
 use Rattle.stored.specs.Run as layout

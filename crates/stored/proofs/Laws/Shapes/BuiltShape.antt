@@ -17,13 +17,13 @@ use Rattle.notation.specs.Reads.{textLen, folderCount, pathCount, stepCount, la
 use Rattle.notation.proofs.Laws.Refused.Fitting.{Fitting}
 use Rattle.notation.proofs.Laws.Refused.AcceptedSet.{accepted-fits}
 use Rattle.notation.proofs.Laws.Stored.Reads.{text-len, folders-read, paths-read, steps-read}
-use Rattle.theory.specs.Words.{name, Word, before, labelWords, begins, document}
-use Rattle.theory.specs.Walk.{followedBy}
+use Rattle.model.specs.Words.{name, Word, before, labelWords, begins, document}
+use Rattle.model.specs.Walk.{followedBy}
 use Rattle.stored.specs.Automaton.{masksFrom, masks, allLabels, heads, links, startState, automatonOf, allMasks, Link}
 use Rattle.stored.specs.Shape.{automatonShaped}
 use Rattle.stored.specs.Usable.{Walkable}
 use Rattle.stored.specs.Code.Fails.{Growing}
-use Rattle.theory.proofs.Laws.Keywords.Labels.{LabelWord, begins-label}
+use Rattle.model.proofs.Laws.Keywords.Labels.{LabelWord, begins-label}
 use Rattle.stored.proofs.Laws.Bytes.Bits.{bit-small}
 use Rattle.stored.proofs.Laws.Bytes.Tabulate.{tabulate-length}
 use Rattle.stored.proofs.Laws.Tables.Assembled.{start-read}

@@ -12,7 +12,7 @@ use Rattle.text.specs.Names.{Name, nameForm, tooLong, maxName, sameName}
 use Rattle.text.specs.Bytes.{le16}
 use Rattle.notation.specs.Layout.{wordSize}
 use Rattle.text.specs.Refusals.{shortBuffer, nameTooLong, overCapacity, syntaxError, notOneRoot, tooDeep, mismatchedClose, notFound, badShape}
-use Rattle.theory.specs.Limits.{maxDepth, maxOpens}
+use Rattle.model.specs.Limits.{maxDepth, maxOpens}
 use Rattle.text.specs.Order.{gives, given, first}
 use Rattle.stored.specs.Automaton.{automatonSize}
 use Rattle.stored.specs.Tables.{startOf}

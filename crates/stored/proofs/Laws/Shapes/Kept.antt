@@ -17,7 +17,7 @@ use Rattle.notation.specs.Reads.{word16, labelCount}
 use Rattle.notation.proofs.Laws.Stored.Stands.{Stands}
 use Rattle.notation.proofs.Laws.Stored.Words.{word-read}
 use Rattle.notation.proofs.Laws.Fill.Padded.{length-padded}
-use Rattle.theory.specs.Limits.{maxDepth, maxOpens}
+use Rattle.model.specs.Limits.{maxDepth, maxOpens}
 use Rattle.stored.specs.Automaton.{maskSize, byteOf}
 use Rattle.stored.specs.Tables.{startOf}
 use Rattle.stored.specs.Shape.{automatonShaped}

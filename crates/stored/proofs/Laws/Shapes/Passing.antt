@@ -13,20 +13,20 @@ use Rattle.notation.specs.Sets.{FolderSet}
 use Rattle.text.specs.Lists.{nonEmpty}
 use Rattle.text.specs.Refusals.{syntaxError, nameTooLong, notOneRoot, mismatchedClose}
 use Rattle.notation.specs.Reads.{labelCount}
-use Rattle.theory.specs.Limits.{maxDepth, maxOpens}
-use Rattle.theory.specs.Prefix.{prefixOf}
+use Rattle.model.specs.Limits.{maxDepth, maxOpens}
+use Rattle.model.specs.Prefix.{prefixOf}
 use Rattle.text.specs.Order.{Condition, gives, first, numberIn, given}
-use Rattle.theory.specs.Calls.{Lent, openCall, closeCall, Level, level, nameOf, State, namesOf, openNames, depth, isInnermost, refusal}
+use Rattle.model.specs.Calls.{Lent, openCall, closeCall, Level, level, nameOf, State, namesOf, openNames, depth, isInnermost, refusal}
 use Rattle.stored.specs.Automaton.{automatonSize, stateOf, allLabels}
 use Rattle.stored.specs.Run.{runSize, runOf}
 use Rattle.stored.specs.RunCalls.{depthOf, storedName, rowShaped, runShaped, countersShaped, shaped, tooShort, rootClosed, openRefusal, closeRefusal}
 use Rattle.stored.specs.declared.counters.Counters.{Counters}
 use Rattle.text.proofs.Laws.Tests.{both-true}
-use Rattle.theory.proofs.Laws.Keywords.Prefix.{current-prefix}
+use Rattle.model.proofs.Laws.Keywords.Prefix.{current-prefix}
 use Rattle.stored.proofs.Laws.Bytes.AllBelow.{is-all}
 use Rattle.stored.proofs.Laws.Tables.States.{state-within}
-use Rattle.theory.proofs.Laws.Machine.Sound.{Sound, sound-names}
-use Rattle.theory.proofs.Laws.Machine.Moves.{Few}
+use Rattle.model.proofs.Laws.Machine.Sound.{Sound, sound-names}
+use Rattle.model.proofs.Laws.Machine.Moves.{Few}
 use Rattle.stored.proofs.Laws.Running.RunBytes.{Short, short-at, run-length, depth-read, length-at, name-at, state-at}
 use Rattle.stored.proofs.Laws.Running.Means.{Means}
 

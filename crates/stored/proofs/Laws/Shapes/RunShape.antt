@@ -9,7 +9,7 @@ use borrow.Author.Tests.{lt-leb, le-leb, leb-true}
 use lib.Dec.{leb}
 use Rattle.text.specs.Names.{maxName}
 use Rattle.notation.specs.Reads.{labelCount}
-use Rattle.theory.specs.Limits.{maxDepth}
+use Rattle.model.specs.Limits.{maxDepth}
 use Rattle.stored.specs.Shape.{allBelow}
 use Rattle.stored.specs.RunCalls.{depthOf, nameLength, stateAt, rowShaped, runShaped}
 use Rattle.text.proofs.Laws.Tests.{both}

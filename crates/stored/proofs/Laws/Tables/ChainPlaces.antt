@@ -16,7 +16,7 @@ use Rattle.stored.specs.Tables.{nextAt}
 use Rattle.stored.specs.Chain.{chainFrom, chainLabels}
 use Rattle.stored.specs.Compiled.{labelPlaces}
 use Rattle.text.proofs.Laws.Tests.{cases, clash}
-use Rattle.theory.proofs.Laws.Keywords.Words.{same-name}
+use Rattle.model.proofs.Laws.Keywords.Words.{same-name}
 use Rattle.stored.proofs.Laws.Bytes.Finding.{find-here, find-later, find-empty}
 use Rattle.stored.proofs.Laws.Tables.Goto.{Chained, hash-small, next-at, past-end}
 

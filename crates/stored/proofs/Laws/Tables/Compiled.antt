@@ -17,17 +17,17 @@ use Rattle.notation.proofs.Laws.Refused.Fitting.{Fitting}
 use Rattle.notation.proofs.Laws.Stored.Reads.{paths-read, steps-read, labels-read, there}
 use Rattle.notation.proofs.Laws.Stored.ReadPaths.{label-read}
 use Rattle.notation.proofs.Laws.Refused.AcceptedSet.{accepted-fits}
-use Rattle.theory.specs.Words.{document, name, Word, before, labelWords, begins}
-use Rattle.theory.specs.Prefix.{IsPrefix, failure}
-use Rattle.theory.specs.Walk.{followedBy}
-use Rattle.theory.specs.Calls.{fresh}
+use Rattle.model.specs.Words.{document, name, Word, before, labelWords, begins}
+use Rattle.model.specs.Prefix.{IsPrefix, failure}
+use Rattle.model.specs.Walk.{followedBy}
+use Rattle.model.specs.Calls.{fresh}
 use Rattle.stored.specs.Automaton.{hashes, maskSize, masksAt, allLabels, allWords, stateOf, heads, headOf, links, roles, roleAt, masks, bitBytes, byteOf, startState, automatonOf, maskTest, maskCount, allMasks, Link}
 use Rattle.stored.specs.Tables.{startOf, sizeAt, sizeOf}
 use Rattle.stored.specs.Bits.{bitOf, bitIn}
 use Rattle.stored.specs.Compiled.{LabelStep, Compiled}
 use Rattle.text.proofs.Laws.Tests.{cases}
-use Rattle.theory.proofs.Laws.Keywords.Prefix.{longest-end}
-use Rattle.theory.proofs.Laws.Keywords.Labels.{LabelWord}
+use Rattle.model.proofs.Laws.Keywords.Prefix.{longest-end}
+use Rattle.model.proofs.Laws.Keywords.Labels.{LabelWord}
 use Rattle.stored.proofs.Laws.Bytes.Tabulate.{tabulate-length}
 use Rattle.stored.proofs.Laws.Bytes.Bits.{bit-small, bits-bit}
 use Rattle.stored.proofs.Laws.Tables.States.{words-count, among-label, at-among, state-empty, state-root, StateKind, ofEmpty, ofRoot, ofLabel, state-kind, state-one, state-none, state-within}

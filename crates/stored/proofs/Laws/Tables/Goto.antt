@@ -15,13 +15,13 @@ use Rattle.text.specs.Names.{Name, sameName}
 use Rattle.notation.specs.Limits.{maxLabels}
 use Rattle.notation.specs.Sets.{FolderSet}
 use Rattle.notation.specs.Reads.{labelName}
-use Rattle.theory.specs.Words.{Word}
-use Rattle.theory.specs.Prefix.{IsPrefix}
-use Rattle.theory.specs.Walk.{followedBy}
+use Rattle.model.specs.Words.{Word}
+use Rattle.model.specs.Prefix.{IsPrefix}
+use Rattle.model.specs.Walk.{followedBy}
 use Rattle.stored.specs.Automaton.{hashes, hashFrom, hash, find, allLabels, allWords, sameWord, stateOf, shortened, hasHash, headOf, nexts}
 use Rattle.stored.specs.Tables.{headAt, nextAt, parentAt, follows, gotoFrom, goto}
 use Rattle.text.proofs.Laws.Tests.{cases, clash, both, both-true}
-use Rattle.theory.proofs.Laws.Keywords.Words.{same-name, name-same}
+use Rattle.model.proofs.Laws.Keywords.Words.{same-name, name-same}
 use Rattle.stored.proofs.Laws.Bytes.Finding.{find-here, find-later, find-empty}
 use Rattle.stored.proofs.Laws.Tables.States.{same-word, word-same, shortened-followed, followed-last, words-count, word-ends, label-parent, state-followed, state-one}
 

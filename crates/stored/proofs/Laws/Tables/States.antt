@@ -10,13 +10,13 @@ use Rattle.text.specs.Names.{Name}
 use Rattle.notation.specs.Sets.{child, descendant, label, star, step, Path, FolderSet}
 use Rattle.notation.specs.Form.{pathsOf, stepsOf, labelsOf}
 use Rattle.notation.proofs.Laws.Scan.TableSizes.{labels-append}
-use Rattle.theory.specs.Words.{document, name, Word, sameSymbol, before, labelWords, Begins, begins}
-use Rattle.theory.specs.Prefix.{IsPrefix}
-use Rattle.theory.specs.Walk.{followedBy}
+use Rattle.model.specs.Words.{document, name, Word, sameSymbol, before, labelWords, Begins, begins}
+use Rattle.model.specs.Prefix.{IsPrefix}
+use Rattle.model.specs.Walk.{followedBy}
 use Rattle.stored.specs.Automaton.{find, allLabels, wordsIn, allWords, sameWord, stateAmong, stateOf, shortened}
 use Rattle.text.proofs.Laws.Tests.{both, both-true, cases, clash}
-use Rattle.theory.proofs.Laws.Keywords.Words.{same-symbol, symbol-same, begins-is, is-begins, begins-shorter}
-use Rattle.theory.proofs.Laws.Keywords.Labels.{LabelWord, begins-label, Kind, empty, root, labelled, begins-kind}
+use Rattle.model.proofs.Laws.Keywords.Words.{same-symbol, symbol-same, begins-is, is-begins, begins-shorter}
+use Rattle.model.proofs.Laws.Keywords.Labels.{LabelWord, begins-label, Kind, empty, root, labelled, begins-kind}
 use Rattle.stored.proofs.Laws.Bytes.Finding.{find-none, find-some}
 
 pub same-word : (u v : Word) → sameWord u v ≡ true → u ≡ v

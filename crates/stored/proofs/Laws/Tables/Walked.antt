@@ -10,17 +10,17 @@ use lib.Dec.{eqb}
 use lib.ListN.{length, getD}
 use Rattle.text.specs.Names.{Name}
 use Rattle.notation.specs.Sets.{FolderSet}
-use Rattle.theory.specs.Words.{Word, begins}
-use Rattle.theory.specs.Prefix.{IsPrefix, longestEnd, failure}
-use Rattle.theory.specs.Walk.{followedBy, Walked, walked, counted, stuck, arrive, walkIn, walk}
+use Rattle.model.specs.Words.{Word, begins}
+use Rattle.model.specs.Prefix.{IsPrefix, longestEnd, failure}
+use Rattle.model.specs.Walk.{followedBy, Walked, walked, counted, stuck, arrive, walkIn, walk}
 use Rattle.stored.specs.Automaton.{allLabels, allWords, stateAmong, stateOf}
 use Rattle.stored.specs.Tables.{failAt, sizeOf, failOf, goto, oneMore, walkFrom, walkOver}
 use Rattle.stored.specs.Compiled.{storedWalk}
 use Rattle.stored.specs.declared.walk.Walk.{Walk}
 use Rattle.text.proofs.Laws.Tests.{cases}
-use Rattle.theory.proofs.Laws.Keywords.Words.{begins-is}
-use Rattle.theory.proofs.Laws.Keywords.Prefix.{failure-is, failure-shorter}
-use Rattle.theory.proofs.Laws.Keywords.Labels.{begins-label}
+use Rattle.model.proofs.Laws.Keywords.Words.{begins-is}
+use Rattle.model.proofs.Laws.Keywords.Prefix.{failure-is, failure-shorter}
+use Rattle.model.proofs.Laws.Keywords.Labels.{begins-label}
 use Rattle.stored.proofs.Laws.Tables.States.{label-state, StateKind, ofEmpty, ofRoot, ofLabel, state-kind, state-empty, state-none}
 use Rattle.stored.proofs.Laws.Tables.Goto.{Linked, goto-is}
 

@@ -3,7 +3,7 @@ use mathlib.Core.Path.{_≡_, sym, _∙_}
 use Prim.Native.Nat.{_+_, _-_, _≤_}
 use native.Mathlib.Nat.{add-zero, sub-zero}
 use borrow.Author.Needs.{needs}
-use Rattle.theory.specs.Folders.{countFrom}
+use Rattle.model.specs.Folders.{countFrom}
 use Rattle.stored.specs.Asking.{placeMatched, anyMatched}
 use Rattle.stored.proofs.Laws.Running.Answered.{any-none, any-here, any-next}
 use Rattle.machine.proofs.run.matches.any_matched.Statement.{statement}

@@ -7,7 +7,7 @@ use borrow.Author.Tests.{eq-eqb, ne-eqb}
 use Rattle.notation.specs.Limits.{maxSteps}
 use Rattle.text.specs.Answers.{refused, value}
 use Rattle.text.proofs.Laws.Said.{said-value, said-refused}
-use Rattle.theory.specs.Limits.{maxDepth}
+use Rattle.model.specs.Limits.{maxDepth}
 use Rattle.stored.specs.RunCalls.{openRefusal, afterOpen, openCounters}
 use Rattle.stored.specs.declared.walk.Walk.{Walk}
 use Rattle.stored.proofs.Laws.Shapes.Given.{may-open, open-others}

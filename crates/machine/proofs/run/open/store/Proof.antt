@@ -2,7 +2,7 @@ use native.Mathlib.Omega.{arith}
 use native.Mathlib.Numerals.{add-one}
 use mathlib.Core.Path.{_∙_}
 use Prim.Native.Nat.{_+_}
-use Rattle.theory.specs.Limits.{maxDepth}
+use Rattle.model.specs.Limits.{maxDepth}
 use Rattle.stored.specs.Run.{rowSize, runSize}
 use Rattle.stored.proofs.Laws.Running.Rows.{row-width, row-back}
 use borrow.Author.Needs.{needs}

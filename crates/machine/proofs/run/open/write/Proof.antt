@@ -3,7 +3,7 @@ use mathlib.Core.Path.{sym, _∙_}
 use Prim.Native.Nat.{_≤_}
 use lib.ListN.{take}
 use lib.Seq.{length-take-le}
-use Rattle.theory.specs.Limits.{maxDepth}
+use Rattle.model.specs.Limits.{maxDepth}
 use Rattle.stored.specs.Automaton.{maskSize}
 use Rattle.stored.specs.Run.{matchesAt}
 use Rattle.stored.specs.RunCalls.{usedBytes}

@@ -1,6 +1,6 @@
 use mathlib.Core.Path.{sym, _∙_}
 use borrow.Author.Tests.{le-leb, lt-leb}
-use Rattle.theory.specs.Limits.{maxDepth, maxOpens}
+use Rattle.model.specs.Limits.{maxDepth, maxOpens}
 use Rattle.text.specs.Order.{first, given}
 use Rattle.stored.proofs.Laws.Shapes.Given.{open-name, open-named}
 use borrow.Author.Needs.{needs}

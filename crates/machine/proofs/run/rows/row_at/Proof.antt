@@ -1,5 +1,5 @@
 use native.Mathlib.Omega.{arith}
-use Rattle.theory.specs.Limits.{maxDepth}
+use Rattle.model.specs.Limits.{maxDepth}
 use Rattle.stored.specs.Run.{rowsAt, rowSize, runSize}
 use Rattle.machine.proofs.run.rows.row_at.Statement.{statement}
 use Rattle.machine.proofs.run.rows.row_at.Tie as tie

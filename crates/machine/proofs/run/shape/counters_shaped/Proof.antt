@@ -2,7 +2,7 @@ use native.Mathlib.Omega.{arith}
 use borrow.Author.Tests.{lt-leb, le-leb, eq-eqb, ne-eqb}
 use Prim.Native.Nat.{_+_}
 use mathlib.Core.Path.{_≡_}
-use Rattle.theory.specs.Limits.{maxDepth, maxOpens}
+use Rattle.model.specs.Limits.{maxDepth, maxOpens}
 use Rattle.stored.specs.RunCalls.{countersShaped, depthOf}
 use borrow.Author.Needs.{needs}
 use Rattle.machine.proofs.run.shape.counters_shaped.Statement.{statement}

@@ -4,7 +4,7 @@ use mathlib.Core.Bool.{true}
 use Prim.Native.Nat.{_+_, _-_, _≤_}
 use borrow.Author.Tests.{not-true, not-false}
 use borrow.Author.Needs.{needs}
-use Rattle.theory.specs.Limits.{maxDepth}
+use Rattle.model.specs.Limits.{maxDepth}
 use Rattle.stored.specs.Shape.{allBelow}
 use Rattle.stored.specs.RunCalls.{depthOf, rowShaped}
 use Rattle.stored.proofs.Laws.Bytes.AllBelow.{all-none, all-more}

@@ -1,5 +1,5 @@
 use native.Mathlib.Omega.{arith}
-use Rattle.theory.specs.Limits.{maxOpens}
+use Rattle.model.specs.Limits.{maxOpens}
 use Rattle.stored.specs.RunCalls.{closeCounters}
 use borrow.Author.Needs.{needs}
 use Rattle.stored.proofs.counters.Counters.after_close.Statement.{statement}

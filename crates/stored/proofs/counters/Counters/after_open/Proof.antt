@@ -1,5 +1,5 @@
 use native.Mathlib.Omega.{arith}
-use Rattle.theory.specs.Limits.{maxDepth, maxOpens}
+use Rattle.model.specs.Limits.{maxDepth, maxOpens}
 use borrow.Author.Needs.{needs}
 use Rattle.stored.proofs.counters.Counters.after_open.Statement.{statement}
 use Rattle.stored.proofs.counters.Counters.after_open.Tie as tie

@@ -6,7 +6,7 @@ use mathlib.Core.List.{List, [], _∷_, _++_, map, reverse}
 use Rattle.text.specs.Names.{Name}
 use Rattle.notation.specs.Sets.{FolderSet}
 use Rattle.notation.specs.Fit.{Fits}
-use Rattle.theory.specs.Calls.{asLeft, Call, openCall, closeCall, State, fresh, accepted, step, run, openNames, pathOfPlace, activeStep}
+use Rattle.model.specs.Calls.{asLeft, Call, openCall, closeCall, State, fresh, accepted, step, run, openNames, pathOfPlace, activeStep}
 
 -- the accepted calls, the last first; `earlier` are those before the list
 unfoldable pub acceptedAfter : FolderSet → State → List Call → List Call → List Call

@@ -7,7 +7,7 @@ use mathlib.Core.List.{List, [], _∷_, _++_, map, tail}
 use lib.ListN.{length}
 use Rattle.text.specs.Names.{Name}
 use Rattle.notation.specs.Sets.{FolderSet}
-use Rattle.theory.specs.Words.{document, name, Word, Begins, begins}
+use Rattle.model.specs.Words.{document, name, Word, Begins, begins}
 
 -- `# n1 .. nm`, for the open names n1 .. nm
 abbrev pub wordOf : List Name → Word

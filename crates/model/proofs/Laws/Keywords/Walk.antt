@@ -7,12 +7,12 @@ use native.Mathlib.Omega.{arith}
 use lib.ListN.{length, length-append}
 use Rattle.text.specs.Names.{Name}
 use Rattle.notation.specs.Sets.{FolderSet}
-use Rattle.theory.specs.Words.{Symbol, document, name, Word, Begins, begins}
-use Rattle.theory.specs.Prefix.{wordOf, LongestProperEnd, longestEnd, prefixOf, failure}
-use Rattle.theory.specs.Walk.{followedBy, Walks, follows, stops, falls, Walked, walked, movesOf, arrivedAt, counted, arrive, walkIn, walk}
+use Rattle.model.specs.Words.{Symbol, document, name, Word, Begins, begins}
+use Rattle.model.specs.Prefix.{wordOf, LongestProperEnd, longestEnd, prefixOf, failure}
+use Rattle.model.specs.Walk.{followedBy, Walks, follows, stops, falls, Walked, walked, movesOf, arrivedAt, counted, arrive, walkIn, walk}
 use Rattle.text.proofs.Laws.Tests.{cases, clash}
-use Rattle.theory.proofs.Laws.Keywords.Words.{begins-is, is-begins}
-use Rattle.theory.proofs.Laws.Keywords.Prefix.{longest-yes, longest-no, longest-append, failure-is, failure-only, failure-shorter}
+use Rattle.model.proofs.Laws.Keywords.Words.{begins-is, is-begins}
+use Rattle.model.proofs.Laws.Keywords.Prefix.{longest-yes, longest-no, longest-append, failure-is, failure-only, failure-shorter}
 
 abbrev pub IsWalk : FolderSet → Name → Word → Walked → Type 0
 IsWalk set e w r = Walks set e w (movesOf r) (arrivedAt r)

@@ -12,15 +12,15 @@ use Rattle.notation.specs.Sets.{FolderSet}
 use Rattle.notation.specs.Fit.{Active}
 use Rattle.notation.specs.Activity.{active}
 use Rattle.notation.proofs.Laws.Meaning.Fit.{active-is}
-use Rattle.theory.specs.Limits.{maxDepth, maxOpens}
-use Rattle.theory.specs.Prefix.{CurrentPrefix, prefixOf}
-use Rattle.theory.specs.Calls.{asLeft, Call, openCall, State, openNames, depth, pathOfPlace, activeStep, fresh, opened, after, run}
-use Rattle.theory.specs.History.{stillOpen, opensOf, SameAnswers}
-use Rattle.theory.proofs.Laws.Keywords.Prefix.{current-prefix}
-use Rattle.theory.proofs.Laws.Machine.Calls.{Openable, accepted-open}
-use Rattle.theory.proofs.Laws.Machine.Sound.{run-prefix, run-depth, run-names}
-use Rattle.theory.proofs.Laws.Machine.History.{run-names-counted}
-use Rattle.theory.proofs.Laws.Machine.Steps.{step-accepted, names-opened}
+use Rattle.model.specs.Limits.{maxDepth, maxOpens}
+use Rattle.model.specs.Prefix.{CurrentPrefix, prefixOf}
+use Rattle.model.specs.Calls.{asLeft, Call, openCall, State, openNames, depth, pathOfPlace, activeStep, fresh, opened, after, run}
+use Rattle.model.specs.History.{stillOpen, opensOf, SameAnswers}
+use Rattle.model.proofs.Laws.Keywords.Prefix.{current-prefix}
+use Rattle.model.proofs.Laws.Machine.Calls.{Openable, accepted-open}
+use Rattle.model.proofs.Laws.Machine.Sound.{run-prefix, run-depth, run-names}
+use Rattle.model.proofs.Laws.Machine.History.{run-names-counted}
+use Rattle.model.proofs.Laws.Machine.Steps.{step-accepted, names-opened}
 
 -- the current prefix is the one that paper 01 defines for the names opened and not yet closed
 pub run-current-prefix : (set : FolderSet) (calls : List Call) → CurrentPrefix set (stillOpen set calls) (run set calls .current)

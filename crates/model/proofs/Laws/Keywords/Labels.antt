@@ -8,8 +8,8 @@ use lib.ListN.{length, length-append}
 use Rattle.text.specs.Names.{Name}
 use Rattle.notation.specs.Sets.{child, descendant, label, star, step, Path, FolderSet}
 use Rattle.notation.specs.Form.{pathsOf}
-use Rattle.theory.specs.Words.{Symbol, document, name, Word, ended, cut, before, keywords, labelWords, Begins}
-use Rattle.theory.specs.Walk.{followedBy}
+use Rattle.model.specs.Words.{Symbol, document, name, Word, ended, cut, before, keywords, labelWords, Begins}
+use Rattle.model.specs.Walk.{followedBy}
 
 -- no keyword is empty
 ended-some : (w k : Word) → List·Memᴰ k (ended w) → (k ≡ w) × (k ≡ [] → ⊥)

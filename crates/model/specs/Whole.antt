@@ -7,12 +7,12 @@ use mathlib.Core.List.{List}
 use lib.ListN.{length}
 use Rattle.notation.specs.Sets.{FolderSet}
 use Rattle.notation.specs.Fit.{Active}
-use Rattle.theory.specs.Prefix.{CurrentPrefix}
-use Rattle.theory.specs.Calls.{Call, State, openNames, pathOfPlace, activeStep, run}
-use Rattle.theory.specs.History.{acceptedCalls, opensIn, closesIn, stillOpen, FittedAfterOpen, opensOf, SameAnswers}
-use Rattle.theory.specs.Moves.{MovesCounted}
-use Rattle.theory.specs.Elements.{elementsOf, childlessDepths}
-use Rattle.theory.specs.Folders.{FolderMatched, folderMatched}
+use Rattle.model.specs.Prefix.{CurrentPrefix}
+use Rattle.model.specs.Calls.{Call, State, openNames, pathOfPlace, activeStep, run}
+use Rattle.model.specs.History.{acceptedCalls, opensIn, closesIn, stillOpen, FittedAfterOpen, opensOf, SameAnswers}
+use Rattle.model.specs.Moves.{MovesCounted}
+use Rattle.model.specs.Elements.{elementsOf, childlessDepths}
+use Rattle.model.specs.Folders.{FolderMatched, folderMatched}
 
 pub record Whole (set : FolderSet) (calls : List Call) (s : State) : Type 0 where
   -- the matched paths are exactly those that fitted right after some accepted open

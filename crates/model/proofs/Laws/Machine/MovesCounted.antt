@@ -4,17 +4,17 @@ use mathlib.Core.Path.{_≡_, refl, sym, _∙_, ap, ap₂}
 use mathlib.Core.List.{List, [], _∷_, reverse}
 use Rattle.text.specs.Names.{Name}
 use Rattle.notation.specs.Sets.{FolderSet}
-use Rattle.theory.specs.Words.{Word}
-use Rattle.theory.specs.Prefix.{prefixOf}
-use Rattle.theory.specs.Walk.{movesOf, arrivedAt, walk}
-use Rattle.theory.specs.Calls.{asLeft, Call, openCall, closeCall, level, State, fresh, opened, closedFrom, run}
-use Rattle.theory.specs.History.{acceptedCalls, namesLeft}
-use Rattle.theory.specs.Moves.{OpenMoves, MovesCounted, none, anOpen, aClose}
-use Rattle.theory.proofs.Laws.Keywords.Prefix.{current-prefix, current-prefix-only}
-use Rattle.theory.proofs.Laws.Keywords.Walk.{walk-is, walk-only}
-use Rattle.theory.proofs.Laws.Machine.Calls.{Openable, Closable, always}
-use Rattle.theory.proofs.Laws.Machine.History.{Counted, fresh-counted, open-counted, close-counted}
-use Rattle.theory.proofs.Laws.Machine.Sound.{Sound, fresh-sound, open-sound, close-sound}
+use Rattle.model.specs.Words.{Word}
+use Rattle.model.specs.Prefix.{prefixOf}
+use Rattle.model.specs.Walk.{movesOf, arrivedAt, walk}
+use Rattle.model.specs.Calls.{asLeft, Call, openCall, closeCall, level, State, fresh, opened, closedFrom, run}
+use Rattle.model.specs.History.{acceptedCalls, namesLeft}
+use Rattle.model.specs.Moves.{OpenMoves, MovesCounted, none, anOpen, aClose}
+use Rattle.model.proofs.Laws.Keywords.Prefix.{current-prefix, current-prefix-only}
+use Rattle.model.proofs.Laws.Keywords.Walk.{walk-is, walk-only}
+use Rattle.model.proofs.Laws.Machine.Calls.{Openable, Closable, always}
+use Rattle.model.proofs.Laws.Machine.History.{Counted, fresh-counted, open-counted, close-counted}
+use Rattle.model.proofs.Laws.Machine.Sound.{Sound, fresh-sound, open-sound, close-sound}
 
 -- an open from the current prefix of the names makes the moves that its computed walk counts
 pub open-moves : (set : FolderSet) (names : List Name) (w : Word) (e : Name) → w ≡ prefixOf set names → OpenMoves set names e (movesOf (walk set w e))

@@ -13,11 +13,11 @@ use Rattle.notation.specs.Sets.{Path, FolderSet}
 use Rattle.notation.specs.Form.{pathsOf}
 use Rattle.notation.specs.Activity.{fits}
 use Rattle.notation.proofs.Laws.Meaning.Fit.{fits-is}
-use Rattle.theory.specs.Calls.{asLeft, otherwise, Call, openCall, closeCall, Level, level, State, openNames, pathOfPlace, fresh, opened, closedFrom, accepted, done, step, after, run}
-use Rattle.theory.specs.History.{FittedAfterOpen}
+use Rattle.model.specs.Calls.{asLeft, otherwise, Call, openCall, closeCall, Level, level, State, openNames, pathOfPlace, fresh, opened, closedFrom, accepted, done, step, after, run}
+use Rattle.model.specs.History.{FittedAfterOpen}
 use Rattle.text.proofs.Laws.Tests.{cases, clash, either, either-left, either-right}
-use Rattle.theory.proofs.Laws.Machine.Calls.{lent-otherwise-open, lent-otherwise-close}
-use Rattle.theory.proofs.Laws.Machine.Steps.{step-accepted, step-refused, after-append, one-more}
+use Rattle.model.proofs.Laws.Machine.Calls.{lent-otherwise-open, lent-otherwise-close}
+use Rattle.model.proofs.Laws.Machine.Steps.{step-accepted, step-refused, after-append, one-more}
 
 -- this call is an accepted open, and the path fits right after it
 pub record OpenFits (set : FolderSet) (s : State) (call : Call) (place : ℕ) : Type 0 where

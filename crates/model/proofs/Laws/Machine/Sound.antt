@@ -12,15 +12,15 @@ use borrow.Author.Tests.{leb-false, lt-ltb}
 use Rattle.text.specs.Names.{maxName, Name, nameForm, tooLong}
 use Rattle.notation.specs.Sets.{FolderSet}
 use Rattle.text.specs.Lists.{nonEmpty}
-use Rattle.theory.specs.Limits.{maxDepth, maxOpens}
-use Rattle.theory.specs.Words.{Word}
-use Rattle.theory.specs.Prefix.{longestEnd, prefixOf}
-use Rattle.theory.specs.Walk.{walk, arrivedAt}
-use Rattle.theory.specs.Calls.{Call, Level, level, nameOf, State, namesOf, openNames, depth, nothingOpen, fresh, opened, closedFrom, run}
-use Rattle.theory.proofs.Laws.Keywords.Prefix.{length-prefix}
-use Rattle.theory.proofs.Laws.Keywords.Walk.{walk-current}
-use Rattle.theory.proofs.Laws.Machine.Calls.{Openable, Closable, always}
-use Rattle.theory.proofs.Laws.Machine.Steps.{names-opened}
+use Rattle.model.specs.Limits.{maxDepth, maxOpens}
+use Rattle.model.specs.Words.{Word}
+use Rattle.model.specs.Prefix.{longestEnd, prefixOf}
+use Rattle.model.specs.Walk.{walk, arrivedAt}
+use Rattle.model.specs.Calls.{Call, Level, level, nameOf, State, namesOf, openNames, depth, nothingOpen, fresh, opened, closedFrom, run}
+use Rattle.model.proofs.Laws.Keywords.Prefix.{length-prefix}
+use Rattle.model.proofs.Laws.Keywords.Walk.{walk-current}
+use Rattle.model.proofs.Laws.Machine.Calls.{Openable, Closable, always}
+use Rattle.model.proofs.Laws.Machine.Steps.{names-opened}
 
 -- of the open elements, innermost first: each name is well formed, and each element keeps the current prefix of the names around it
 pub data Kept (set : FolderSet) : List Level → Type 0 where

@@ -4,11 +4,11 @@ use mathlib.Core.List.{List, [], _∷_}
 use native.Mathlib.Omega.{arith}
 use Rattle.text.specs.Names.{Name}
 use Rattle.notation.specs.Sets.{FolderSet}
-use Rattle.theory.specs.Limits.{maxDepth}
-use Rattle.theory.specs.Calls.{asLeft, Call, openCall, level, State, fresh, opened, closedFrom, run}
-use Rattle.theory.proofs.Laws.Keywords.Walk.{walk-moves}
-use Rattle.theory.proofs.Laws.Machine.Calls.{Openable, Closable, always}
-use Rattle.theory.proofs.Laws.Machine.Sound.{Sound, fresh-sound, open-sound, close-sound, current-length}
+use Rattle.model.specs.Limits.{maxDepth}
+use Rattle.model.specs.Calls.{asLeft, Call, openCall, level, State, fresh, opened, closedFrom, run}
+use Rattle.model.proofs.Laws.Keywords.Walk.{walk-moves}
+use Rattle.model.proofs.Laws.Machine.Calls.{Openable, Closable, always}
+use Rattle.model.proofs.Laws.Machine.Sound.{Sound, fresh-sound, open-sound, close-sound, current-length}
 
 -- what every list of calls keeps, with the bound
 abbrev pub Few : FolderSet → State → List Call → Type 0

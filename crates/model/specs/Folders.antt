@@ -7,7 +7,7 @@ use lib.Dec.{eqb}
 use lib.ListN.{length}
 use Rattle.notation.specs.Sets.{Folder, folder, FolderSet}
 use Rattle.text.specs.Lists.{any}
-use Rattle.theory.specs.Calls.{State}
+use Rattle.model.specs.Calls.{State}
 
 -- as many numbers as `count`, from `first` on
 unfoldable pub countFrom : ℕ → ℕ → List ℕ

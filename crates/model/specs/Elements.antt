@@ -3,7 +3,7 @@ use Prim.Native.Nat.{ℕ, suc, _+_}
 use mathlib.Core.Bool.{Bool, true, false}
 use mathlib.Core.List.{List, [], _∷_}
 use lib.ListN.{length}
-use Rattle.theory.specs.Calls.{Call, openCall, closeCall}
+use Rattle.model.specs.Calls.{Call, openCall, closeCall}
 
 -- an element's depth, and whether it is childless so far
 pub data Element : Type 0 where

@@ -11,10 +11,10 @@ use Rattle.notation.specs.Form.{pathsOf}
 use Rattle.text.specs.Lists.{nonEmpty}
 use Rattle.text.specs.Refusals.{Refusal, syntaxError, nameTooLong, notOneRoot, tooDeep, overCapacity, mismatchedClose}
 use Rattle.notation.specs.Activity.{active, fits}
-use Rattle.theory.specs.Limits.{maxDepth, maxOpens}
-use Rattle.theory.specs.Words.{document, Word, begins}
+use Rattle.model.specs.Limits.{maxDepth, maxOpens}
+use Rattle.model.specs.Words.{document, Word, begins}
 use Rattle.text.specs.Order.{Condition, gives, first, isNone}
-use Rattle.theory.specs.Walk.{movesOf, arrivedAt, walk}
+use Rattle.model.specs.Walk.{movesOf, arrivedAt, walk}
 
 -- what a call was lent: automaton, run and counters as last left, or anything else. One lent anything else is in a list of calls only
 -- if it was refused

@@ -5,8 +5,8 @@ use mathlib.Core.List.{[], _∷_, _++_}
 use lib.ListN.{length}
 use Rattle.text.specs.Names.{Name}
 use Rattle.notation.specs.Sets.{FolderSet}
-use Rattle.theory.specs.Words.{Symbol, name, Word, Begins, begins}
-use Rattle.theory.specs.Prefix.{LongestProperEnd, failure}
+use Rattle.model.specs.Words.{Symbol, name, Word, Begins, begins}
+use Rattle.model.specs.Prefix.{LongestProperEnd, failure}
 
 -- the word followed by e
 abbrev pub followedBy : Word → Name → Word

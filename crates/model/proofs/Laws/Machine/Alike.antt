@@ -8,9 +8,9 @@ use Rattle.text.specs.Names.{Name, sameName}
 use Rattle.notation.specs.Sets.{FolderSet}
 use Rattle.text.specs.Lists.{nonEmpty}
 use Rattle.text.specs.Order.{first}
-use Rattle.theory.specs.Calls.{Call, openCall, closeCall, Level, level, nameOf, State, openNames, fresh, opened, closedFrom, isInnermost, refusal, accepted, done, step, after, run}
+use Rattle.model.specs.Calls.{Call, openCall, closeCall, Level, level, nameOf, State, openNames, fresh, opened, closedFrom, isInnermost, refusal, accepted, done, step, after, run}
 use Rattle.text.proofs.Laws.Tests.{cases}
-use Rattle.theory.proofs.Laws.Machine.Steps.{step-accepted, step-refused}
+use Rattle.model.proofs.Laws.Machine.Steps.{step-accepted, step-refused}
 
 -- all but prefixes, matches and failure moves
 pub record Alike (s t : State) : Type 0 where

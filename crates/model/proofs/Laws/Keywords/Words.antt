@@ -7,7 +7,7 @@ use Rattle.notation.specs.Sets.{FolderSet}
 use Rattle.notation.specs.Form.{pathsOf}
 use Rattle.text.specs.Lists.{any}
 use Rattle.text.proofs.Laws.Bytes.SameName.{sameName-is}
-use Rattle.theory.specs.Words.{Symbol, document, name, Word, keywords, Begins, sameSymbol, startsWith, begins}
+use Rattle.model.specs.Words.{Symbol, document, name, Word, keywords, Begins, sameSymbol, startsWith, begins}
 use Rattle.text.proofs.Laws.Tests.{both, both-true, clash}
 use Rattle.text.proofs.Laws.Lists.{any-is, is-any}
 

@@ -11,11 +11,11 @@ use Rattle.notation.specs.Sets.{Path, Folder, folder, FolderSet, folderNumber, 
 use Rattle.notation.specs.Form.{pathsFaults, faultsAfter, faults}
 use Rattle.text.specs.Refusals.{Refusal, outOfOrder}
 use Rattle.notation.specs.Fit.{Fits}
-use Rattle.theory.specs.Calls.{asLeft, Call, openCall, openNames, pathOfPlace, run}
-use Rattle.theory.specs.Folders.{placesOf, folderMatched, HasFolders}
-use Rattle.theory.proofs.Laws.Machine.Matches.{run-matched}
-use Rattle.theory.proofs.Laws.Machine.Folders.{folder-matched, PathOf, place-path, path-place}
-use Rattle.theory.proofs.Laws.Machine.Alike.{same-accepted, same-names}
+use Rattle.model.specs.Calls.{asLeft, Call, openCall, openNames, pathOfPlace, run}
+use Rattle.model.specs.Folders.{placesOf, folderMatched, HasFolders}
+use Rattle.model.proofs.Laws.Machine.Matches.{run-matched}
+use Rattle.model.proofs.Laws.Machine.Folders.{folder-matched, PathOf, place-path, path-place}
+use Rattle.model.proofs.Laws.Machine.Alike.{same-accepted, same-names}
 
 -- a path matched under one set is matched under another that has it, at its place there
 path-matched : (a b : FolderSet) (calls : List Call) (i j : ℕ) → pathOfPlace a i ≡ pathOfPlace b j → run a calls .matched i ≡ true → run b calls .matched j ≡ true

@@ -3,16 +3,16 @@ use mathlib.Core.Path.{subst}
 use mathlib.Core.List.{List}
 use Rattle.text.specs.Names.{Name}
 use Rattle.notation.specs.Sets.{FolderSet}
-use Rattle.theory.specs.Calls.{Call, run}
-use Rattle.theory.specs.History.{opensOf, SameAnswers}
-use Rattle.theory.specs.Whole.{Whole}
-use Rattle.theory.proofs.Laws.Machine.Sound.{run-balance}
-use Rattle.theory.proofs.Laws.Machine.History.{run-opens-counted, run-closes-counted, run-names-counted}
-use Rattle.theory.proofs.Laws.Machine.Matches.{run-matched}
-use Rattle.theory.proofs.Laws.Machine.Answers.{run-current-prefix, run-active, replay}
-use Rattle.theory.proofs.Laws.Machine.MovesCounted.{run-moves-counted}
-use Rattle.theory.proofs.Laws.Machine.Childless.{run-moves-childless}
-use Rattle.theory.proofs.Laws.Machine.Folders.{folder-matched}
+use Rattle.model.specs.Calls.{Call, run}
+use Rattle.model.specs.History.{opensOf, SameAnswers}
+use Rattle.model.specs.Whole.{Whole}
+use Rattle.model.proofs.Laws.Machine.Sound.{run-balance}
+use Rattle.model.proofs.Laws.Machine.History.{run-opens-counted, run-closes-counted, run-names-counted}
+use Rattle.model.proofs.Laws.Machine.Matches.{run-matched}
+use Rattle.model.proofs.Laws.Machine.Answers.{run-current-prefix, run-active, replay}
+use Rattle.model.proofs.Laws.Machine.MovesCounted.{run-moves-counted}
+use Rattle.model.proofs.Laws.Machine.Childless.{run-moves-childless}
+use Rattle.model.proofs.Laws.Machine.Folders.{folder-matched}
 
 pub whole : (set : FolderSet) (calls : List Call) → Whole set calls (run set calls)
 whole set calls = record {

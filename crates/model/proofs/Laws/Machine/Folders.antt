@@ -11,8 +11,8 @@ use lib.Seq.{getD-append-add}
 use borrow.Author.Tests.{eqb-true, eq-eqb}
 use Rattle.notation.specs.Sets.{Path, Folder, folder, FolderSet, folderNumber, folderPaths}
 use Rattle.notation.specs.Form.{pathsOf}
-use Rattle.theory.specs.Calls.{State, pathOfPlace}
-use Rattle.theory.specs.Folders.{countFrom, placesFrom, placesOf, FolderMatched, folderMatched}
+use Rattle.model.specs.Calls.{State, pathOfPlace}
+use Rattle.model.specs.Folders.{countFrom, placesFrom, placesOf, FolderMatched, folderMatched}
 use Rattle.text.proofs.Laws.Tests.{cases}
 use Rattle.text.proofs.Laws.Lists.{any-is, is-any}
 

@@ -8,14 +8,14 @@ use native.Mathlib.Omega.{arith}
 use lib.ListN.{length, length-map, length-reverse}
 use Rattle.text.specs.Names.{Name}
 use Rattle.notation.specs.Sets.{FolderSet}
-use Rattle.theory.specs.Walk.{walk, movesOf, arrivedAt}
-use Rattle.theory.specs.Calls.{asLeft, Call, openCall, closeCall, level, nameOf, State, openNames, depth, fresh, opened, closedFrom, run}
-use Rattle.theory.specs.History.{acceptedCalls, opensIn}
-use Rattle.theory.specs.Elements.{Element, element, Elements, elements, withChild, opening, closing, elementsOf, openElements, closedElements, sumDepths, childlessDepths}
-use Rattle.theory.proofs.Laws.Keywords.Walk.{walk-moves}
-use Rattle.theory.proofs.Laws.Machine.Calls.{Openable, Closable, always}
-use Rattle.theory.proofs.Laws.Machine.History.{run-opens-counted}
-use Rattle.theory.proofs.Laws.Machine.Sound.{Sound, fresh-sound, open-sound, close-sound, current-length}
+use Rattle.model.specs.Walk.{walk, movesOf, arrivedAt}
+use Rattle.model.specs.Calls.{asLeft, Call, openCall, closeCall, level, nameOf, State, openNames, depth, fresh, opened, closedFrom, run}
+use Rattle.model.specs.History.{acceptedCalls, opensIn}
+use Rattle.model.specs.Elements.{Element, element, Elements, elements, withChild, opening, closing, elementsOf, openElements, closedElements, sumDepths, childlessDepths}
+use Rattle.model.proofs.Laws.Keywords.Walk.{walk-moves}
+use Rattle.model.proofs.Laws.Machine.Calls.{Openable, Closable, always}
+use Rattle.model.proofs.Laws.Machine.History.{run-opens-counted}
+use Rattle.model.proofs.Laws.Machine.Sound.{Sound, fresh-sound, open-sound, close-sound, current-length}
 
 -- `Paid gone moves prefix inner`: of the open elements only the innermost can be childless. While it is, the moves and the prefix, bar
 -- its last symbol, are paid by the childless depths, `gone` being those of the closed elements; else the moves are

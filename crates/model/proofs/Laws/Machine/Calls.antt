@@ -7,11 +7,11 @@ use borrow.Author.Tests.{leb-false, lt-leb, not-false}
 use Rattle.text.specs.Names.{Name, nameForm, tooLong}
 use Rattle.notation.specs.Sets.{FolderSet}
 use Rattle.text.proofs.Laws.Bytes.SameName.{sameName-is}
-use Rattle.theory.specs.Limits.{maxDepth, maxOpens}
-use Rattle.theory.specs.Words.{Word}
+use Rattle.model.specs.Limits.{maxDepth, maxOpens}
+use Rattle.model.specs.Words.{Word}
 use Rattle.text.specs.Order.{Condition, holds, first}
-use Rattle.theory.specs.Calls.{asLeft, otherwise, Call, openCall, closeCall, Level, level, State, depth, opened, closedFrom, isInnermost, openOrder, closeOrder, refusal, accepted, done, step, after}
-use Rattle.theory.specs.History.{acceptedAfter}
+use Rattle.model.specs.Calls.{asLeft, otherwise, Call, openCall, closeCall, Level, level, State, depth, opened, closedFrom, isInnermost, openOrder, closeOrder, refusal, accepted, done, step, after}
+use Rattle.model.specs.History.{acceptedAfter}
 use Rattle.text.proofs.Laws.Tests.{cases, clash}
 use Rattle.text.proofs.Laws.Order.{first-none, is-none}
 

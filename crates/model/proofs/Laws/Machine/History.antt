@@ -5,9 +5,9 @@ use mathlib.Core.List.{List, [], _∷_, map, reverse}
 use lib.ListN.{drop}
 use Rattle.text.specs.Names.{Name}
 use Rattle.notation.specs.Sets.{FolderSet}
-use Rattle.theory.specs.Calls.{asLeft, Call, openCall, closeCall, Level, level, nameOf, State, openNames, fresh, opened, closedFrom, run}
-use Rattle.theory.specs.History.{acceptedCalls, opensIn, closesIn, unclosed, stillOpen}
-use Rattle.theory.proofs.Laws.Machine.Calls.{Closable, always}
+use Rattle.model.specs.Calls.{asLeft, Call, openCall, closeCall, Level, level, nameOf, State, openNames, fresh, opened, closedFrom, run}
+use Rattle.model.specs.History.{acceptedCalls, opensIn, closesIn, unclosed, stillOpen}
+use Rattle.model.proofs.Laws.Machine.Calls.{Closable, always}
 
 pub record Counted (s : State) (h : List Call) : Type 0 where
   pub opens : s .opens ≡ opensIn h

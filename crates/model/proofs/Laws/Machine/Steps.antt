@@ -10,9 +10,9 @@ use Rattle.text.specs.Names.{Name}
 use Rattle.notation.specs.Sets.{FolderSet}
 use Rattle.text.specs.Refusals.{Refusal, numberOf}
 use Rattle.text.specs.Order.{refusalOf, FirstOf}
-use Rattle.theory.specs.Calls.{asLeft, Call, openCall, closeCall, Level, nameOf, State, namesOf, openNames, fresh, opened, closedFrom, closed, openOrder, closeOrder, orderOf, refusal, accepted, done, step, after, run}
+use Rattle.model.specs.Calls.{asLeft, Call, openCall, closeCall, Level, nameOf, State, namesOf, openNames, fresh, opened, closedFrom, closed, openOrder, closeOrder, orderOf, refusal, accepted, done, step, after, run}
 use Rattle.text.proofs.Laws.Order.{first-is, is-none, none-is}
-use Rattle.theory.proofs.Laws.Machine.Calls.{Closable, close-accepted}
+use Rattle.model.proofs.Laws.Machine.Calls.{Closable, close-accepted}
 
 -- the orders, by number
 pub open-order : (s : State) (e : Name) → map (λ c. numberOf (refusalOf c)) (openOrder s e) ≡ 9 ∷ 5 ∷ 10 ∷ 11 ∷ 7 ∷ []

@@ -3,11 +3,11 @@ use Prim.Native.Nat.{ℕ, _+_}
 use mathlib.Core.List.{List, [], _∷_}
 use Rattle.text.specs.Names.{Name}
 use Rattle.notation.specs.Sets.{FolderSet}
-use Rattle.theory.specs.Words.{Word}
-use Rattle.theory.specs.Prefix.{CurrentPrefix}
-use Rattle.theory.specs.Walk.{Walks}
-use Rattle.theory.specs.Calls.{Lent, Call, openCall, closeCall}
-use Rattle.theory.specs.History.{namesLeft}
+use Rattle.model.specs.Words.{Word}
+use Rattle.model.specs.Prefix.{CurrentPrefix}
+use Rattle.model.specs.Walk.{Walks}
+use Rattle.model.specs.Calls.{Lent, Call, openCall, closeCall}
+use Rattle.model.specs.History.{namesLeft}
 
 -- an open of name e with these names open makes so many: its walk from their current prefix counts them
 pub record OpenMoves (set : FolderSet) (names : List Name) (e : Name) (moves : ℕ) : Type 0 where
