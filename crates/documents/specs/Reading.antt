@@ -5,9 +5,9 @@ use mathlib.Core.Bool.{Bool, true, false, not, _&&_, _||_, cond}
 use mathlib.Core.List.{List, [], _∷_, _++_}
 use lib.Dec.{eqb}
 use lib.ListN.{length, drop}
-use Rattle.text.specs.Names.{Name, beginsName}
+use Rattle.text.specs.Names.{Name}
 use Rattle.text.specs.Lists.{nonEmpty}
-use Rattle.text.specs.Read.{Read, fail, got, thenRead, when, front, back, readWord, readName, begins}
+use Rattle.text.specs.Read.{Read, fail, got, thenRead, when, front, back, begins, readWord, nameAhead, readName, readMany}
 use Rattle.documents.specs.Tokens.{blank, listed, Part, plain, reference, Quote, double, single, quoteByte, Attribute, attribute, Token, declaration, comment, startTag, emptyTag, endTag, text, declarationBytes, printParts, occurs, amp, lt, gt, quot, apos, inText, inValue, isDeclaration}
 
 abbrev pub readQuote : List ℕ → Read Quote
@@ -23,13 +23,18 @@ readReference l =
     (cond (begins (quot ++ (59 ∷ [])) l) (got quot (drop 5 l))
     (cond (begins (apos ++ (59 ∷ [])) l) (got apos (drop 5 l)) fail))))
 
--- as many parts as there are, of the bytes that pass the test; `steps` bounds their count
-unfoldable pub readParts : ℕ → (ℕ → Bool) → List ℕ → Read (List Part)
-readParts zero ok l = got [] l
-readParts (suc steps) ok [] = got [] []
-readParts (suc steps) ok (b ∷ l) =
-    cond (eqb b 38) (thenRead (readReference l) (λ n r. thenRead (readParts steps ok r) (λ ps r₂. got (reference n ∷ ps) r₂)))
-    (cond (ok b) (thenRead (readParts steps ok l) (λ ps r. got (plain b ∷ ps) r)) (got [] (b ∷ l)))
+-- `&`, or a byte that passes the test
+abbrev pub partAhead : (ℕ → Bool) → List ℕ → Bool
+partAhead ok [] = false
+partAhead ok (b ∷ l) = eqb b 38 || ok b
+
+unfoldable pub readPart : List ℕ → Read Part
+readPart [] = fail
+readPart (b ∷ l) = cond (eqb b 38) (thenRead (readReference l) (λ n r. got (reference n) r)) (got (plain b) l)
+
+-- as many parts as there are
+abbrev pub readParts : (ℕ → Bool) → List ℕ → Read (List Part)
+readParts ok l = readMany (partAhead ok) readPart l
 
 -- an attribute, after the blanks before it
 unfoldable pub readAttributeFrom : List ℕ → List ℕ → Read Attribute
@@ -37,7 +42,7 @@ readAttributeFrom s l =
     thenRead (readName l) (λ n r.
     thenRead (readWord (61 ∷ []) (back blank r)) (λ w r₂.
     thenRead (readQuote (back blank r₂)) (λ q r₃.
-    thenRead (readParts (length r₃) (inValue (quoteByte q)) r₃) (λ v r₄.
+    thenRead (readParts (inValue (quoteByte q)) r₃) (λ v r₄.
     thenRead (readWord (quoteByte q ∷ []) r₄) (λ w r₅.
     got (attribute s n (front blank r) (front blank r₂) q v) r₅)))))
 
@@ -45,20 +50,12 @@ abbrev pub readAttribute : List ℕ → Read Attribute
 readAttribute l = readAttributeFrom (front blank l) (back blank l)
 
 -- blanks, and then a name
-abbrev pub nameAhead : List ℕ → Bool
-nameAhead [] = false
-nameAhead (b ∷ l) = beginsName b
-
 abbrev pub attributeAhead : List ℕ → Bool
 attributeAhead l = nonEmpty (front blank l) && nameAhead (back blank l)
 
--- as many attributes as there are; `steps` bounds their count
-unfoldable pub readAttributes : ℕ → List ℕ → Read (List Attribute)
-readAttributes zero l = got [] l
-readAttributes (suc steps) l =
-    cond (attributeAhead l)
-    (thenRead (readAttribute l) (λ a r. thenRead (readAttributes steps r) (λ m r₂. got (a ∷ m) r₂)))
-    (got [] l)
+-- as many attributes as there are
+abbrev pub readAttributes : List ℕ → Read (List Attribute)
+readAttributes l = readMany attributeAhead readAttribute l
 
 -- the end of a tag: `>` or `/>`
 abbrev pub readTagEnd : Name → List Attribute → List ℕ → List ℕ → Read Token
@@ -70,7 +67,7 @@ readTagEnd n l s (b ∷ r) =
 unfoldable pub readTag : List ℕ → Read Token
 readTag l =
     thenRead (readName l) (λ n r.
-    thenRead (readAttributes (length r) r) (λ m r₂.
+    thenRead (readAttributes r) (λ m r₂.
     readTagEnd n m (front blank r₂) (back blank r₂)))
 
 unfoldable pub readEndTag : List ℕ → Read Token
@@ -104,7 +101,7 @@ textEnds (b ∷ l) = eqb b 60
 
 unfoldable pub readText : List ℕ → Read Token
 readText l =
-    thenRead (readParts (length l) inText l)
+    thenRead (readParts inText l)
     (λ ps r. when (nonEmpty ps && (not (occurs (93 ∷ 93 ∷ 62 ∷ []) (printParts ps)) && textEnds r)) (got (text ps) r))
 
 -- the token that stands at the front of the bytes

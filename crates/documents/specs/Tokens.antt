@@ -7,7 +7,7 @@ use mathlib.Core.List.{List, [], _∷_, _++_}
 use lib.Dec.{eqb}
 use Rattle.text.specs.Names.{Name, within, nameForm, sameName}
 use Rattle.text.specs.Lists.{every, nonEmpty}
-use Rattle.text.specs.Read.{begins}
+use Rattle.text.specs.Read.{begins, printMany}
 
 -- the bytes that a report may have: 9, 10, 13 and 32 to 126
 unfoldable pub listed : ℕ → Bool
@@ -47,9 +47,8 @@ unfoldable pub printPart : Part → List ℕ
 printPart (plain b) = b ∷ []
 printPart (reference n) = 38 ∷ (n ++ (59 ∷ []))
 
-unfoldable pub printParts : List Part → List ℕ
-printParts [] = []
-printParts (p ∷ ps) = printPart p ++ printParts ps
+abbrev pub printParts : List Part → List ℕ
+printParts ps = printMany printPart ps
 
 abbrev pub quoteByte : Quote → ℕ
 quoteByte double = 34
@@ -59,9 +58,8 @@ unfoldable pub printAttribute : Attribute → List ℕ
 printAttribute (attribute s n before after q v) =
     s ++ (n ++ (before ++ (61 ∷ (after ++ (quoteByte q ∷ (printParts v ++ (quoteByte q ∷ [])))))))
 
-unfoldable pub printAttributes : List Attribute → List ℕ
-printAttributes [] = []
-printAttributes (a ∷ l) = printAttribute a ++ printAttributes l
+abbrev pub printAttributes : List Attribute → List ℕ
+printAttributes l = printMany printAttribute l
 
 -- <?xml version="1.0"?>
 unfoldable pub declarationBytes : List ℕ

@@ -55,7 +55,7 @@ pub fn in_value(quote: u8, b: u8) -> bool
 // The parts of a value, after its quote.
 pub fn value_end(s: &[u8], at: usize, quote: u8) -> Reach
     requires { ⌜ at ≤ length (now s) ⌝ }
-    ensures { λ r. ⌜ r ≡ reachOf (length (now (s .entry))) (readParts (length (drop at (now (s .entry)))) (inValue quote) (drop at (now (s .entry)))) ⌝ }
+    ensures { λ r. ⌜ r ≡ reachOf (length (now (s .entry))) (readParts (inValue quote) (drop at (now (s .entry)))) ⌝ }
 {
     let mut i = at;
     while i < s.len() {

@@ -8,4 +8,6 @@ pub mod Decimal
 pub mod Fronts
 pub mod Scans
 pub mod Reads
+pub mod ReadNumber
+pub mod ReadMany
 pub mod Output

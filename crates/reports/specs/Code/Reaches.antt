@@ -15,14 +15,14 @@ reachOf total (got a r) = To (total - length r)
 -- a value up to its quote, and a quoted value after blanks, from an offset
 abbrev pub quotedReach : List ℕ → ℕ → ℕ → Reach
 quotedReach s quote at =
-    reachOf (length s) (thenRead (readParts (length (drop at s)) (inValue quote) (drop at s)) (λ v r. readWord (quote ∷ []) r))
+    reachOf (length s) (thenRead (readParts (inValue quote) (drop at s)) (λ v r. readWord (quote ∷ []) r))
 
 abbrev pub valueReach : List ℕ → ℕ → Reach
 valueReach s at =
     reachOf (length s)
     (thenRead (readQuote (back blank (drop at s)))
-    (λ q r. thenRead (readParts (length r) (inValue (quoteByte q)) r) (λ v r₂. readWord (quoteByte q ∷ []) r₂)))
+    (λ q r. thenRead (readParts (inValue (quoteByte q)) r) (λ v r₂. readWord (quoteByte q ∷ []) r₂)))
 
 -- the attributes and the blanks after them, from an offset
 abbrev pub insideReach : List ℕ → ℕ → Reach
-insideReach s at = reachOf (length s) (thenRead (readAttributes (length (drop at s)) (drop at s)) (λ l r. got l (back blank r)))
+insideReach s at = reachOf (length s) (thenRead (readAttributes (drop at s)) (λ l r. got l (back blank r)))

@@ -7,10 +7,12 @@ use lib.Dec.{ltb}
 use lib.ListN.{length, length-append}
 use borrow.Author.Tests.{lt-ltb, le-ltb, ltb-true, ltb-false, le-leb}
 use Rattle.text.specs.Decimal.{digits, decimal}
-use Rattle.text.proofs.Laws.Tests.{cases, and-left, and-right}
-use mathlib.Core.Bool.{Bool, true}
+use Rattle.text.proofs.Laws.Tests.{cases}
+use Rattle.text.proofs.Laws.Lists.{every-append}
+use mathlib.Core.Bool.{true}
 use Rattle.text.specs.Names.{digit}
 use Rattle.text.specs.Lists.{every}
+use Rattle.text.specs.Read.{valueOf}
 
 -- one turn of `digits`, for a number of one digit and for a longer one
 pub digits-one : (k n : ℕ) → n < 10 → digits (suc k) n ≡ (48 + n) ∷ []
@@ -46,11 +48,6 @@ decimal-more n d pos small =
     let remainder : (10 * n + d) % 10 ≡ d = omega arith in
     rw (digits-more (10 * n + d) (10 * n + d) (omega arith), quotient, remainder, digits-same (10 * n + d) (suc n) n (omega arith) (omega arith))
 
-every-snoc : (p : ℕ → Bool) (l : List ℕ) (b : ℕ) → every p l ≡ true → p b ≡ true → every p (l ++ (b ∷ [])) ≡ true
-unfolding every
-every-snoc p [] b hl hb = rw hb
-every-snoc p (a ∷ l) b hl hb = rw (and-left (p a) (every p l) hl, every-snoc p l b (and-right (p a) (every p l) hl) hb)
-
 is-digit : (d : ℕ) → d < 10 → digit (48 + d) ≡ true
 unfolding digit
 is-digit d h = rw (le-leb 48 (48 + d) (omega arith), le-leb (48 + d) 57 (omega arith))
@@ -65,20 +62,15 @@ digits-all (suc k) n =
     rw (digits-one k n small, is-digit n small))
     (λ f.
     rw (digits-more k n (ltb-false n 10 f))
-    (every-snoc digit (digits k (n / 10)) (48 + n % 10) (digits-all k (n / 10)) (is-digit (n % 10) (omega arith))))
+    (every-append digit (digits k (n / 10)) ((48 + n % 10) ∷ []) (digits-all k (n / 10)) (rw (is-digit (n % 10) (omega arith)))))
 
--- the number that some digits after a value make
-value : ℕ → List ℕ → ℕ
-value n [] = n
-value n (b ∷ l) = value (10 * n + (b - 48)) l
-
-value-snoc : (l : List ℕ) (n b : ℕ) → value n (l ++ (b ∷ [])) ≡ 10 * value n l + (b - 48)
-unfolding value
+value-snoc : (l : List ℕ) (n b : ℕ) → valueOf n (l ++ (b ∷ [])) ≡ 10 * valueOf n l + (b - 48)
+unfolding valueOf
 value-snoc [] n b = refl
 value-snoc (a ∷ l) n b = value-snoc l (10 * n + (a - 48)) b
 
-digits-value : (k n : ℕ) → n < k → value 0 (digits k n) ≡ n
-unfolding value
+digits-value : (k n : ℕ) → n < k → valueOf 0 (digits k n) ≡ n
+unfolding valueOf
 digits-value zero n h = absurd (omega arith)
 digits-value (suc k) n h =
     cases (ltb n 10)
@@ -91,9 +83,12 @@ pub decimal-digits : (n : ℕ) → every digit (decimal n) ≡ true
 unfolding decimal
 decimal-digits n = digits-all (suc n) n
 
-pub decimal-same : (m n : ℕ) → decimal m ≡ decimal n → m ≡ n
+pub decimal-value : (n : ℕ) → valueOf 0 (decimal n) ≡ n
 unfolding decimal
-decimal-same m n e = sym (digits-value (suc m) m (omega arith)) ∙ ap (value 0) e ∙ digits-value (suc n) n (omega arith)
+decimal-value n = digits-value (suc n) n (omega arith)
+
+pub decimal-same : (m n : ℕ) → decimal m ≡ decimal n → m ≡ n
+decimal-same m n e = sym (decimal-value m) ∙ ap (valueOf 0) e ∙ decimal-value n
 
 pub decimal-small : (n : ℕ) → n < 10 → (48 + n) ∷ [] ≡ decimal n
 decimal-small n h = sym (decimal-one n h)

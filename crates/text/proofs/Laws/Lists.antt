@@ -7,7 +7,7 @@ use mathlib.Core.List.{List, [], _∷_, _++_, List·Memᴰ, List·Memᴰ·head, 
 use native.Mathlib.Omega.{arith}
 use lib.ListN.{length, length-append}
 use Rattle.text.specs.Lists.{every, any}
-use Rattle.text.proofs.Laws.Tests.{and-left, and-right, either, either-left, either-right}
+use Rattle.text.proofs.Laws.Tests.{and-left, and-right, both-true, either, either-left, either-right}
 
 pub every-head : {A : Type 0} (ok : A → Bool) (b : A) (l : List A) → every ok (b ∷ l) ≡ true → ok b ≡ true
 unfolding every
@@ -16,6 +16,17 @@ every-head ok b l h = and-left _ _ h
 pub every-rest : {A : Type 0} (ok : A → Bool) (b : A) (l : List A) → every ok (b ∷ l) ≡ true → every ok l ≡ true
 unfolding every
 every-rest ok b l h = and-right (ok b) _ h
+
+pub every-append : {A : Type 0} (ok : A → Bool) (k l : List A) → every ok k ≡ true → every ok l ≡ true → every ok (k ++ l) ≡ true
+unfolding every
+every-append ok [] l g h = h
+every-append ok (a ∷ k) l g h = both-true (every-head ok a k g) (every-append ok k l (every-rest ok a k g) h)
+
+-- a test that follows from another
+pub every-weaker : {A : Type 0} (ok weak : A → Bool) → ((a : A) → ok a ≡ true → weak a ≡ true) → (l : List A) → every ok l ≡ true → every weak l ≡ true
+unfolding every
+every-weaker ok weak f [] h = refl
+every-weaker ok weak f (a ∷ l) h = both-true (f a (every-head ok a l h)) (every-weaker ok weak f l (every-rest ok a l h))
 
 -- a test that holds of some element
 pub any-is : {A : Type 0} (f : A → Bool) (l : List A) → any f l ≡ true → (a : A) × List·Memᴰ a l × (f a ≡ true)

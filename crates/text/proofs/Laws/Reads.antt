@@ -1,14 +1,16 @@
--- What holds of all that can be read, and how it is shown; words and names.
+-- What holds of all that can be read, and how it is shown; words and names are read back as they were printed, and print to what stood there.
 use Prim.Native.Nat.{ℕ}
 use mathlib.Core.Path.{_≡_, refl, ap}
-use mathlib.Core.Bool.{Bool, true, false, cond}
+use mathlib.Core.Bool.{Bool, true, false, cond, false≢true}
 use mathlib.Core.List.{List, [], _∷_, _++_}
 use lib.Dec.{eqb}
-use borrow.Author.Tests.{eqb-true}
+use borrow.Author.Tests.{eqb-true, eq-eqb}
+use lib.ListN.{length, drop}
+use Rattle.text.specs.Lists.{every}
 use Rattle.text.specs.Names.{beginsName, inName, nameForm}
-use Rattle.text.specs.Read.{Read, fail, got, thenRead, when, readWord, readName}
-use Rattle.text.proofs.Laws.Tests.{both-true}
-use Rattle.text.proofs.Laws.Fronts.{front-back, front-every}
+use Rattle.text.specs.Read.{Read, fail, got, thenRead, when, begins, readWord, nameAhead, readName}
+use Rattle.text.proofs.Laws.Tests.{cases, and-left, both, both-true}
+use Rattle.text.proofs.Laws.Fronts.{front-back, front-every, stops, front-of, back-of}
 
 -- whatever was read, this holds of it and of the bytes after it
 pub data Holds {A : Type 0} (P : A → List ℕ → Type 0) : Read A → Type 0 where
@@ -27,6 +29,11 @@ pub holds-map : {A : Type 0} {P Q : A → List ℕ → Type 0} {m : Read A} → 
 holds-map failed f = failed
 holds-map (gotten {a} {r} h) f = gotten (f a r h)
 
+pub then-same : {A B : Type 0} {P : A → List ℕ → Type 0} {m : Read A} {k j : A → List ℕ → Read B}
+    → Holds P m → ((a : A) (r : List ℕ) → P a r → k a r ≡ j a r) → thenRead m k ≡ thenRead m j
+then-same failed f = refl
+then-same (gotten {a} {r} h) f = f a r h
+
 pub when-holds : {A : Type 0} {P : A → List ℕ → Type 0} {x : Read A} (t : Bool) → (t ≡ true → Holds P x) → Holds P (when t x)
 when-holds true f = f refl
 when-holds false f = failed
@@ -36,12 +43,44 @@ pub cond-holds : {A : Type 0} {P : A → List ℕ → Type 0} {x y : Read A} (t 
 cond-holds true f g = f refl
 cond-holds false f g = g refl
 
+pub word-back : (w r : List ℕ) → readWord w (w ++ r) ≡ got [] r
+unfolding readWord
+word-back [] r = refl
+word-back (b ∷ w) r = rw (eq-eqb b b refl) (word-back w r)
+
+pub word-begins : (w r : List ℕ) → begins w (w ++ r) ≡ true
+unfolding begins
+word-begins [] r = refl
+word-begins (b ∷ w) r = rw (eq-eqb b b refl) (word-begins w r)
+
 pub word-sound : (w l : List ℕ) → Holds (λ u r. w ++ r ≡ l) (readWord w l)
 unfolding readWord
 word-sound [] l = gotten refl
 word-sound (b ∷ w) [] = failed
 word-sound (b ∷ w) (c ∷ l) =
     when-holds (eqb b c) (λ t. holds-map (word-sound w l) (λ u r e. rw (eqb-true b c t) (ap (_∷_ c) e)))
+
+-- a word is read where it stands, and only there
+pub word-is : (w l : List ℕ) → readWord w l ≡ cond (begins w l) (got [] (drop (length w) l)) fail
+unfolding readWord begins
+word-is [] l = refl
+word-is (b ∷ w) [] = refl
+word-is (b ∷ w) (c ∷ l) = cases (eqb b c) (λ t. rw t (word-is w l)) (λ f. rw f)
+
+pub begins-drop : (w l : List ℕ) → begins w l ≡ true → w ++ drop (length w) l ≡ l
+begins-drop w l t = holds-got (rw (word-is w l, t) at (word-sound w l))
+
+pub name-back : (n r : List ℕ) → nameForm n ≡ true → stops inName r ≡ true → readName (n ++ r) ≡ got n r
+unfolding nameForm readName
+name-back [] r h s = absurd (false≢true h)
+name-back (b ∷ n) r h s =
+    let (first, rest) = both (beginsName b) (every inName n) h in
+    rw (first, front-of inName n r rest s, back-of inName n r rest s)
+
+pub name-ahead : (n r : List ℕ) → nameForm n ≡ true → nameAhead (n ++ r) ≡ true
+unfolding nameForm
+name-ahead [] r h = absurd (false≢true h)
+name-ahead (b ∷ n) r h = and-left _ _ h
 
 pub name-sound : (l : List ℕ) → Holds (λ n r. (nameForm n ≡ true) × (n ++ r ≡ l)) (readName l)
 unfolding readName nameForm

@@ -9,9 +9,10 @@ use lib.Dec.{leb, eqb}
 use borrow.Author.Tests.{leb-true, le-leb, eqb-true}
 use Rattle.text.specs.Names.{within, letter, digit, beginsName, inName, nameForm}
 use Rattle.text.specs.Lists.{every, nonEmpty}
-use Rattle.documents.specs.Tokens.{blank, listed, isEntity, inText, inValue, Part, plain, reference, Quote, double, single, quoteByte, Attribute, attribute, Token, declaration, comment, startTag, emptyTag, endTag, text, declarationBytes, printPart, printParts, printAttribute, printAttributes, printToken, printTokens, formedPart, formedAttribute, formedTag, formedComment, formedText, formedToken, formedRun, RunOfTokens}
+use Rattle.documents.specs.Tokens.{blank, listed, inText, inValue, Part, plain, reference, Quote, double, single, quoteByte, Attribute, attribute, Token, declaration, comment, startTag, emptyTag, endTag, text, declarationBytes, printPart, printParts, printAttribute, printAttributes, printToken, printTokens, formedPart, formedAttribute, formedTag, formedComment, formedText, formedToken, formedRun, RunOfTokens}
 use Rattle.text.proofs.Laws.Tests.{and-left, and-right, both-true, either}
-use Rattle.text.proofs.Laws.Lists.{every-head, every-rest}
+use Rattle.text.proofs.Laws.Lists.{every-append, every-weaker}
+use Rattle.text.proofs.Laws.ReadMany.{many-every}
 use Rattle.documents.proofs.Laws.Read.Bytes.{entity-cases, value-text, at-blank}
 use Rattle.documents.proofs.Laws.Printed.AttributesBack.{formed-parts}
 
@@ -53,29 +54,21 @@ blank-listed : (b : ℕ) → blank b ≡ true → listed b ≡ true
 unfolding listed
 blank-listed = at-blank listed true refl refl refl refl
 
-weaker : (ok : ℕ → Bool) → ((b : ℕ) → ok b ≡ true → listed b ≡ true) → (l : List ℕ) → every ok l ≡ true → every listed l ≡ true
-unfolding every
-weaker ok f [] h = refl
-weaker ok f (b ∷ l) h = both-true (f b (and-left _ _ h)) (weaker ok f l (and-right (ok b) _ h))
-
 both : (a b : List ℕ) → every listed a ≡ true → every listed b ≡ true → every listed (a ++ b) ≡ true
-unfolding every
-both [] b h k = k
-both (x ∷ a) b h k = both-true (every-head listed x a h) (both a b (every-rest listed x a h) k)
+both = every-append listed
 
 form-listed : (n : List ℕ) → nameForm n ≡ true → every listed n ≡ true
 unfolding nameForm every
 form-listed [] h = absurd (false≢true h)
-form-listed (b ∷ n) h = both-true (begins-listed b (and-left _ _ h)) (weaker inName name-listed n (and-right (beginsName b) _ h))
+form-listed (b ∷ n) h = both-true (begins-listed b (and-left _ _ h)) (every-weaker inName listed name-listed n (and-right (beginsName b) _ h))
+
+part-listed : (ok : ℕ → Bool) → ((b : ℕ) → ok b ≡ true → listed b ≡ true) → (p : Part) → formedPart ok p ≡ true → every listed (printPart p) ≡ true
+unfolding every printPart listed
+part-listed ok f (plain b) h = both-true (f b h) refl
+part-listed ok f (reference n) h = both n (59 ∷ []) (entity-cases n h (λ e. rw e) (λ e. rw e) (λ e. rw e) (λ e. rw e) (λ e. rw e)) refl
 
 parts-listed : (ok : ℕ → Bool) → ((b : ℕ) → ok b ≡ true → listed b ≡ true) → (ps : List Part) → every (formedPart ok) ps ≡ true → every listed (printParts ps) ≡ true
-unfolding every printParts printPart listed
-parts-listed ok f [] h = refl
-parts-listed ok f (plain b ∷ ps) h = both-true (f b (and-left _ _ h)) (parts-listed ok f ps (and-right (ok b) _ h))
-parts-listed ok f (reference n ∷ ps) h =
-    both (38 ∷ (n ++ (59 ∷ []))) (printParts ps)
-    (both n (59 ∷ []) (entity-cases n (and-left _ _ h) (λ e. rw e) (λ e. rw e) (λ e. rw e) (λ e. rw e) (λ e. rw e)) refl)
-    (parts-listed ok f ps (and-right (isEntity n) _ h))
+parts-listed ok f = many-every printPart (formedPart ok) listed (part-listed ok f)
 
 text-listed : (b : ℕ) → inText b ≡ true → listed b ≡ true
 unfolding inText
@@ -90,7 +83,7 @@ attribute-listed : (a : Attribute) → formedAttribute a ≡ true → every list
 unfolding printAttribute every listed
 attribute-listed (attribute s n before after q v) h =
     let f = formed-parts s n before after q v h in
-    let blanks = weaker blank blank-listed in
+    let blanks = every-weaker blank listed blank-listed in
     both s _ (blanks s (f .blanks))
     (both n _ (form-listed n (f .name))
     (both before _ (blanks before (f .blanks₂))
@@ -99,19 +92,14 @@ attribute-listed (attribute s n before after q v) h =
     (both (printParts v) _ (parts-listed (inValue (quoteByte q)) (λ b k. text-listed b (value-text (quoteByte q) b k)) v (f .value))
     (both-true (quote-listed q) refl))))))
 
-attributes-listed : (l : List Attribute) → every formedAttribute l ≡ true → every listed (printAttributes l) ≡ true
-unfolding printAttributes every
-attributes-listed [] h = refl
-attributes-listed (a ∷ l) h = both (printAttribute a) _ (attribute-listed a (and-left _ _ h)) (attributes-listed l (and-right (formedAttribute a) _ h))
-
 tag-listed : (n : List ℕ) (l : List Attribute) (s e : List ℕ) → formedTag n l s ≡ true → every listed e ≡ true
     → every listed (n ++ (printAttributes l ++ (s ++ e))) ≡ true
 unfolding formedTag
 tag-listed n l s e h k =
     let h₂ = and-right (nameForm n) _ h in
     both n _ (form-listed n (and-left _ _ h))
-    (both (printAttributes l) _ (attributes-listed l (and-left _ _ h₂))
-    (both s e (weaker blank blank-listed s (and-right (every formedAttribute l) _ h₂)) k))
+    (both (printAttributes l) _ (many-every printAttribute formedAttribute listed attribute-listed l (and-left _ _ h₂))
+    (both s e (every-weaker blank listed blank-listed s (and-right (every formedAttribute l) _ h₂)) k))
 
 token-listed : (t : Token) → formedToken t ≡ true → every listed (printToken t) ≡ true
 unfolding formedToken formedComment formedText printToken declarationBytes every listed
@@ -119,7 +107,7 @@ token-listed declaration h = refl
 token-listed (comment c) h = both c (45 ∷ 45 ∷ 62 ∷ []) (and-left _ _ h) refl
 token-listed (startTag n l s) h = tag-listed n l s (62 ∷ []) h refl
 token-listed (emptyTag n l s) h = tag-listed n l s (47 ∷ 62 ∷ []) h refl
-token-listed (endTag n s) h = both n _ (form-listed n (and-left _ _ h)) (both s (62 ∷ []) (weaker blank blank-listed s (and-right (nameForm n) _ h)) refl)
+token-listed (endTag n s) h = both n _ (form-listed n (and-left _ _ h)) (both s (62 ∷ []) (every-weaker blank listed blank-listed s (and-right (nameForm n) _ h)) refl)
 token-listed (text ps) h = parts-listed inText text-listed ps (and-left _ _ (and-right (nonEmpty ps) _ h))
 
 tokens-listed : (ts : List Token) → every formedToken ts ≡ true → every listed (printTokens ts) ≡ true

@@ -1,22 +1,22 @@
 -- Attributes are read back as they were printed.
-use Prim.Native.Nat.{ℕ, zero, suc, _≤_}
-use native.Mathlib.Omega.{arith}
+use Prim.Native.Nat.{ℕ}
 use mathlib.Core.Path.{_≡_, refl}
-use mathlib.Core.Bool.{true, false, _&&_, false≢true}
-use mathlib.Core.List.{List, [], _∷_, _++_, append-assoc}
+use mathlib.Core.Bool.{true, false, _&&_}
+use mathlib.Core.List.{List, _∷_, _++_, append-assoc}
 use borrow.Author.Tests.{eq-eqb}
-use lib.ListN.{length, length-append}
 use Rattle.text.specs.Names.{nameForm}
 use Rattle.text.specs.Lists.{every, nonEmpty}
-use Rattle.documents.specs.Tokens.{blank, listed, inText, inValue, Part, Quote, double, single, quoteByte, Attribute, attribute, printParts, printAttribute, printAttributes, formedPart, formedAttribute}
-use Rattle.text.specs.Read.{got, readWord}
-use Rattle.documents.specs.Reading.{readQuote, readAttributeFrom, readAttribute, nameAhead, attributeAhead, readAttributes}
+use Rattle.documents.specs.Tokens.{blank, listed, inText, inValue, Part, Quote, double, single, quoteByte, Attribute, attribute, printParts, printAttribute, formedPart, formedAttribute}
+use Rattle.text.specs.Read.{got, front, readWord}
+use Rattle.documents.specs.Reading.{readQuote, readAttributeFrom, partAhead, readAttribute, attributeAhead}
 use Rattle.text.proofs.Laws.Tests.{and-left, and-right}
 use Rattle.documents.proofs.Laws.Read.Bytes.{text-no-amp, value-text}
 use Rattle.text.proofs.Laws.Fronts.{stops, front-of, back-of}
-use Rattle.documents.proofs.Laws.Printed.PartsBack.{name-back, equals, name-stops-blanks, blanks-stop-name, partsStop, parts-length, parts-back}
+use Rattle.text.proofs.Laws.Reads.{name-back, name-ahead}
+use Rattle.text.proofs.Laws.ReadMany.{Begins, Back, many-back}
+use Rattle.documents.proofs.Laws.Printed.PartsBack.{equals, name-stops-blanks, blanks-stop-name, part-begins, part-back}
 
-pub quote-stops : (q : Quote) (r : List ℕ) → (partsStop (inValue (quoteByte q)) (quoteByte q ∷ r) ≡ true) × (stops blank (quoteByte q ∷ r) ≡ true)
+pub quote-stops : (q : Quote) (r : List ℕ) → (partAhead (inValue (quoteByte q)) (quoteByte q ∷ r) ≡ false) × (stops blank (quoteByte q ∷ r) ≡ true)
 unfolding inValue inText listed blank
 quote-stops double r = (refl, refl)
 quote-stops single r = (refl, refl)
@@ -60,9 +60,9 @@ pub spread : (s n before after : List ℕ) (q : Quote) (v : List Part) (r : List
 unfolding printAttribute
 spread s n before after q v r = simp append-assoc
 
-pub attribute-back : (a : Attribute) (r : List ℕ) → formedAttribute a ≡ true → readAttribute (printAttribute a ++ r) ≡ got a r
+read-back : (a : Attribute) (r : List ℕ) → formedAttribute a ≡ true → readAttribute (printAttribute a ++ r) ≡ got a r
 unfolding readAttributeFrom readWord
-attribute-back (attribute s n before after q v) r h =
+read-back (attribute s n before after q v) r h =
     let f = formed-parts s n before after q v h in
     let t₅ : List ℕ = quoteByte q ∷ r in
     let t₄ : List ℕ = printParts v ++ t₅ in
@@ -82,17 +82,12 @@ attribute-back (attribute s n before after q v) r h =
       front-of blank after t₃ (f .blanks₃) stop₃,
       back-of blank after t₃ (f .blanks₃) stop₃,
       quote-back q t₄,
-      parts-back (inValue (quoteByte q)) (λ b k. text-no-amp b (value-text (quoteByte q) b k)) (length t₄) v t₅ (f .value) (quote-stops q r .0)
-          (omega (arith, parts-length v, length-append (printParts v) t₅)),
+      many-back (part-begins (inValue (quoteByte q))) (part-back (inValue (quoteByte q)) (λ b k. text-no-amp b (value-text (quoteByte q) b k)))
+          v t₅ (f .value) refl (quote-stops q r .0),
       eq-eqb (quoteByte q) (quoteByte q) refl,
     )
 
-pub name-ahead : (n r : List ℕ) → nameForm n ≡ true → nameAhead (n ++ r) ≡ true
-unfolding nameForm
-name-ahead [] r h = absurd (false≢true h)
-name-ahead (b ∷ n) r h = and-left _ _ h
-
-pub ahead-of : (a : Attribute) (r : List ℕ) → formedAttribute a ≡ true → attributeAhead (printAttribute a ++ r) ≡ true
+ahead-of : (a : Attribute) (r : List ℕ) → formedAttribute a ≡ true → attributeAhead (printAttribute a ++ r) ≡ true
 ahead-of (attribute s n before after q v) r h =
     let f = formed-parts s n before after q v h in
     let t₀ : List ℕ = before ++ (61 ∷ (after ++ (quoteByte q ∷ (printParts v ++ (quoteByte q ∷ r))))) in
@@ -100,29 +95,9 @@ ahead-of (attribute s n before after q v) r h =
     rw (spread s n before after q v r, front-of blank s (n ++ t₀) (f .blanks) stop, back-of blank s (n ++ t₀) (f .blanks) stop, f .some)
     (name-ahead n t₀ (f .name))
 
-pub attribute-length : (a : Attribute) → formedAttribute a ≡ true → 1 ≤ length (printAttribute a)
-unfolding printAttribute
-attribute-length (attribute [] n before after q v) h = absurd (false≢true (formed-parts [] n before after q v h .some))
-attribute-length (attribute (b ∷ s) n before after q v) h = omega arith
+pub attribute-begins : Begins attributeAhead printAttribute formedAttribute
+unfolding front
+attribute-begins = record { here = ahead-of; none = refl }
 
-pub attributes-length : (l : List Attribute) → every formedAttribute l ≡ true → length l ≤ length (printAttributes l)
-unfolding printAttributes every
-attributes-length [] h = omega arith
-attributes-length (a ∷ l) h =
-    omega (arith, length-append (printAttribute a) (printAttributes l), attribute-length a (and-left _ _ h), attributes-length l (and-right (formedAttribute a) _ h))
-
-pub attributes-back : (steps : ℕ) (l : List Attribute) (r : List ℕ) → every formedAttribute l ≡ true → attributeAhead r ≡ false → length l ≤ steps
-    → readAttributes steps (printAttributes l ++ r) ≡ got l r
-unfolding readAttributes printAttributes every
-attributes-back zero [] r h s k = refl
-attributes-back zero (a ∷ l) r h s k = absurd (omega arith)
-attributes-back (suc steps) [] r h s k = rw s
-attributes-back (suc steps) (a ∷ l) r h s k =
-    let now : formedAttribute a ≡ true = and-left _ _ h in
-    let rest : every formedAttribute l ≡ true = and-right (formedAttribute a) _ h in
-    rw (
-      append-assoc (printAttribute a) (printAttributes l) r,
-      ahead-of a (printAttributes l ++ r) now,
-      attribute-back a (printAttributes l ++ r) now,
-      attributes-back steps l r rest s (omega arith),
-    )
+pub attribute-back : Back readAttribute printAttribute formedAttribute (λ r. true)
+attribute-back = record { back = λ a r h k. read-back a r h; next = λ a r h. refl }

@@ -7,11 +7,12 @@ use mathlib.Core.List.{List, [], _∷_, _++_}
 use borrow.Author.Tests.{not-true}
 use lib.ListN.{length, length-append}
 use Rattle.text.specs.Lists.{every, nonEmpty}
-use Rattle.documents.specs.Tokens.{Part, Token, declaration, comment, startTag, emptyTag, endTag, text, declarationBytes, printToken, printTokens, formedToken, formedText, isText, isDeclaration, textFirst, textsApart, declarationFirst, formedRun, RunOfTokens}
+use Rattle.documents.specs.Tokens.{inText, Part, Token, declaration, comment, startTag, emptyTag, endTag, text, declarationBytes, printToken, printTokens, formedToken, formedText, isText, isDeclaration, textFirst, textsApart, declarationFirst, formedRun, RunOfTokens}
 use Rattle.text.specs.Read.{got, thenRead, when}
 use Rattle.documents.specs.Reading.{textEnds, readToken, readTokens, readReport}
 use Rattle.text.proofs.Laws.Tests.{and-left, and-right}
-use Rattle.documents.proofs.Laws.Printed.PartsBack.{parts-length}
+use Rattle.text.proofs.Laws.ReadMany.{many-length}
+use Rattle.documents.proofs.Laws.Printed.PartsBack.{part-begins}
 use Rattle.documents.proofs.Laws.Printed.ReadBack.{token-back}
 
 -- every token has a byte, and every one but a text begins with `<`
@@ -26,7 +27,7 @@ token-length (comment c) h = omega arith
 token-length (startTag n l s) h = omega arith
 token-length (emptyTag n l s) h = omega arith
 token-length (endTag n s) h = omega arith
-token-length (text ps) h = omega (arith, parts-length ps, some-part ps (and-left _ _ h))
+token-length (text ps) h = omega (arith, many-length (part-begins inText) ps (and-left _ _ (and-right (nonEmpty ps) _ h)), some-part ps (and-left _ _ h))
 
 pub less-first : (t : Token) (r : List ℕ) → isText t ≡ false → textEnds (printToken t ++ r) ≡ true
 unfolding printToken declarationBytes

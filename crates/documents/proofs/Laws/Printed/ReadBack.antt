@@ -1,28 +1,28 @@
 -- Tokens are read back as they were printed: each within its rule, and a text where `<` or the end follows it.
-use Prim.Native.Nat.{ℕ, _≤_}
-use native.Mathlib.Omega.{arith}
+use Prim.Native.Nat.{ℕ}
 use mathlib.Core.Path.{_≡_, refl, ap, _∙_}
-use mathlib.Core.Bool.{true, false, not, _&&_, false≢true, and-false}
+use mathlib.Core.Bool.{true, false, not, _||_, false≢true, and-false}
 use mathlib.Core.List.{List, [], _∷_, _++_, append-assoc}
 use lib.Dec.{eqb}
 use borrow.Author.Tests.{eqb-true, not-true}
-use lib.ListN.{length, length-append}
 use Rattle.text.specs.Names.{Name, letter, digit, beginsName, inName, nameForm}
 use Rattle.text.specs.Lists.{every, nonEmpty}
 use Rattle.documents.specs.Tokens.{blank, listed, inText, Part, plain, reference, Attribute, attribute, Token, declaration, comment, startTag, emptyTag, endTag, text, declarationBytes, printPart, printParts, printAttribute, printAttributes, printToken, occurs, endsIn, formedPart, formedAttribute, formedTag, formedComment, formedText, formedToken, isText}
-use Rattle.text.specs.Read.{begins, got, front, readWord}
-use Rattle.documents.specs.Reading.{nameAhead, attributeAhead, readTagEnd, readTag, readEndTag, readContents, readComment, readMarkup, textEnds, readText, readToken}
+use Rattle.text.specs.Read.{begins, got, front, readWord, nameAhead, printMany}
+use Rattle.documents.specs.Reading.{partAhead, attributeAhead, readTagEnd, readTag, readEndTag, readContents, readComment, readMarkup, textEnds, readText, readToken}
 use Rattle.text.proofs.Laws.Tests.{and-left, and-right, neither}
 use Rattle.text.proofs.Laws.Lists.{every-head, every-rest}
 use Rattle.text.proofs.Laws.Fronts.{differs, stops, front-of, back-of}
+use Rattle.text.proofs.Laws.Reads.{name-back}
+use Rattle.text.proofs.Laws.ReadMany.{many-back}
 use Rattle.documents.proofs.Laws.Read.Bytes.{blank-no-name, text-no-amp, text-no-less}
-use Rattle.documents.proofs.Laws.Printed.PartsBack.{name-back, blanks-stop-name, partsStop, parts-length, parts-back}
-use Rattle.documents.proofs.Laws.Printed.AttributesBack.{formed-parts, attributes-length, attributes-back}
+use Rattle.documents.proofs.Laws.Printed.PartsBack.{blanks-stop-name, part-begins, part-back}
+use Rattle.documents.proofs.Laws.Printed.AttributesBack.{formed-parts, attribute-begins, attribute-back}
 
 -- what follows a tag's name: blanks, or one of the two ends
 attributes-stop-name : (l : List Attribute) (s r : List ℕ) → every formedAttribute l ≡ true → every blank s ≡ true → stops inName r ≡ true
     → stops inName (printAttributes l ++ (s ++ r)) ≡ true
-unfolding printAttributes printAttribute every
+unfolding printMany printAttribute every
 attributes-stop-name [] s r h k e = blanks-stop-name s r k e
 attributes-stop-name (attribute [] n before after q v ∷ l) s r h k e =
     absurd (false≢true (formed-parts [] n before after q v (and-left _ _ h) .some))
@@ -48,10 +48,9 @@ tag-back n l s e h end =
     let front-is = front-of blank s e blanks (end .no-blank) in
     let back-is = back-of blank s e blanks (end .no-blank) in
     let none-ahead : attributeAhead (s ++ e) ≡ false = rw (back-is, end .no-attribute) (and-false (nonEmpty (front blank (s ++ e)))) in
-    let enough : length l ≤ length rest = omega (arith, length-append (printAttributes l) (s ++ e), attributes-length l attributes) in
     rw (
       name-back n rest name (attributes-stop-name l s e attributes blanks (end .no-name)),
-      attributes-back (length rest) l (s ++ e) attributes none-ahead enough,
+      many-back attribute-begins attribute-back l (s ++ e) attributes refl none-ahead,
       front-is,
       back-is,
     )
@@ -104,7 +103,7 @@ name-first (b ∷ n) r h =
     rw (differs beginsName b 33 first refl, differs beginsName b 47 first refl, differs beginsName b 63 first refl)
 
 text-first : (ps : List Part) (r : List ℕ) → formedText ps ≡ true → readToken (printParts ps ++ r) ≡ readText (printParts ps ++ r)
-unfolding formedText printParts printPart readToken every
+unfolding formedText printMany printPart readToken every
 text-first [] r h = absurd (false≢true h)
 text-first (plain b ∷ ps) r h =
     let parts : every (formedPart inText) (plain b ∷ ps) ≡ true = and-left _ _ h in
@@ -112,10 +111,10 @@ text-first (plain b ∷ ps) r h =
     rw (text-no-less b now)
 text-first (reference n ∷ ps) r h = refl
 
-less-stops : (r : List ℕ) → textEnds r ≡ true → partsStop inText r ≡ true
+less-stops : (r : List ℕ) → textEnds r ≡ true → partAhead inText r ≡ false
 unfolding inText listed
 less-stops [] e = refl
-less-stops (b ∷ r) e = ap (λ (x : ℕ). not (eqb x 38) && not (inText x)) (eqb-true b 60 e)
+less-stops (b ∷ r) e = ap (λ (x : ℕ). eqb x 38 || inText x) (eqb-true b 60 e)
 
 text-back : (ps : List Part) (r : List ℕ) → formedText ps ≡ true → textEnds r ≡ true → readText (printParts ps ++ r) ≡ got (text ps) r
 unfolding readText formedText
@@ -125,8 +124,7 @@ text-back ps r h e =
     let parts : every (formedPart inText) ps ≡ true = and-left _ _ h₂ in
     let clean : not (occurs (93 ∷ 93 ∷ 62 ∷ []) (printParts ps)) ≡ true = and-right (every (formedPart inText) ps) _ h₂ in
     rw (
-      parts-back inText text-no-amp (length (printParts ps ++ r)) ps r parts (less-stops r e)
-          (omega (arith, parts-length ps, length-append (printParts ps) r)),
+      many-back (part-begins inText) (part-back inText text-no-amp) ps r parts refl (less-stops r e),
       some,
       clean,
       e,

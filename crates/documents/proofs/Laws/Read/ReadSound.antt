@@ -10,14 +10,15 @@ use lib.ListN.{length}
 use Rattle.text.specs.Names.{Name}
 use Rattle.text.specs.Lists.{every, nonEmpty}
 use Rattle.documents.specs.Tokens.{blank, listed, inText, Part, plain, reference, Attribute, Token, declaration, comment, startTag, emptyTag, endTag, text, declarationBytes, printPart, printParts, printAttributes, printToken, printTokens, occurs, endsIn, formedPart, formedTag, formedComment, formedText, formedToken, isText, isDeclaration, textFirst, textsApart, formedRun, RunOfTokens}
-use Rattle.text.specs.Read.{begins, Read, fail, got, front, back}
+use Rattle.text.specs.Read.{begins, Read, fail, got, front, back, printMany}
 use Rattle.documents.specs.Reading.{readTagEnd, readTag, readEndTag, readContents, readComment, readMarkup, textEnds, readText, readToken, readTokens, readReport}
 use Rattle.text.proofs.Laws.Tests.{and-left, and-right, both-true}
 use Rattle.documents.proofs.Laws.Read.Bytes.{text-no-less}
 use Rattle.documents.proofs.Laws.Printed.OneRun.{declared, run-back}
 use Rattle.text.proofs.Laws.Reads.{Holds, failed, gotten, holds-got, then-holds, holds-map, when-holds, cond-holds, word-sound, name-sound}
+use Rattle.text.proofs.Laws.ReadMany.{many-sound}
 use Rattle.text.proofs.Laws.Fronts.{front-back, front-every}
-use Rattle.documents.proofs.Laws.Read.PartsSound.{parts-sound, attributes-sound}
+use Rattle.documents.proofs.Laws.Read.PartsSound.{part-sound, attribute-sound}
 
 -- a token read at the front of l: within its rule, its bytes stand there, and a text goes up to `<` or the end
 abbrev pub Good : List ℕ → Token → List ℕ → Type 0
@@ -47,7 +48,7 @@ tag-sound : (l : List ℕ) → Holds (Good (60 ∷ l)) (readTag l)
 unfolding readTag formedTag
 tag-sound l =
     then-holds (name-sound l) (λ n r name.
-    then-holds (attributes-sound (length r) r) (λ m r₂ more.
+    then-holds (many-sound attribute-sound r) (λ m r₂ more.
     tag-end-sound n m (front blank r₂) (back blank r₂) l (both-true (name .0) (both-true (more .0) (front-every blank r₂)))
     (rw (front-back blank r₂, more .1) (name .1))))
 
@@ -113,7 +114,7 @@ markup-sound (b ∷ l) =
 text-sound : (l : List ℕ) → Holds (Good l) (readText l)
 unfolding readText formedToken formedText printToken
 text-sound l =
-    then-holds (parts-sound (length l) inText l) (λ ps r in'.
+    then-holds (many-sound (part-sound inText) l) (λ ps r in'.
     when-holds (nonEmpty ps && (not (occurs (93 ∷ 93 ∷ 62 ∷ []) (printParts ps)) && textEnds r)) (λ t.
     let t₂ = and-right (nonEmpty ps) _ t in
     let some : nonEmpty ps ≡ true = and-left _ _ t in
@@ -134,7 +135,7 @@ token-sound (b ∷ l) =
 
 -- a text does not begin with `<`
 text-starts : (ps : List Part) (r : List ℕ) → formedText ps ≡ true → textEnds (printParts ps ++ r) ≡ false
-unfolding formedText printParts printPart every
+unfolding formedText printMany printPart every
 text-starts [] r h = absurd (false≢true h)
 text-starts (plain b ∷ ps) r h =
     let parts : every (formedPart inText) (plain b ∷ ps) ≡ true = and-left _ _ (and-right (nonEmpty (plain b ∷ ps)) _ h) in

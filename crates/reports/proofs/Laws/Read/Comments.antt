@@ -4,11 +4,10 @@ use native.Mathlib.Omega.{arith}
 use mathlib.Core.Path.{_≡_, refl, sym, ap, _∙_}
 use mathlib.Core.Bool.{true, false, cond}
 use mathlib.Core.List.{List, [], _∷_}
-use lib.Dec.{eqb}
 use lib.ListN.{length, getD, drop, length-drop, drop-of-length-le}
 use lib.Seq.{getD-drop, drop-drop}
 use native.Mathlib.Nat.{add-zero}
-use Rattle.text.proofs.Laws.Tests.{cases}
+use Rattle.text.proofs.Laws.Reads.{word-is}
 use Rattle.reports.specs.declared.tags.Reach.{Reach}
 use Rattle.reports.specs.declared.tags.Reach.the-variants.{No, To}
 use Rattle.reports.specs.declared.tokens.Found.the-variants.{Nothing, Comment}
@@ -19,13 +18,6 @@ use Rattle.reports.specs.Code.Reaches.{reachOf}
 use Rattle.reports.specs.Seen.{foundOf}
 use Rattle.reports.proofs.Laws.Read.Reaches.{word-fits, never}
 use Rattle.reports.proofs.Laws.Read.Values.{reach-map}
-
--- a word is read where it stands, and only there
-pub word-is : (w l : List ℕ) → readWord w l ≡ cond (begins w l) (got [] (drop (length w) l)) fail
-unfolding readWord begins
-word-is [] l = refl
-word-is (b ∷ w) [] = refl
-word-is (b ∷ w) (c ∷ l) = cases (eqb b c) (λ t. rw t (word-is w l)) (λ f. rw f)
 
 contents-open : (l : List ℕ) → 1 ≤ length l
     → readContents l

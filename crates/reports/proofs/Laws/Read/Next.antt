@@ -9,10 +9,9 @@ use Rattle.documents.specs.Tokens.{Token, printToken, isDeclaration}
 use Rattle.text.specs.Read.{Read, fail, got, thenRead, when}
 use Rattle.documents.specs.Reading.{readToken, readTokens}
 use Rattle.documents.proofs.Laws.Printed.OneRun.{token-length, read-more}
-use Rattle.text.proofs.Laws.Reads.{holds-got}
+use Rattle.text.proofs.Laws.Reads.{holds-got, then-same}
 use Rattle.documents.proofs.Laws.Read.ReadSound.{Good, token-sound}
 use Rattle.reports.proofs.Laws.Read.Reaches.{suffix-drop}
-use Rattle.reports.proofs.Laws.Read.Values.{then-same}
 
 shorter : (l : List ℕ) (t : Token) (r : List ℕ) → Good l t r → length r < length l
 shorter l t r g = omega (arith, token-length t (g .0), length-append (printToken t) r, ap length (g .1))

@@ -15,8 +15,9 @@ use Rattle.text.specs.Read.{Read, fail, got, thenRead, front, back, readWord, r
 use Rattle.documents.specs.Reading.{readQuote, readParts, readAttributeFrom}
 use Rattle.reports.specs.Code.Reaches.{reachOf, quotedReach, valueReach}
 use Rattle.text.proofs.Laws.Reads.{holds-map, name-sound, word-sound}
+use Rattle.text.proofs.Laws.ReadMany.{many-sound}
 use Rattle.text.proofs.Laws.Fronts.{front-back}
-use Rattle.documents.proofs.Laws.Read.PartsSound.{parts-sound}
+use Rattle.documents.proofs.Laws.Read.PartsSound.{part-sound}
 use Rattle.reports.proofs.Laws.Read.Reaches.{Suffix, reached}
 use Rattle.reports.proofs.Laws.Read.Values.{reach-no, reach-map}
 
@@ -102,12 +103,12 @@ module _ (s : List ℕ) where
         let (rest, low, high) = back-at blank at q h is in
         rw (rest, drop-cons s q 0 k, ne-eqb (getD s q 0) 34 n, ne-eqb (getD s q 0) 39 m)
 
-  pub parts-suffix : (n : ℕ) (ok : ℕ → Bool) (l : List ℕ) → Suffix l (readParts n ok l)
-  parts-suffix n ok l = holds-map (parts-sound n ok l) (λ ps r g. (printParts ps, g .1))
+  pub parts-suffix : (ok : ℕ → Bool) (l : List ℕ) → Suffix l (readParts ok l)
+  parts-suffix ok l = holds-map (many-sound (part-sound ok) l) (λ ps r g. (printParts ps, g .1))
 
   module _ (quote at : ℕ) (h : at ≤ length s) where
     abbrev Parts : Read (List Part)
-    Parts = readParts (length (drop at s)) (inValue quote) (drop at s)
+    Parts = readParts (inValue quote) (drop at s)
 
     pub quoted-no : reachOf (length s) Parts ≡ No → No ≡ quotedReach s quote at
     quoted-no e = rw (reach-no (length s) Parts e)
@@ -116,19 +117,19 @@ module _ (s : List ℕ) where
       pub quoted-none : length s ≤ e → No ≡ quotedReach s quote at
       unfolding readWord
       quoted-none k =
-          let (ps, is, low, high) = reached s at h Parts e (parts-suffix _ _ (drop at s)) to in
+          let (ps, is, low, high) = reached s at h Parts e (parts-suffix _ (drop at s)) to in
           rw (is, drop-of-length-le s k)
 
       pub quoted-off : e < length s → (getD s e 0 ≡ quote → ⊥) → No ≡ quotedReach s quote at
       unfolding readWord
       quoted-off k n =
-          let (ps, is, low, high) = reached s at h Parts e (parts-suffix _ _ (drop at s)) to in
+          let (ps, is, low, high) = reached s at h Parts e (parts-suffix _ (drop at s)) to in
           rw (is, drop-cons s e 0 k, ne-eqb quote (getD s e 0) (λ x. n (sym x)))
 
       pub quoted-to : e < length s → getD s e 0 ≡ quote → To (e + 1) ≡ quotedReach s quote at
       unfolding readWord
       quoted-to k n =
-          let (ps, is, low, high) = reached s at h Parts e (parts-suffix _ _ (drop at s)) to in
+          let (ps, is, low, high) = reached s at h Parts e (parts-suffix _ (drop at s)) to in
           rw (is, drop-cons s e 0 k, eq-eqb quote (getD s e 0) (sym n), ← add-one e) (ap To (left-at (e + 1) (omega arith)))
 
   module _ (at : ℕ) (h : at ≤ length s) where
@@ -162,5 +163,5 @@ module _ (s : List ℕ) where
           let (u, is₂, low₂, high₂) = reached s e high (readWord (61 ∷ []) (back blank (drop e s))) v (mark-suffix 61 (drop e s)) k in
           rw (is, is₂)
           (reach-then (length s) (readQuote (back blank (drop v s))) _ _ (λ q r.
-          reach-then (length s) (readParts (length r) (inValue (quoteByte q)) r) _ _ (λ x r₂.
+          reach-then (length s) (readParts (inValue (quoteByte q)) r) _ _ (λ x r₂.
           sym (reach-map (length s) (readWord (quoteByte q ∷ []) r₂) (λ w. attribute [] n (front blank (drop e s)) (front blank (drop v s)) q x)))))

@@ -2,9 +2,8 @@
 use Prim.Native.Nat.{ℕ, _+_, _-_, _≤_}
 use native.Mathlib.Omega.{arith}
 use mathlib.Core.Path.{_≡_, sym, ap, _∙_}
-use mathlib.Core.Bool.{Bool, true, false, false≢true}
+use mathlib.Core.Bool.{Bool, true, false}
 use mathlib.Core.List.{List, [], _∷_, _++_}
-use lib.Dec.{eqb}
 use lib.ListN.{length, drop, length-append, length-drop}
 use lib.Seq.{drop-append-seam, drop-drop}
 use Rattle.text.specs.Names.{Name}
@@ -14,8 +13,7 @@ use Rattle.documents.specs.Tokens.{amp, lt, gt, quot, apos}
 use Rattle.text.specs.Read.{begins, Read, fail, got}
 use Rattle.documents.specs.Reading.{readReference}
 use Rattle.reports.specs.Code.Reaches.{reachOf}
-use Rattle.text.proofs.Laws.Tests.{and-right}
-use Rattle.text.proofs.Laws.Reads.{Holds, holds-got}
+use Rattle.text.proofs.Laws.Reads.{Holds, holds-got, begins-drop}
 
 -- what was read stands in front of what is left
 abbrev pub Suffix : {A : Type 0} → List ℕ → Read A → Type 0
@@ -45,14 +43,9 @@ module _ (s : List ℕ) (at : ℕ) (h : at ≤ length s) where
       (a, ap (got a) (sym rest ∙ ap (λ (n : ℕ). drop n s) here), omega arith, omega arith)
 
   -- a word that stands at the offset
-  word-length : (w l : List ℕ) → begins w l ≡ true → length w ≤ length l
-  unfolding begins
-  word-length [] l t = omega arith
-  word-length (b ∷ w) [] t = absurd (false≢true t)
-  word-length (b ∷ w) (c ∷ l) t = omega (arith, word-length w l (and-right (eqb b c) _ t))
-
   pub word-fits : (w : List ℕ) → begins w (drop at s) ≡ true → at + length w ≤ length s
-  word-fits w t = omega (arith, word-length w (drop at s) t, length-drop at s)
+  word-fits w t =
+      omega (arith, ap length (begins-drop w (drop at s) t), length-append w (drop (length w) (drop at s)), length-drop at s)
 
   word-reach : (w : List ℕ) → begins w (drop at s) ≡ true → at + length w ≡ length s - length (drop (length w) (drop at s))
   word-reach w t = omega (arith, word-fits w t, length-drop (length w) (drop at s), length-drop at s)

@@ -20,15 +20,16 @@ use Rattle.reports.specs.Code.Reaches.{reachOf, insideReach}
 use Rattle.reports.specs.Seen.{foundOf}
 use Rattle.reports.specs.Code.Seen.{tagEndOf}
 use Rattle.text.proofs.Laws.Reads.{holds-got, then-holds, gotten, name-sound}
+use Rattle.text.proofs.Laws.ReadMany.{many-sound}
 use Rattle.text.proofs.Laws.Fronts.{front-back}
-use Rattle.documents.proofs.Laws.Read.PartsSound.{attributes-sound}
+use Rattle.documents.proofs.Laws.Read.PartsSound.{attribute-sound}
 use Rattle.reports.proofs.Laws.Read.Reaches.{Suffix, reached}
 use Rattle.reports.proofs.Laws.Read.Values.{reach-no}
 use Rattle.reports.proofs.Laws.Read.Offsets.{name-suffix, mark-suffix, left-at}
 
-inside-suffix : (l : List ℕ) → Suffix l (thenRead (readAttributes (length l) l) (λ m r. got m (back blank r)))
+inside-suffix : (l : List ℕ) → Suffix l (thenRead (readAttributes l) (λ m r. got m (back blank r)))
 inside-suffix l =
-    then-holds (attributes-sound (length l) l) (λ m r g.
+    then-holds (many-sound attribute-sound l) (λ m r g.
     gotten (
       printAttributes m ++ front blank r,
       append-assoc (printAttributes m) (front blank r) (back blank r) ∙ ap (_++_ (printAttributes m)) (front-back blank r) ∙ g .1,
@@ -96,13 +97,13 @@ module _ (s : List ℕ) where
 
     module _ (to : ℕ) (name : reachOf (length s) (readName (drop (at + 1) s)) ≡ To to) where
       Inside : Read (List Attribute)
-      Inside = thenRead (readAttributes (length (drop to s)) (drop to s)) (λ m r. got m (back blank r))
+      Inside = thenRead (readAttributes (drop to s)) (λ m r. got m (back blank r))
 
       pub tag-no₂ : insideReach s to ≡ No → Nothing ≡ foundOf (length s) at (readTag (drop (at + 1) s))
       unfolding readTag Inside
       tag-no₂ e =
           let (n, is, apart, high) = named (at + 1) to (omega arith) name in
-          rw (is, unread (readAttributes (length (drop to s)) (drop to s)) (reach-no (length s) Inside e))
+          rw (is, unread (readAttributes (drop to s)) (reach-no (length s) Inside e))
 
       pub inside-bound : (e : ℕ) → insideReach s to ≡ To e → e ≤ length s
       unfolding Inside
@@ -115,7 +116,7 @@ module _ (s : List ℕ) where
       tag-to e k =
           let (n, is, apart, high) = named (at + 1) to (omega arith) name in
           let (m, all, low, end) = reached s to high Inside e (inside-suffix (drop to s)) k in
-          let (r, some, after) = passed (readAttributes (length (drop to s)) (drop to s)) m (drop e s) all in
+          let (r, some, after) = passed (readAttributes (drop to s)) m (drop e s) all in
           rw (is, some, after) (ap (λ (x : ℕ). tagEndOf s (at + 1) x e) (sym apart) ∙ end-shown n m (front blank r) at e)
 
   module _ (at : ℕ) (h : at + 2 ≤ length s) where

@@ -1,5 +1,5 @@
 -- Texts from an offset, part by part.
-use Prim.Native.Nat.{ℕ, suc, _+_, _-_, _≤_, _<_}
+use Prim.Native.Nat.{ℕ, _+_, _-_, _≤_, _<_}
 use native.Mathlib.Omega.{arith}
 use native.Mathlib.Numerals.{add-one}
 use mathlib.Core.Path.{_≡_, refl, sym, ap, _∙_}
@@ -16,15 +16,16 @@ use Rattle.reports.specs.declared.tags.Reach.the-variants.{No, To}
 use Rattle.reports.specs.declared.tokens.Found.{Found}
 use Rattle.reports.specs.declared.tokens.Found.the-variants.{Nothing, Text}
 use Rattle.documents.specs.Tokens.{Part, plain, reference, printPart, printParts, text, blank, listed, inText, isEntity, occurs}
-use Rattle.text.specs.Read.{begins, Read, fail, got, thenRead, when}
+use Rattle.text.specs.Read.{begins, Read, fail, got, thenRead, when, readUpTo, printMany}
 use Rattle.documents.specs.Reading.{readReference, readParts, textEnds, readText}
 use Rattle.reports.specs.Code.Reaches.{reachOf}
 use Rattle.reports.specs.Seen.{foundOf}
 use Rattle.documents.proofs.Laws.Read.Bytes.{entity-cases}
 use Rattle.text.proofs.Laws.Reads.{Holds, holds-map, holds-got}
-use Rattle.documents.proofs.Laws.Read.PartsSound.{parts-sound, reference-sound}
+use Rattle.text.proofs.Laws.ReadMany.{many-sound}
+use Rattle.documents.proofs.Laws.Read.PartsSound.{reference-sound, part-sound}
 use Rattle.reports.proofs.Laws.Read.Reaches.{reached}
-use Rattle.reports.proofs.Laws.Read.Values.{reach-no, reference-suffix, parts-enough}
+use Rattle.reports.proofs.Laws.Read.Values.{reach-no, reference-suffix, amp-none, amp-got, plain-got, plain-none}
 
 -- what parts from here on make of a text that began earlier: some says whether it has a part already, all whether it was blank so far
 abbrev textOf : ℕ → Bool → Bool → Read (List Part) → Found
@@ -34,7 +35,7 @@ textOf total some all (got ps r) =
     (Text (total - length r) (all && every blank (printParts ps))) Nothing
 
 abbrev pub TextFrom : List ℕ → Bool → Bool → ℕ → Found
-TextFrom s some all i = textOf (length s) some all (readParts (length (drop i s)) inText (drop i s))
+TextFrom s some all i = textOf (length s) some all (readParts inText (drop i s))
 
 shown-text : (total at : ℕ) (m : Read (List Part))
     → foundOf total at (thenRead m (λ ps r. when (nonEmpty ps && (not (occurs (93 ∷ 93 ∷ 62 ∷ []) (printParts ps)) && textEnds r)) (got (text ps) r)))
@@ -45,7 +46,7 @@ shown-text total at (got ps r) =
 
 pub text-start : (s : List ℕ) (at : ℕ) → foundOf (length s) at (readText (drop at s)) ≡ TextFrom s false true at
 unfolding readText
-text-start s at = shown-text (length s) at (readParts (length (drop at s)) inText (drop at s))
+text-start s at = shown-text (length s) at (readParts inText (drop at s))
 
 -- a word without `<` stands at the front of a text if it stands at the front of the text and what follows it
 word-inside : (w p r : List ℕ) → every (λ b. not (eqb b 60)) w ≡ true → textEnds r ≡ true → begins w (p ++ r) ≡ begins w p
@@ -61,7 +62,7 @@ word-inside (x ∷ w) (c ∷ p) r h e = rw (word-inside w p r (and-right (not (e
 over-reference : (n : Name) (ps : List Part) → isEntity n ≡ true
     → (occurs (93 ∷ 93 ∷ 62 ∷ []) (printParts (reference n ∷ ps)) ≡ occurs (93 ∷ 93 ∷ 62 ∷ []) (printParts ps))
     × (every blank (printParts (reference n ∷ ps)) ≡ false)
-unfolding occurs begins printParts printPart every blank
+unfolding occurs begins printMany printPart every blank
 over-reference n ps h =
     entity-cases n h (λ e. is e (refl, refl)) (λ e. is e (refl, refl)) (λ e. is e (refl, refl)) (λ e. is e (refl, refl)) (λ e. is e (refl, refl))
   where
@@ -93,7 +94,7 @@ front-word b l p r e t =
 plain-of : (total : ℕ) (some all : Bool) (b : ℕ) (l : List ℕ) (m : Read (List Part))
     → Holds (λ ps r. printParts ps ++ r ≡ l) m → begins (93 ∷ 93 ∷ 62 ∷ []) (b ∷ l) ≡ false
     → textOf total some all (thenRead m (λ ps r. got (plain b ∷ ps) r)) ≡ textOf total true (all && blank b) m
-unfolding printParts printPart occurs every
+unfolding printMany printPart occurs every
 plain-of total some all b l fail h f = refl
 plain-of total some all b l (got ps r) h f =
     cases (textEnds r)
@@ -110,7 +111,7 @@ plain-of total some all b l (got ps r) h f =
 section-of : (total : ℕ) (some all : Bool) (b : ℕ) (l : List ℕ) (m : Read (List Part))
     → Holds (λ ps r. printParts ps ++ r ≡ l) m → begins (93 ∷ 93 ∷ 62 ∷ []) (b ∷ l) ≡ true
     → Nothing ≡ textOf total some all (thenRead m (λ ps r. got (plain b ∷ ps) r))
-unfolding printParts printPart occurs every
+unfolding printMany printPart occurs every
 section-of total some all b l fail h f = refl
 section-of total some all b l (got ps r) h f =
     cases (textEnds r)
@@ -121,11 +122,11 @@ section-of total some all b l (got ps r) h f =
 
 -- a text that ends here: at `<` or the end it is one if it has a part, elsewhere it is none
 stopped : (total : ℕ) (some all : Bool) (r : List ℕ) → textEnds r ≡ true → textOf total some all (got [] r) ≡ cond some (Text (total - length r) all) Nothing
-unfolding occurs begins printParts every
+unfolding occurs begins printMany every
 stopped total some all r t = rw (t, or-false some, and-true some, and-true all)
 
 unstopped : (total : ℕ) (some all : Bool) (r : List ℕ) → textEnds r ≡ false → textOf total some all (got [] r) ≡ Nothing
-unfolding occurs begins printParts every
+unfolding occurs begins printMany every
 unstopped total some all r t = rw (t, and-false (some || false))
 
 less-no-text : (b : ℕ) → b ≡ 60 → inText b ≡ false
@@ -133,62 +134,47 @@ unfolding inText listed
 less-no-text b e = ap inText e
 
 module _ (s : List ℕ) (some all : Bool) (i : ℕ) where
-  opened : i < length s → TextFrom s some all i
-      ≡ textOf (length s) some all (readParts (suc (length (drop (i + 1) s))) inText (getD s i 0 ∷ drop (i + 1) s))
-  opened h = rw (drop-cons s i 0 h, add-one i)
-
   pub text-less : i < length s → getD s i 0 ≡ 60 → TextFrom s some all i ≡ cond some (Text i all) Nothing
-  unfolding readParts
   text-less h e =
-      opened h
-      ∙ rw (ne-eqb (getD s i 0) 38 (omega arith), less-no-text (getD s i 0) e)
-      (stopped (length s) some all (getD s i 0 ∷ drop (i + 1) s) (eq-eqb (getD s i 0) 60 e)
-      ∙ ap (λ (x : ℕ). cond some (Text x all) Nothing) (omega (arith, length-drop (i + 1) s)))
+      ap (textOf (length s) some all) (plain-none inText s i h (omega arith) (less-no-text (getD s i 0) e))
+      ∙ stopped (length s) some all (drop i s) (rw (drop-cons s i 0 h) (eq-eqb (getD s i 0) 60 e))
+      ∙ ap (λ (x : ℕ). cond some (Text x all) Nothing) (omega (arith, length-drop i s))
 
   pub text-end : i ≤ length s → length s ≤ i → TextFrom s some all i ≡ cond some (Text i all) Nothing
-  unfolding readParts
+  unfolding readUpTo
   text-end h k =
       rw (drop-of-length-le s k)
       (stopped (length s) some all [] refl ∙ ap (λ (x : ℕ). cond some (Text x all) Nothing) (omega arith))
 
   pub text-foreign : i < length s → (getD s i 0 ≡ 60 → ⊥) → (getD s i 0 ≡ 38 → ⊥) → inText (getD s i 0) ≡ false → Nothing ≡ TextFrom s some all i
-  unfolding readParts
   text-foreign h l n f =
-      sym (opened h ∙ rw (ne-eqb (getD s i 0) 38 n, f) (unstopped (length s) some all (getD s i 0 ∷ drop (i + 1) s) (ne-eqb (getD s i 0) 60 l)))
+      sym (ap (textOf (length s) some all) (plain-none inText s i h n f)
+      ∙ unstopped (length s) some all (drop i s) (rw (drop-cons s i 0 h) (ne-eqb (getD s i 0) 60 l)))
 
   pub text-amp-no : i < length s → getD s i 0 ≡ 38 → reachOf (length s) (readReference (drop (i + 1) s)) ≡ No → Nothing ≡ TextFrom s some all i
-  unfolding readParts
-  text-amp-no h a e = sym (opened h ∙ rw (eq-eqb (getD s i 0) 38 a, reach-no (length s) (readReference (drop (i + 1) s)) e))
+  text-amp-no h a e = sym (ap (textOf (length s) some all) (amp-none inText s i h a (reach-no (length s) (readReference (drop (i + 1) s)) e)))
 
   pub text-amp : i < length s → getD s i 0 ≡ 38 → (e : ℕ) → reachOf (length s) (readReference (drop (i + 1) s)) ≡ To e
       → (i < e) × (e ≤ length s) × (TextFrom s some all i ≡ TextFrom s true false e)
-  unfolding readParts
   text-amp h a e k =
       let (n, is, low, high) = reached s (i + 1) (omega arith) (readReference (drop (i + 1) s)) e (reference-suffix (drop (i + 1) s)) k in
-      let entity : isEntity n ≡ true = holds-got (rw is at (reference-sound (drop (i + 1) s))) .0 in
-      let rest : Read (List Part) = readParts (length (drop (i + 1) s)) inText (drop e s) in (
+      let entity : isEntity n ≡ true = holds-got (rw is at (reference-sound (drop (i + 1) s))) .0 in (
         omega arith,
         high,
-        opened h
-            ∙ rw (eq-eqb (getD s i 0) 38 a, is)
-            (reference-of (length s) some all n rest entity
-            ∙ ap (textOf (length s) true false) (parts-enough inText (length (drop (i + 1) s)) (length (drop e s)) (drop e s)
-            (omega (arith, length-drop e s, length-drop (i + 1) s)) (omega arith))),
+        ap (textOf (length s) some all) (amp-got inText s i h a is) ∙ reference-of (length s) some all n (readParts inText (drop e s)) entity,
       )
 
-  rest-sound : Holds (λ ps r. printParts ps ++ r ≡ drop (i + 1) s) (readParts (length (drop (i + 1) s)) inText (drop (i + 1) s))
-  rest-sound = holds-map (parts-sound (length (drop (i + 1) s)) inText (drop (i + 1) s)) (λ ps r g. g .1)
+  rest-sound : Holds (λ ps r. printParts ps ++ r ≡ drop (i + 1) s) (readParts inText (drop (i + 1) s))
+  rest-sound = holds-map (many-sound (part-sound inText) (drop (i + 1) s)) (λ ps r g. g .1)
 
   pub text-section : i < length s → (getD s i 0 ≡ 38 → ⊥) → inText (getD s i 0) ≡ true → begins (93 ∷ 93 ∷ 62 ∷ []) (drop i s) ≡ true
       → Nothing ≡ TextFrom s some all i
-  unfolding readParts
   text-section h n t w =
       let here : begins (93 ∷ 93 ∷ 62 ∷ []) (getD s i 0 ∷ drop (i + 1) s) ≡ true = rw (add-one i, ← drop-cons s i 0 h) w in
-      section-of (length s) some all (getD s i 0) (drop (i + 1) s) _ rest-sound here ∙ sym (opened h ∙ rw (ne-eqb (getD s i 0) 38 n, t))
+      section-of (length s) some all (getD s i 0) (drop (i + 1) s) _ rest-sound here ∙ ap (textOf (length s) some all) (sym (plain-got inText s i h n t))
 
   pub text-plain : i < length s → (getD s i 0 ≡ 38 → ⊥) → inText (getD s i 0) ≡ true → begins (93 ∷ 93 ∷ 62 ∷ []) (drop i s) ≡ false
       → TextFrom s some all i ≡ TextFrom s true (all && blank (getD s i 0)) (i + 1)
-  unfolding readParts
   text-plain h n t w =
       let here : begins (93 ∷ 93 ∷ 62 ∷ []) (getD s i 0 ∷ drop (i + 1) s) ≡ false = rw (add-one i, ← drop-cons s i 0 h) w in
-      opened h ∙ rw (ne-eqb (getD s i 0) 38 n, t) (plain-of (length s) some all (getD s i 0) (drop (i + 1) s) _ rest-sound here)
+      ap (textOf (length s) some all) (plain-got inText s i h n t) ∙ plain-of (length s) some all (getD s i 0) (drop (i + 1) s) _ rest-sound here

@@ -16,7 +16,7 @@ use Rattle.documents.specs.Reading.{readTag, readEndTag, readComment, readMarku
 use Rattle.reports.specs.Seen.{foundOf}
 use Rattle.reports.specs.Code.Seen.{declarationAt}
 use Rattle.reports.proofs.Laws.Read.Reaches.{word-fits}
-use Rattle.reports.proofs.Laws.Read.Comments.{word-is}
+use Rattle.text.proofs.Laws.Reads.{word-is}
 
 declaration-length : length declarationBytes ≡ 21
 unfolding declarationBytes
