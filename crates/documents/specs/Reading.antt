@@ -7,7 +7,7 @@ use lib.Dec.{eqb}
 use lib.ListN.{length, drop}
 use Rattle.text.specs.Names.{Name}
 use Rattle.text.specs.Lists.{nonEmpty}
-use Rattle.text.specs.Read.{Read, fail, got, thenRead, when, front, back, begins, readWord, nameAhead, readName, readMany}
+use Rattle.text.specs.Read.{Read, fail, got, thenRead, when, front, back, startsWith, readWord, nameAhead, readName, readMany}
 use Rattle.documents.specs.Tokens.{blank, listed, Part, plain, reference, Quote, double, single, quoteByte, Attribute, attribute, Token, declaration, comment, startTag, emptyTag, endTag, text, declarationBytes, printParts, occurs, amp, lt, gt, quot, apos, inText, inValue, isDeclaration}
 
 abbrev pub readQuote : List ℕ → Read Quote
@@ -17,11 +17,11 @@ readQuote (b ∷ l) = cond (eqb b 34) (got double l) (when (eqb b 39) (got singl
 -- one of the five references, after its `&`
 unfoldable pub readReference : List ℕ → Read Name
 readReference l =
-    cond (begins (amp ++ (59 ∷ [])) l) (got amp (drop 4 l))
-    (cond (begins (lt ++ (59 ∷ [])) l) (got lt (drop 3 l))
-    (cond (begins (gt ++ (59 ∷ [])) l) (got gt (drop 3 l))
-    (cond (begins (quot ++ (59 ∷ [])) l) (got quot (drop 5 l))
-    (cond (begins (apos ++ (59 ∷ [])) l) (got apos (drop 5 l)) fail))))
+    cond (startsWith (amp ++ (59 ∷ [])) l) (got amp (drop 4 l))
+    (cond (startsWith (lt ++ (59 ∷ [])) l) (got lt (drop 3 l))
+    (cond (startsWith (gt ++ (59 ∷ [])) l) (got gt (drop 3 l))
+    (cond (startsWith (quot ++ (59 ∷ [])) l) (got quot (drop 5 l))
+    (cond (startsWith (apos ++ (59 ∷ [])) l) (got apos (drop 5 l)) fail))))
 
 -- `&`, or a byte that passes the test
 abbrev pub partAhead : (ℕ → Bool) → List ℕ → Bool
@@ -78,7 +78,7 @@ readEndTag l =
 unfoldable pub readContents : List ℕ → Read (List ℕ)
 readContents [] = fail
 readContents (b ∷ l) =
-    cond (begins (45 ∷ 45 ∷ []) (b ∷ l)) (thenRead (readWord (45 ∷ 45 ∷ 62 ∷ []) (b ∷ l)) (λ w r. got [] r))
+    cond (startsWith (45 ∷ 45 ∷ []) (b ∷ l)) (thenRead (readWord (45 ∷ 45 ∷ 62 ∷ []) (b ∷ l)) (λ w r. got [] r))
     (when (listed b) (thenRead (readContents l) (λ c r. got (b ∷ c) r)))
 
 -- a comment after its `<!`

@@ -7,7 +7,7 @@ use mathlib.Core.List.{List, [], _∷_, _++_}
 use lib.Dec.{eqb}
 use Rattle.text.specs.Names.{Name, within, nameForm, sameName}
 use Rattle.text.specs.Lists.{every, nonEmpty}
-use Rattle.text.specs.Read.{begins, printMany}
+use Rattle.text.specs.Read.{startsWith, printMany}
 
 -- the bytes that a report may have: 9, 10, 13 and 32 to 126
 unfoldable pub listed : ℕ → Bool
@@ -86,8 +86,8 @@ printTokens (t ∷ ts) = printToken t ++ printTokens ts
 
 -- the word stands somewhere in the bytes
 unfoldable pub occurs : List ℕ → List ℕ → Bool
-occurs w [] = begins w []
-occurs w (b ∷ l) = begins w (b ∷ l) || occurs w l
+occurs w [] = startsWith w []
+occurs w (b ∷ l) = startsWith w (b ∷ l) || occurs w l
 
 -- the last of the bytes is this one
 unfoldable pub endsIn : ℕ → List ℕ → Bool

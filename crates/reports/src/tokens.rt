@@ -15,7 +15,7 @@ ghost use mathlib.Core.Logic.{_↔_};
 ghost use Prim.Native.Nat.{_+_, _≤_, _<_};
 ghost use lib.ListN.{length, drop};
 ghost use mathlib.Core.List.{[], _∷_};
-ghost use Rattle.text.specs.Read.{begins};
+ghost use Rattle.text.specs.Read.{startsWith};
 ghost use Rattle.documents.specs.Tokens.{RunOfTokens};
 ghost use Rattle.documents.specs.TagAt.{TagAt};
 ghost use Rattle.documents.specs.Reading.{readTag, readEndTag, readContents, readComment, readText, readToken};
@@ -93,7 +93,7 @@ fn end_tag(s: &[u8], at: usize) -> Found
 // `--` stands at the offset. Its first byte is tested first: most bytes are another.
 fn dashes(s: &[u8], at: usize) -> bool
     requires { ⌜ at ≤ length (now s) ⌝ }
-    ensures { λ r. ⌜ r ≡ begins (45 ∷ 45 ∷ []) (drop at (now (s .entry))) ⌝ }
+    ensures { λ r. ⌜ r ≡ startsWith (45 ∷ 45 ∷ []) (drop at (now (s .entry))) ⌝ }
 {
     if s.len() <= at {
         return false;
@@ -107,7 +107,7 @@ fn dashes(s: &[u8], at: usize) -> bool
 // `-->` stands at the offset.
 fn comment_close(s: &[u8], at: usize) -> bool
     requires { ⌜ at ≤ length (now s) ⌝ }
-    ensures { λ r. ⌜ r ≡ begins (45 ∷ 45 ∷ 62 ∷ []) (drop at (now (s .entry))) ⌝ }
+    ensures { λ r. ⌜ r ≡ startsWith (45 ∷ 45 ∷ 62 ∷ []) (drop at (now (s .entry))) ⌝ }
 {
     word_at(s, at, b"-->")
 }
@@ -115,7 +115,7 @@ fn comment_close(s: &[u8], at: usize) -> bool
 // `]]>` stands at the offset. Its first byte is tested first: most bytes are another.
 fn section_close(s: &[u8], at: usize) -> bool
     requires { ⌜ at ≤ length (now s) ⌝ }
-    ensures { λ r. ⌜ r ≡ begins (93 ∷ 93 ∷ 62 ∷ []) (drop at (now (s .entry))) ⌝ }
+    ensures { λ r. ⌜ r ≡ startsWith (93 ∷ 93 ∷ 62 ∷ []) (drop at (now (s .entry))) ⌝ }
 {
     if s.len() <= at {
         return false;

@@ -31,10 +31,10 @@ back ok [] = []
 back ok (b ∷ l) = cond (ok b) (back ok l) (b ∷ l)
 
 -- the word stands at the front of the bytes
-unfoldable pub begins : List ℕ → List ℕ → Bool
-begins [] l = true
-begins (w ∷ ws) [] = false
-begins (w ∷ ws) (b ∷ l) = eqb w b && begins ws l
+unfoldable pub startsWith : List ℕ → List ℕ → Bool
+startsWith [] l = true
+startsWith (w ∷ ws) [] = false
+startsWith (w ∷ ws) (b ∷ l) = eqb w b && startsWith ws l
 
 unfoldable pub readWord : List ℕ → List ℕ → Read (List ℕ)
 readWord [] l = got [] l
@@ -85,7 +85,7 @@ readAfter separator item l = thenRead (readWord separator l) (λ w r. item r)
 -- items with a separator between them, one at least
 unfoldable pub readSeparated : {A : Type 0} → List ℕ → (List ℕ → Read A) → List ℕ → Read (List A)
 readSeparated separator item l =
-    thenRead (item l) (λ a r. thenRead (readMany (begins separator) (readAfter separator item) r) (λ m r₂. got (a ∷ m) r₂))
+    thenRead (item l) (λ a r. thenRead (readMany (startsWith separator) (readAfter separator item) r) (λ m r₂. got (a ∷ m) r₂))
 
 unfoldable pub printSeparated : {A : Type 0} → List ℕ → (A → List ℕ) → List A → List ℕ
 printSeparated separator print [] = []

@@ -2,11 +2,11 @@
 use crate::arith::minus;
 ghost use mathlib.Core.Path.{_≡_};
 ghost use lib.ListN.{drop};
-ghost use Rattle.text.specs.Read.{begins};
+ghost use Rattle.text.specs.Read.{startsWith};
 
 // Whether the word stands at an offset.
 pub fn word_at(s: &[u8], at: usize, w: &[u8]) -> bool
-    ensures { λ r. ⌜ r ≡ begins (now (w .entry)) (drop at (now (s .entry))) ⌝ }
+    ensures { λ r. ⌜ r ≡ startsWith (now (w .entry)) (drop at (now (s .entry))) ⌝ }
 {
     if minus(s.len(), at) < w.len() {
         return false;

@@ -7,11 +7,11 @@ use mathlib.Core.Bool.{Bool, true, false}
 use mathlib.Core.List.{List, [], _∷_, _++_, append-assoc, append-nil}
 use lib.ListN.{length, length-append}
 use Rattle.text.specs.Lists.{every, nonEmpty}
-use Rattle.text.specs.Read.{Read, got, thenRead, begins, readUpTo, readMany, printMany, readAfter, readSeparated, printSeparated}
+use Rattle.text.specs.Read.{Read, got, thenRead, startsWith, readUpTo, readMany, printMany, readAfter, readSeparated, printSeparated}
 use Rattle.text.proofs.Laws.Tests.{cases, clash, both-true}
 use Rattle.text.proofs.Laws.Lists.{every-head, every-rest, every-append}
 use Rattle.text.proofs.Laws.Scans.{begins-short}
-use Rattle.text.proofs.Laws.Reads.{Holds, gotten, then-holds, holds-map, cond-holds, then-same, word-back, word-begins, word-sound}
+use Rattle.text.proofs.Laws.Reads.{WhenRead, gotten, then-holds, holds-map, cond-holds, then-same, word-back, word-begins, word-sound}
 
 -- an item begins wherever one is printed, and none at the end of the bytes
 pub record Begins {A : Type 0} (ahead : List ℕ → Bool) (print : A → List ℕ) (ok : A → Bool) : Type 0 where
@@ -25,7 +25,7 @@ pub record Back {A : Type 0} (item : List ℕ → Read A) (print : A → List �
 
 -- an item that was read is within its rule and prints to what stood there
 pub record Sound {A : Type 0} (ahead : List ℕ → Bool) (item : List ℕ → Read A) (print : A → List ℕ) (ok : A → Bool) : Type 0 where
-  pub sound : (l : List ℕ) → ahead l ≡ true → Holds (λ a r. (ok a ≡ true) × (print a ++ r ≡ l)) (item l)
+  pub sound : (l : List ℕ) → ahead l ≡ true → WhenRead (λ a r. (ok a ≡ true) × (print a ++ r ≡ l)) (item l)
 
 module _ {A : Type 0} (ahead : List ℕ → Bool) (item : List ℕ → Read A) where
   up-to-none : (n : ℕ) (l : List ℕ) → ahead l ≡ false → readUpTo n ahead item l ≡ got [] l
@@ -45,7 +45,7 @@ many-every print ok test f (a ∷ m) h =
     every-append test (print a) (printMany print m) (f a (every-head ok a m h)) (many-every print ok test f m (every-rest ok a m h))
 
 module _ {A : Type 0} {ahead : List ℕ → Bool} {item : List ℕ → Read A} {print : A → List ℕ} {ok : A → Bool} (one : Sound ahead item print ok) where
-  up-to-sound : (n : ℕ) (l : List ℕ) → Holds (λ m r. (every ok m ≡ true) × (printMany print m ++ r ≡ l)) (readUpTo n ahead item l)
+  up-to-sound : (n : ℕ) (l : List ℕ) → WhenRead (λ m r. (every ok m ≡ true) × (printMany print m ++ r ≡ l)) (readUpTo n ahead item l)
   unfolding readUpTo printMany every
   up-to-sound zero l = gotten (refl, refl)
   up-to-sound (suc n) l =
@@ -56,7 +56,7 @@ module _ {A : Type 0} {ahead : List ℕ → Bool} {item : List ℕ → Read A} {
       gotten (both-true (now .0) (more .0), rw (append-assoc (print a) (printMany print m) r₂, more .1) (now .1)))))
       (λ f. gotten (refl, refl))
 
-  pub many-sound : (l : List ℕ) → Holds (λ m r. (every ok m ≡ true) × (printMany print m ++ r ≡ l)) (readMany ahead item l)
+  pub many-sound : (l : List ℕ) → WhenRead (λ m r. (every ok m ≡ true) × (printMany print m ++ r ≡ l)) (readMany ahead item l)
   many-sound l = up-to-sound (length l) l
 
 module _ {A : Type 0} {ahead : List ℕ → Bool} {print : A → List ℕ} {ok : A → Bool} (begun : Begins ahead print ok) where
@@ -100,7 +100,7 @@ module _ {A : Type 0} {ahead : List ℕ → Bool} {print : A → List ℕ} {ok :
 
   module _ {item : List ℕ → Read A} (one : Sound ahead item print ok) where
     -- what was read has a byte at least
-    pub shorter : (l : List ℕ) → ahead l ≡ true → Holds (λ (a : A) r. length r < length l) (item l)
+    pub shorter : (l : List ℕ) → ahead l ≡ true → WhenRead (λ (a : A) r. length r < length l) (item l)
     shorter l t = holds-map (one .sound l t) (λ a r g. omega (arith, some-bytes a (g .0), length-append (print a) r, ap length (g .1)))
 
     -- as many steps as bytes are enough
@@ -134,13 +134,13 @@ module _ {A : Type 0} (b : ℕ) (w : List ℕ) (item : List ℕ → Read A) (pri
   abbrev printAfter : A → List ℕ
   printAfter a = separator ++ print a
 
-  after-begins : Begins (begins separator) printAfter ok
+  after-begins : Begins (startsWith separator) printAfter ok
   after-begins = record { here = λ a r h. rw append-assoc (word-begins separator (print a ++ r)); none = begins-short separator [] (omega arith) }
 
   -- what may follow an item, a separator may
   pub separated-back : (after : List ℕ → Bool) → ((a : A) (r : List ℕ) → ok a ≡ true → after r ≡ true → item (print a ++ r) ≡ got a r)
       → ((r : List ℕ) → after (separator ++ r) ≡ true)
-      → (a : A) (m : List A) (r : List ℕ) → every ok (a ∷ m) ≡ true → after r ≡ true → begins separator r ≡ false
+      → (a : A) (m : List A) (r : List ℕ) → every ok (a ∷ m) ≡ true → after r ≡ true → startsWith separator r ≡ false
       → readSeparated separator item (printSeparated separator print (a ∷ m) ++ r) ≡ got (a ∷ m) r
   unfolding readSeparated printSeparated
   separated-back after back next a m r h k f =
@@ -156,11 +156,11 @@ module _ {A : Type 0} (b : ℕ) (w : List ℕ) (item : List ℕ → Read A) (pri
         many-back after-begins one m r rest k f,
       )
 
-  pub separated-sound : ((l : List ℕ) → Holds (λ a r. (ok a ≡ true) × (print a ++ r ≡ l)) (item l))
-      → (l : List ℕ) → Holds (λ m r. (every ok m ≡ true) × (nonEmpty m ≡ true) × (printSeparated separator print m ++ r ≡ l)) (readSeparated separator item l)
+  pub separated-sound : ((l : List ℕ) → WhenRead (λ a r. (ok a ≡ true) × (print a ++ r ≡ l)) (item l))
+      → (l : List ℕ) → WhenRead (λ m r. (every ok m ≡ true) × (nonEmpty m ≡ true) × (printSeparated separator print m ++ r ≡ l)) (readSeparated separator item l)
   unfolding readSeparated printSeparated every
   separated-sound sound l =
-      let one : Sound (begins separator) (readAfter separator item) printAfter ok =
+      let one : Sound (startsWith separator) (readAfter separator item) printAfter ok =
       record {
         sound = λ x t. then-holds (word-sound separator x) (λ u s e.
             holds-map (sound s) (λ a r g. (g .0, rw (append-assoc separator (print a) r, g .1) e)));

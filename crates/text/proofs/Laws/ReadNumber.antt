@@ -14,7 +14,7 @@ use Rattle.text.proofs.Laws.Tests.{cases, and-left, and-right}
 use Rattle.text.proofs.Laws.Lists.{every-head, every-rest}
 use Rattle.text.proofs.Laws.Decimal.{digits-one, digits-more, decimal-one, decimal-more, decimal-digits, decimal-value}
 use Rattle.text.proofs.Laws.Fronts.{stops, front-of, back-of, front-back, front-every}
-use Rattle.text.proofs.Laws.Reads.{Holds, gotten, when-holds}
+use Rattle.text.proofs.Laws.Reads.{WhenRead, gotten, when-holds}
 
 digits-ahead : (k n : ℕ) (r : List ℕ) → n < k → 1 ≤ n → numberAhead (digits k n ++ r) ≡ true
 digits-ahead zero n r h p = absurd (omega arith)
@@ -64,7 +64,7 @@ front-decimal (b ∷ l) h =
     let (is, some) = value-decimal (0 + (b - 48)) (front digit l) (omega arith) (front-every digit l) in
     rw (le-leb 48 b (omega arith), le-leb b 57 high) (is ∙ rw (decimal-one (0 + (b - 48)) (omega arith), byte), some)
 
-pub number-sound : (most : ℕ) (l : List ℕ) → Holds (λ n r. (1 ≤ n) × (n ≤ most) × (decimal n ++ r ≡ l)) (readNumber most l)
+pub number-sound : (most : ℕ) (l : List ℕ) → WhenRead (λ n r. (1 ≤ n) × (n ≤ most) × (decimal n ++ r ≡ l)) (readNumber most l)
 unfolding readNumber
 number-sound most l =
     when-holds (numberAhead l && leb (valueOf 0 (front digit l)) most) (λ t.

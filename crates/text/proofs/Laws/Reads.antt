@@ -8,38 +8,38 @@ use borrow.Author.Tests.{eqb-true, eq-eqb}
 use lib.ListN.{length, drop}
 use Rattle.text.specs.Lists.{every}
 use Rattle.text.specs.Names.{beginsName, inName, nameForm}
-use Rattle.text.specs.Read.{Read, fail, got, thenRead, when, begins, readWord, nameAhead, readName}
+use Rattle.text.specs.Read.{Read, fail, got, thenRead, when, startsWith, readWord, nameAhead, readName}
 use Rattle.text.proofs.Laws.Tests.{cases, and-left, both, both-true}
 use Rattle.text.proofs.Laws.Fronts.{front-back, front-every, stops, front-of, back-of}
 
 -- whatever was read, this holds of it and of the bytes after it
-pub data Holds {A : Type 0} (P : A → List ℕ → Type 0) : Read A → Type 0 where
-  failed : Holds P fail
-  gotten : {a : A} {r : List ℕ} → P a r → Holds P (got a r)
+pub data WhenRead {A : Type 0} (P : A → List ℕ → Type 0) : Read A → Type 0 where
+  failed : WhenRead P fail
+  gotten : {a : A} {r : List ℕ} → P a r → WhenRead P (got a r)
 
-pub holds-got : {A : Type 0} {P : A → List ℕ → Type 0} {a : A} {r : List ℕ} → Holds P (got a r) → P a r
+pub holds-got : {A : Type 0} {P : A → List ℕ → Type 0} {a : A} {r : List ℕ} → WhenRead P (got a r) → P a r
 holds-got (gotten h) = h
 
 pub then-holds : {A B : Type 0} {P : A → List ℕ → Type 0} {Q : B → List ℕ → Type 0} {m : Read A} {k : A → List ℕ → Read B}
-    → Holds P m → ((a : A) (r : List ℕ) → P a r → Holds Q (k a r)) → Holds Q (thenRead m k)
+    → WhenRead P m → ((a : A) (r : List ℕ) → P a r → WhenRead Q (k a r)) → WhenRead Q (thenRead m k)
 then-holds failed f = failed
 then-holds (gotten {a} {r} h) f = f a r h
 
-pub holds-map : {A : Type 0} {P Q : A → List ℕ → Type 0} {m : Read A} → Holds P m → ((a : A) (r : List ℕ) → P a r → Q a r) → Holds Q m
+pub holds-map : {A : Type 0} {P Q : A → List ℕ → Type 0} {m : Read A} → WhenRead P m → ((a : A) (r : List ℕ) → P a r → Q a r) → WhenRead Q m
 holds-map failed f = failed
 holds-map (gotten {a} {r} h) f = gotten (f a r h)
 
 pub then-same : {A B : Type 0} {P : A → List ℕ → Type 0} {m : Read A} {k j : A → List ℕ → Read B}
-    → Holds P m → ((a : A) (r : List ℕ) → P a r → k a r ≡ j a r) → thenRead m k ≡ thenRead m j
+    → WhenRead P m → ((a : A) (r : List ℕ) → P a r → k a r ≡ j a r) → thenRead m k ≡ thenRead m j
 then-same failed f = refl
 then-same (gotten {a} {r} h) f = f a r h
 
-pub when-holds : {A : Type 0} {P : A → List ℕ → Type 0} {x : Read A} (t : Bool) → (t ≡ true → Holds P x) → Holds P (when t x)
+pub when-holds : {A : Type 0} {P : A → List ℕ → Type 0} {x : Read A} (t : Bool) → (t ≡ true → WhenRead P x) → WhenRead P (when t x)
 when-holds true f = f refl
 when-holds false f = failed
 
-pub cond-holds : {A : Type 0} {P : A → List ℕ → Type 0} {x y : Read A} (t : Bool) → (t ≡ true → Holds P x) → (t ≡ false → Holds P y)
-    → Holds P (cond t x y)
+pub cond-holds : {A : Type 0} {P : A → List ℕ → Type 0} {x y : Read A} (t : Bool) → (t ≡ true → WhenRead P x) → (t ≡ false → WhenRead P y)
+    → WhenRead P (cond t x y)
 cond-holds true f g = f refl
 cond-holds false f g = g refl
 
@@ -48,12 +48,12 @@ unfolding readWord
 word-back [] r = refl
 word-back (b ∷ w) r = rw (eq-eqb b b refl) (word-back w r)
 
-pub word-begins : (w r : List ℕ) → begins w (w ++ r) ≡ true
-unfolding begins
+pub word-begins : (w r : List ℕ) → startsWith w (w ++ r) ≡ true
+unfolding startsWith
 word-begins [] r = refl
 word-begins (b ∷ w) r = rw (eq-eqb b b refl) (word-begins w r)
 
-pub word-sound : (w l : List ℕ) → Holds (λ u r. w ++ r ≡ l) (readWord w l)
+pub word-sound : (w l : List ℕ) → WhenRead (λ u r. w ++ r ≡ l) (readWord w l)
 unfolding readWord
 word-sound [] l = gotten refl
 word-sound (b ∷ w) [] = failed
@@ -61,13 +61,13 @@ word-sound (b ∷ w) (c ∷ l) =
     when-holds (eqb b c) (λ t. holds-map (word-sound w l) (λ u r e. rw (eqb-true b c t) (ap (_∷_ c) e)))
 
 -- a word is read where it stands, and only there
-pub word-is : (w l : List ℕ) → readWord w l ≡ cond (begins w l) (got [] (drop (length w) l)) fail
-unfolding readWord begins
+pub word-is : (w l : List ℕ) → readWord w l ≡ cond (startsWith w l) (got [] (drop (length w) l)) fail
+unfolding readWord startsWith
 word-is [] l = refl
 word-is (b ∷ w) [] = refl
 word-is (b ∷ w) (c ∷ l) = cases (eqb b c) (λ t. rw t (word-is w l)) (λ f. rw f)
 
-pub begins-drop : (w l : List ℕ) → begins w l ≡ true → w ++ drop (length w) l ≡ l
+pub begins-drop : (w l : List ℕ) → startsWith w l ≡ true → w ++ drop (length w) l ≡ l
 begins-drop w l t = holds-got (rw (word-is w l, t) at (word-sound w l))
 
 pub name-back : (n r : List ℕ) → nameForm n ≡ true → stops inName r ≡ true → readName (n ++ r) ≡ got n r
@@ -82,7 +82,7 @@ unfolding nameForm
 name-ahead [] r h = absurd (false≢true h)
 name-ahead (b ∷ n) r h = and-left _ _ h
 
-pub name-sound : (l : List ℕ) → Holds (λ n r. (nameForm n ≡ true) × (n ++ r ≡ l)) (readName l)
+pub name-sound : (l : List ℕ) → WhenRead (λ n r. (nameForm n ≡ true) × (n ++ r ≡ l)) (readName l)
 unfolding readName nameForm
 name-sound [] = failed
 name-sound (b ∷ l) =

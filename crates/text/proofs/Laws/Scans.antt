@@ -10,7 +10,7 @@ use borrow.Author.Tests.{eq-eqb, ne-eqb}
 use lib.ListN.{length, getD, drop, drop-of-length-le}
 use lib.Seq.{drop-cons}
 use Rattle.text.specs.Lists.{every}
-use Rattle.text.specs.Read.{begins, front}
+use Rattle.text.specs.Read.{startsWith, front}
 
 module _ (ok : ℕ → Bool) (s : List ℕ) (i : ℕ) where
   pub every-no : i < length s → ok (getD s i 0) ≡ false → every ok (drop i s) ≡ false
@@ -49,31 +49,31 @@ module _ (ok : ℕ → Bool) (s : List ℕ) (i : ℕ) where
   span-end h = omega (arith, front-end h)
 
 module _ (w s : List ℕ) (i k : ℕ) where
-  pub begins-no : i < length w → k < length s → (getD s k 0 ≡ getD w i 0 → ⊥) → begins (drop i w) (drop k s) ≡ false
-  unfolding begins
+  pub begins-no : i < length w → k < length s → (getD s k 0 ≡ getD w i 0 → ⊥) → startsWith (drop i w) (drop k s) ≡ false
+  unfolding startsWith
   begins-no h l n = rw (drop-cons w i 0 h, drop-cons s k 0 l, ne-eqb (getD w i 0) (getD s k 0) (λ e. n (sym e)))
 
-  pub begins-yes : i < length w → k < length s → getD s k 0 ≡ getD w i 0 → begins (drop i w) (drop k s) ≡ begins (drop (suc i) w) (drop (suc k) s)
-  unfolding begins
+  pub begins-yes : i < length w → k < length s → getD s k 0 ≡ getD w i 0 → startsWith (drop i w) (drop k s) ≡ startsWith (drop (suc i) w) (drop (suc k) s)
+  unfolding startsWith
   begins-yes h l e =
-      ap (λ (v : List ℕ). begins v (drop k s)) (drop-cons w i 0 h) ∙ ap (begins (getD w i 0 ∷ drop (suc i) w)) (drop-cons s k 0 l)
-      ∙ ap (λ (t : Bool). t && begins (drop (suc i) w) (drop (suc k) s)) (eq-eqb (getD w i 0) (getD s k 0) (sym e))
+      ap (λ (v : List ℕ). startsWith v (drop k s)) (drop-cons w i 0 h) ∙ ap (startsWith (getD w i 0 ∷ drop (suc i) w)) (drop-cons s k 0 l)
+      ∙ ap (λ (t : Bool). t && startsWith (drop (suc i) w) (drop (suc k) s)) (eq-eqb (getD w i 0) (getD s k 0) (sym e))
 
-  pub begins-end : length w ≤ i → begins (drop i w) (drop k s) ≡ true
-  unfolding begins
-  begins-end h = ap (λ (v : List ℕ). begins v (drop k s)) (drop-of-length-le w h)
+  pub begins-end : length w ≤ i → startsWith (drop i w) (drop k s) ≡ true
+  unfolding startsWith
+  begins-end h = ap (λ (v : List ℕ). startsWith v (drop k s)) (drop-of-length-le w h)
 
 module _ (b : ℕ) (w s : List ℕ) (k : ℕ) where
-  pub begins-other : k < length s → (getD s k 0 ≡ b → ⊥) → begins (b ∷ w) (drop k s) ≡ false
-  unfolding begins
+  pub begins-other : k < length s → (getD s k 0 ≡ b → ⊥) → startsWith (b ∷ w) (drop k s) ≡ false
+  unfolding startsWith
   begins-other l n = rw (drop-cons s k 0 l, ne-eqb b (getD s k 0) (λ e. n (sym e)))
 
-  pub begins-past : length s ≤ k → begins (b ∷ w) (drop k s) ≡ false
-  unfolding begins
-  begins-past h = ap (begins (b ∷ w)) (drop-of-length-le s h)
+  pub begins-past : length s ≤ k → startsWith (b ∷ w) (drop k s) ≡ false
+  unfolding startsWith
+  begins-past h = ap (startsWith (b ∷ w)) (drop-of-length-le s h)
 
-pub begins-short : (w l : List ℕ) → length l < length w → begins w l ≡ false
-unfolding begins
+pub begins-short : (w l : List ℕ) → length l < length w → startsWith w l ≡ false
+unfolding startsWith
 begins-short [] l h = absurd (omega arith)
 begins-short (b ∷ w) [] h = refl
 begins-short (b ∷ w) (c ∷ l) h = rw (begins-short w l (omega arith)) (and-false (eqb b c))

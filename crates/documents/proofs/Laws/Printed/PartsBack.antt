@@ -7,7 +7,7 @@ use lib.Dec.{eqb}
 use Rattle.text.specs.Names.{Name, letter, digit, beginsName, inName, nameForm}
 use Rattle.text.specs.Lists.{every}
 use Rattle.documents.specs.Tokens.{blank, isEntity, Part, plain, reference, printPart, formedPart}
-use Rattle.text.specs.Read.{begins, got}
+use Rattle.text.specs.Read.{startsWith, got}
 use Rattle.documents.specs.Reading.{readReference, partAhead, readPart}
 use Rattle.text.proofs.Laws.Tests.{and-left, either-right}
 use Rattle.text.proofs.Laws.Lists.{every-head}
@@ -16,7 +16,7 @@ use Rattle.text.proofs.Laws.Fronts.{stops}
 use Rattle.text.proofs.Laws.ReadMany.{Begins, Back}
 
 pub reference-back : (n r : List ℕ) → isEntity n ≡ true → readReference (n ++ (59 ∷ r)) ≡ got n r
-unfolding readReference begins
+unfolding readReference startsWith
 reference-back n r h = entity-cases n h (λ e. is e refl) (λ e. is e refl) (λ e. is e refl) (λ e. is e refl) (λ e. is e refl)
   where
     is : {w : Name} → n ≡ w → readReference (w ++ (59 ∷ r)) ≡ got w r → readReference (n ++ (59 ∷ r)) ≡ got n r

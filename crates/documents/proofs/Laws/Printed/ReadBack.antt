@@ -8,7 +8,7 @@ use borrow.Author.Tests.{eqb-true, not-true}
 use Rattle.text.specs.Names.{Name, letter, digit, beginsName, inName, nameForm}
 use Rattle.text.specs.Lists.{every, nonEmpty}
 use Rattle.documents.specs.Tokens.{blank, listed, inText, Part, plain, reference, Attribute, attribute, Token, declaration, comment, startTag, emptyTag, endTag, text, declarationBytes, printPart, printParts, printAttribute, printAttributes, printToken, occurs, endsIn, formedPart, formedAttribute, formedTag, formedComment, formedText, formedToken, isText}
-use Rattle.text.specs.Read.{begins, got, front, readWord, nameAhead, printMany}
+use Rattle.text.specs.Read.{startsWith, got, front, readWord, nameAhead, printMany}
 use Rattle.documents.specs.Reading.{partAhead, attributeAhead, readTagEnd, readTag, readEndTag, readContents, readComment, readMarkup, textEnds, readText, readToken}
 use Rattle.text.proofs.Laws.Tests.{and-left, and-right, neither}
 use Rattle.text.proofs.Laws.Lists.{every-head, every-rest}
@@ -65,8 +65,8 @@ empties r = record { no-name = refl; no-blank = refl; no-attribute = refl }
 
 -- contents that end in no `-` have no `--` with what follows them
 no-dashes : (b : ℕ) (c r : List ℕ) → occurs (45 ∷ 45 ∷ []) (b ∷ c) ≡ false → endsIn 45 (b ∷ c) ≡ false
-    → begins (45 ∷ 45 ∷ []) (b ∷ (c ++ (45 ∷ r))) ≡ false
-unfolding occurs begins endsIn
+    → startsWith (45 ∷ 45 ∷ []) (b ∷ (c ++ (45 ∷ r))) ≡ false
+unfolding occurs startsWith endsIn
 no-dashes b [] r o e = rw e
 no-dashes b (x ∷ c) r o e = neither _ _ o .0
 
@@ -77,11 +77,11 @@ ends-rest b (x ∷ c) e = e
 
 contents : (c r : List ℕ) → every listed c ≡ true → occurs (45 ∷ 45 ∷ []) c ≡ false → endsIn 45 c ≡ false
     → readContents (c ++ (45 ∷ 45 ∷ 62 ∷ r)) ≡ got c r
-unfolding readContents readWord begins occurs
+unfolding readContents readWord startsWith occurs
 contents [] r h o e = refl
 contents (b ∷ c) r h o e =
     let none = no-dashes b c (45 ∷ 62 ∷ r) o e in
-    let rest : occurs (45 ∷ 45 ∷ []) c ≡ false = neither (begins (45 ∷ 45 ∷ []) (b ∷ c)) _ o .1 in
+    let rest : occurs (45 ∷ 45 ∷ []) c ≡ false = neither (startsWith (45 ∷ 45 ∷ []) (b ∷ c)) _ o .1 in
     rw (none, every-head listed b c h, contents c r (every-rest listed b c h) rest (ends-rest b c e))
 
 contents-back : (c r : List ℕ) → formedComment c ≡ true → readContents (c ++ (45 ∷ 45 ∷ 62 ∷ r)) ≡ got c r

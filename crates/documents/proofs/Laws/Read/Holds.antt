@@ -6,9 +6,9 @@ use lib.Dec.{eqb}
 use borrow.Author.Tests.{eqb-true}
 use Rattle.documents.specs.Tokens.{quoteByte}
 use Rattle.documents.specs.Reading.{readQuote}
-use Rattle.text.proofs.Laws.Reads.{Holds, failed, gotten, when-holds, cond-holds}
+use Rattle.text.proofs.Laws.Reads.{WhenRead, failed, gotten, when-holds, cond-holds}
 
-pub quote-sound : (l : List ℕ) → Holds (λ q r. quoteByte q ∷ r ≡ l) (readQuote l)
+pub quote-sound : (l : List ℕ) → WhenRead (λ q r. quoteByte q ∷ r ≡ l) (readQuote l)
 quote-sound [] = failed
 quote-sound (b ∷ l) =
     cond-holds (eqb b 34) (λ t. gotten (ap (λ (c : ℕ). c ∷ l) (sym (eqb-true b 34 t))))

@@ -8,29 +8,29 @@ use borrow.Author.Tests.{eqb-true}
 use Rattle.text.specs.Lists.{nonEmpty}
 use Rattle.text.specs.Names.{sameName}
 use Rattle.documents.specs.Tokens.{blank, amp, lt, gt, quot, apos, isEntity, inValue, Part, Quote, quoteByte, attribute, printPart, printParts, printAttribute, formedPart, formedAttribute}
-use Rattle.text.specs.Read.{begins, front, back}
+use Rattle.text.specs.Read.{startsWith, front, back}
 use Rattle.documents.specs.Reading.{readReference, partAhead, readPart, readAttributeFrom, readAttribute, attributeAhead}
 use Rattle.text.proofs.Laws.Tests.{and-left, both-true}
 use Rattle.documents.proofs.Laws.Printed.AttributesBack.{spread}
-use Rattle.text.proofs.Laws.Reads.{Holds, failed, gotten, then-holds, cond-holds, begins-drop, word-sound, name-sound}
+use Rattle.text.proofs.Laws.Reads.{WhenRead, failed, gotten, then-holds, cond-holds, begins-drop, word-sound, name-sound}
 use Rattle.text.proofs.Laws.ReadMany.{Sound, many-sound}
 use Rattle.text.proofs.Laws.Fronts.{front-back, front-every}
 use Rattle.documents.proofs.Laws.Read.Holds.{quote-sound}
 
-pub reference-sound : (l : List ℕ) → Holds (λ n r. (isEntity n ≡ true) × (n ++ (59 ∷ r) ≡ l)) (readReference l)
+pub reference-sound : (l : List ℕ) → WhenRead (λ n r. (isEntity n ≡ true) × (n ++ (59 ∷ r) ≡ l)) (readReference l)
 unfolding readReference isEntity sameName
 reference-sound l =
-    cond-holds (begins (amp ++ (59 ∷ [])) l) (λ t. gotten (refl, begins-drop (amp ++ (59 ∷ [])) l t)) (λ f.
-    cond-holds (begins (lt ++ (59 ∷ [])) l) (λ t. gotten (refl, begins-drop (lt ++ (59 ∷ [])) l t)) (λ f.
-    cond-holds (begins (gt ++ (59 ∷ [])) l) (λ t. gotten (refl, begins-drop (gt ++ (59 ∷ [])) l t)) (λ f.
-    cond-holds (begins (quot ++ (59 ∷ [])) l) (λ t. gotten (refl, begins-drop (quot ++ (59 ∷ [])) l t)) (λ f.
-    cond-holds (begins (apos ++ (59 ∷ [])) l) (λ t. gotten (refl, begins-drop (apos ++ (59 ∷ [])) l t)) (λ f. failed)))))
+    cond-holds (startsWith (amp ++ (59 ∷ [])) l) (λ t. gotten (refl, begins-drop (amp ++ (59 ∷ [])) l t)) (λ f.
+    cond-holds (startsWith (lt ++ (59 ∷ [])) l) (λ t. gotten (refl, begins-drop (lt ++ (59 ∷ [])) l t)) (λ f.
+    cond-holds (startsWith (gt ++ (59 ∷ [])) l) (λ t. gotten (refl, begins-drop (gt ++ (59 ∷ [])) l t)) (λ f.
+    cond-holds (startsWith (quot ++ (59 ∷ [])) l) (λ t. gotten (refl, begins-drop (quot ++ (59 ∷ [])) l t)) (λ f.
+    cond-holds (startsWith (apos ++ (59 ∷ [])) l) (λ t. gotten (refl, begins-drop (apos ++ (59 ∷ [])) l t)) (λ f. failed)))))
 
 pub part-sound : (ok : ℕ → Bool) → Sound (partAhead ok) readPart printPart (formedPart ok)
 unfolding readPart printPart
 part-sound ok = record { sound = sound }
   where
-    sound : (l : List ℕ) → partAhead ok l ≡ true → Holds (λ p r. (formedPart ok p ≡ true) × (printPart p ++ r ≡ l)) (readPart l)
+    sound : (l : List ℕ) → partAhead ok l ≡ true → WhenRead (λ p r. (formedPart ok p ≡ true) × (printPart p ++ r ≡ l)) (readPart l)
     sound [] t = failed
     sound (b ∷ l) t =
         cond-holds (eqb b 38)
@@ -45,7 +45,7 @@ attribute-prints l n r r₂ r₃ r₄ r₅ q v name eq quote more close =
     (front-back blank l)
 
 read-sound : (l : List ℕ) → nonEmpty (front blank l) ≡ true
-    → Holds (λ a r. (formedAttribute a ≡ true) × (printAttribute a ++ r ≡ l)) (readAttribute l)
+    → WhenRead (λ a r. (formedAttribute a ≡ true) × (printAttribute a ++ r ≡ l)) (readAttribute l)
 unfolding readAttributeFrom formedAttribute
 read-sound l some =
     then-holds (name-sound (back blank l)) (λ n r name.

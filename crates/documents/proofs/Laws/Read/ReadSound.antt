@@ -10,12 +10,12 @@ use lib.ListN.{length}
 use Rattle.text.specs.Names.{Name}
 use Rattle.text.specs.Lists.{every, nonEmpty}
 use Rattle.documents.specs.Tokens.{blank, listed, inText, Part, plain, reference, Attribute, Token, declaration, comment, startTag, emptyTag, endTag, text, declarationBytes, printPart, printParts, printAttributes, printToken, printTokens, occurs, endsIn, formedPart, formedTag, formedComment, formedText, formedToken, isText, isDeclaration, textFirst, textsApart, formedRun, RunOfTokens}
-use Rattle.text.specs.Read.{begins, Read, fail, got, front, back, printMany}
+use Rattle.text.specs.Read.{startsWith, Read, fail, got, front, back, printMany}
 use Rattle.documents.specs.Reading.{readTagEnd, readTag, readEndTag, readContents, readComment, readMarkup, textEnds, readText, readToken, readTokens, readReport}
 use Rattle.text.proofs.Laws.Tests.{and-left, and-right, both-true}
 use Rattle.documents.proofs.Laws.Read.Bytes.{text-no-less}
 use Rattle.documents.proofs.Laws.Printed.OneRun.{declared, run-back}
-use Rattle.text.proofs.Laws.Reads.{Holds, failed, gotten, holds-got, then-holds, holds-map, when-holds, cond-holds, word-sound, name-sound}
+use Rattle.text.proofs.Laws.Reads.{WhenRead, failed, gotten, holds-got, then-holds, holds-map, when-holds, cond-holds, word-sound, name-sound}
 use Rattle.text.proofs.Laws.ReadMany.{many-sound}
 use Rattle.text.proofs.Laws.Fronts.{front-back, front-every}
 use Rattle.documents.proofs.Laws.Read.PartsSound.{part-sound, attribute-sound}
@@ -28,7 +28,7 @@ no-text : {X : Type 0} → false ≡ true → X
 no-text h = absurd (false≢true h)
 
 tag-end-sound : (n : Name) (m : List Attribute) (s e l : List ℕ) → formedTag n m s ≡ true → n ++ (printAttributes m ++ (s ++ e)) ≡ l
-    → Holds (Good (60 ∷ l)) (readTagEnd n m s e)
+    → WhenRead (Good (60 ∷ l)) (readTagEnd n m s e)
 unfolding formedToken printToken
 tag-end-sound n m s [] l h p = failed
 tag-end-sound n m s (b ∷ r) l h p =
@@ -44,7 +44,7 @@ tag-end-sound n m s (b ∷ r) l h p =
     rw e (ap (λ (c : ℕ). n ++ (printAttributes m ++ (s ++ (c ∷ r)))) (sym (eqb-true b 47 t)) ∙ p) in
     gotten (h, ap (_∷_ 60) (simp append-assoc prints), no-text))))
 
-tag-sound : (l : List ℕ) → Holds (Good (60 ∷ l)) (readTag l)
+tag-sound : (l : List ℕ) → WhenRead (Good (60 ∷ l)) (readTag l)
 unfolding readTag formedTag
 tag-sound l =
     then-holds (name-sound l) (λ n r name.
@@ -52,7 +52,7 @@ tag-sound l =
     tag-end-sound n m (front blank r₂) (back blank r₂) l (both-true (name .0) (both-true (more .0) (front-every blank r₂)))
     (rw (front-back blank r₂, more .1) (name .1))))
 
-end-tag-sound : (l : List ℕ) → Holds (Good (60 ∷ 47 ∷ l)) (readEndTag l)
+end-tag-sound : (l : List ℕ) → WhenRead (Good (60 ∷ 47 ∷ l)) (readEndTag l)
 unfolding readEndTag formedToken printToken
 end-tag-sound l =
     then-holds (name-sound l) (λ n r name.
@@ -61,32 +61,32 @@ end-tag-sound l =
     gotten (both-true (name .0) (front-every blank r), ap (λ (w : List ℕ). 60 ∷ 47 ∷ w) (simp append-assoc prints), no-text)))
 
 -- a byte before contents without `--`, where `--` begins not at it
-dash-sound : (b : ℕ) (c r : List ℕ) → begins (45 ∷ 45 ∷ []) (b ∷ (c ++ (45 ∷ r))) ≡ false → occurs (45 ∷ 45 ∷ []) c ≡ false → endsIn 45 c ≡ false
+dash-sound : (b : ℕ) (c r : List ℕ) → startsWith (45 ∷ 45 ∷ []) (b ∷ (c ++ (45 ∷ r))) ≡ false → occurs (45 ∷ 45 ∷ []) c ≡ false → endsIn 45 c ≡ false
     → (occurs (45 ∷ 45 ∷ []) (b ∷ c) ≡ false) × (endsIn 45 (b ∷ c) ≡ false)
-unfolding begins occurs endsIn
+unfolding startsWith occurs endsIn
 dash-sound b [] r f o e = (rw (and-false (eqb 45 b)), sym (and-true (eqb 45 b)) ∙ f)
 dash-sound b (x ∷ c) r f o e = (rw (f, o), e)
 
 no-contents : (occurs (45 ∷ 45 ∷ []) [] ≡ false) × (endsIn 45 [] ≡ false)
-unfolding occurs begins endsIn
+unfolding occurs startsWith endsIn
 no-contents = (refl, refl)
 
 contents-sound : (l : List ℕ)
-    → Holds (λ c r. (every listed c ≡ true) × (occurs (45 ∷ 45 ∷ []) c ≡ false) × (endsIn 45 c ≡ false) × (c ++ (45 ∷ 45 ∷ 62 ∷ r) ≡ l))
+    → WhenRead (λ c r. (every listed c ≡ true) × (occurs (45 ∷ 45 ∷ []) c ≡ false) × (endsIn 45 c ≡ false) × (c ++ (45 ∷ 45 ∷ 62 ∷ r) ≡ l))
     (readContents l)
 unfolding readContents every
 contents-sound [] = failed
 contents-sound (b ∷ l) =
-    cond-holds (begins (45 ∷ 45 ∷ []) (b ∷ l))
+    cond-holds (startsWith (45 ∷ 45 ∷ []) (b ∷ l))
     (λ t. then-holds (word-sound (45 ∷ 45 ∷ 62 ∷ []) (b ∷ l)) (λ u r e. gotten (refl, no-contents .0, no-contents .1, e)))
     (λ f.
     when-holds (listed b) (λ t.
     then-holds (contents-sound l) (λ c r in'.
-    let begins-not : begins (45 ∷ 45 ∷ []) (b ∷ (c ++ (45 ∷ 45 ∷ 62 ∷ r))) ≡ false = rw (in' .3) f in
+    let begins-not : startsWith (45 ∷ 45 ∷ []) (b ∷ (c ++ (45 ∷ 45 ∷ 62 ∷ r))) ≡ false = rw (in' .3) f in
     let (o, e) = dash-sound b c (45 ∷ 62 ∷ r) begins-not (in' .1) (in' .2) in
     gotten (both-true t (in' .0), o, e, ap (_∷_ b) (in' .3)))))
 
-comment-sound : (l : List ℕ) → Holds (Good (60 ∷ 33 ∷ l)) (readComment l)
+comment-sound : (l : List ℕ) → WhenRead (Good (60 ∷ 33 ∷ l)) (readComment l)
 unfolding readComment formedToken formedComment printToken
 comment-sound l =
     then-holds (word-sound (45 ∷ 45 ∷ []) l) (λ u r e.
@@ -99,10 +99,10 @@ comment-sound l =
     )))
 
 -- the bytes that are looked at stand for themselves
-moved : {b c : ℕ} {l : List ℕ} {m : Read Token} → b ≡ c → Holds (Good (60 ∷ c ∷ l)) m → Holds (Good (60 ∷ b ∷ l)) m
+moved : {b c : ℕ} {l : List ℕ} {m : Read Token} → b ≡ c → WhenRead (Good (60 ∷ c ∷ l)) m → WhenRead (Good (60 ∷ b ∷ l)) m
 moved e h = holds-map h (λ t r g. (g .0, rw e (g .1), g .2))
 
-markup-sound : (l : List ℕ) → Holds (Good (60 ∷ l)) (readMarkup l)
+markup-sound : (l : List ℕ) → WhenRead (Good (60 ∷ l)) (readMarkup l)
 unfolding readMarkup formedToken printToken
 markup-sound [] = failed
 markup-sound (b ∷ l) =
@@ -111,7 +111,7 @@ markup-sound (b ∷ l) =
     cond-holds (eqb b 63) (λ t. then-holds (word-sound declarationBytes (60 ∷ b ∷ l)) (λ u r e. gotten (refl, e, no-text))) (λ h.
     tag-sound (b ∷ l))))
 
-text-sound : (l : List ℕ) → Holds (Good l) (readText l)
+text-sound : (l : List ℕ) → WhenRead (Good l) (readText l)
 unfolding readText formedToken formedText printToken
 text-sound l =
     then-holds (many-sound (part-sound inText) l) (λ ps r in'.
@@ -125,7 +125,7 @@ text-sound l =
       λ e. and-right (not (occurs (93 ∷ 93 ∷ 62 ∷ []) (printParts ps))) _ t₂,
     )))
 
-pub token-sound : (l : List ℕ) → Holds (Good l) (readToken l)
+pub token-sound : (l : List ℕ) → WhenRead (Good l) (readToken l)
 unfolding readToken
 token-sound [] = failed
 token-sound (b ∷ l) =
@@ -170,7 +170,7 @@ declared-more true t ts may h = h
 declared-more false t ts may h = both-true may h
 
 tokens-sound : (steps : ℕ) (first : Bool) (l : List ℕ)
-    → Holds (λ ts r. (r ≡ []) × (every formedToken ts ≡ true) × (textsApart ts ≡ true) × (declared first ts ≡ true) × (printTokens ts ≡ l))
+    → WhenRead (λ ts r. (r ≡ []) × (every formedToken ts ≡ true) × (textsApart ts ≡ true) × (declared first ts ≡ true) × (printTokens ts ≡ l))
     (readTokens steps first l)
 unfolding readTokens every textsApart printTokens
 tokens-sound zero first [] = gotten (refl, refl, refl, declared-none first, refl)

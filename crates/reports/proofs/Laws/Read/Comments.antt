@@ -12,7 +12,7 @@ use Rattle.reports.specs.declared.tags.Reach.{Reach}
 use Rattle.reports.specs.declared.tags.Reach.the-variants.{No, To}
 use Rattle.reports.specs.declared.tokens.Found.the-variants.{Nothing, Comment}
 use Rattle.documents.specs.Tokens.{listed, comment}
-use Rattle.text.specs.Read.{begins, Read, fail, got, thenRead, when, readWord}
+use Rattle.text.specs.Read.{startsWith, Read, fail, got, thenRead, when, readWord}
 use Rattle.documents.specs.Reading.{readContents, readComment}
 use Rattle.reports.specs.Code.Reaches.{reachOf}
 use Rattle.reports.specs.Seen.{foundOf}
@@ -21,7 +21,7 @@ use Rattle.reports.proofs.Laws.Read.Values.{reach-map}
 
 contents-open : (l : List ℕ) → 1 ≤ length l
     → readContents l
-    ≡ cond (begins (45 ∷ 45 ∷ []) l) (thenRead (readWord (45 ∷ 45 ∷ 62 ∷ []) l) (λ w r. got [] r))
+    ≡ cond (startsWith (45 ∷ 45 ∷ []) l) (thenRead (readWord (45 ∷ 45 ∷ 62 ∷ []) l) (λ w r. got [] r))
     (when (listed (getD l 0 0)) (thenRead (readContents (drop 1 l)) (λ c r. got (getD l 0 0 ∷ c) r)))
 unfolding readContents
 contents-open [] h = absurd (omega arith)
@@ -34,27 +34,27 @@ Contents s n = reachOf (length s) (readContents (drop n s))
 module _ (s : List ℕ) (i : ℕ) where
   open-at : i < length s
       → readContents (drop i s)
-      ≡ cond (begins (45 ∷ 45 ∷ []) (drop i s)) (thenRead (readWord (45 ∷ 45 ∷ 62 ∷ []) (drop i s)) (λ w r. got [] r))
+      ≡ cond (startsWith (45 ∷ 45 ∷ []) (drop i s)) (thenRead (readWord (45 ∷ 45 ∷ 62 ∷ []) (drop i s)) (λ w r. got [] r))
       (when (listed (getD s i 0)) (thenRead (readContents (drop (i + 1) s)) (λ c r. got (getD s i 0 ∷ c) r)))
   open-at h =
       contents-open (drop i s) (omega (arith, length-drop i s))
       ∙ rw (getD-drop i s 0 0, add-zero i, drop-drop 1 i s)
 
-  pub close-to : i < length s → begins (45 ∷ 45 ∷ []) (drop i s) ≡ true → begins (45 ∷ 45 ∷ 62 ∷ []) (drop i s) ≡ true → To (i + 3) ≡ Contents s i
+  pub close-to : i < length s → startsWith (45 ∷ 45 ∷ []) (drop i s) ≡ true → startsWith (45 ∷ 45 ∷ 62 ∷ []) (drop i s) ≡ true → To (i + 3) ≡ Contents s i
   close-to h d g =
       rw (open-at h, d, word-is (45 ∷ 45 ∷ 62 ∷ []) (drop i s), g)
       (ap To (omega (arith, word-fits s i (omega arith) (45 ∷ 45 ∷ 62 ∷ []) g, length-drop 3 (drop i s), length-drop i s)))
 
-  pub close-no : i < length s → begins (45 ∷ 45 ∷ []) (drop i s) ≡ true → begins (45 ∷ 45 ∷ 62 ∷ []) (drop i s) ≡ false → No ≡ Contents s i
+  pub close-no : i < length s → startsWith (45 ∷ 45 ∷ []) (drop i s) ≡ true → startsWith (45 ∷ 45 ∷ 62 ∷ []) (drop i s) ≡ false → No ≡ Contents s i
   close-no h d g = rw (open-at h, d, word-is (45 ∷ 45 ∷ 62 ∷ []) (drop i s), g)
 
-  pub foreign : i < length s → begins (45 ∷ 45 ∷ []) (drop i s) ≡ false → listed (getD s i 0) ≡ false → No ≡ Contents s i
+  pub foreign : i < length s → startsWith (45 ∷ 45 ∷ []) (drop i s) ≡ false → listed (getD s i 0) ≡ false → No ≡ Contents s i
   foreign h d g = rw (open-at h, d, g)
 
-  pub onwards : i < length s → begins (45 ∷ 45 ∷ []) (drop i s) ≡ false → listed (getD s i 0) ≡ true → Contents s i ≡ Contents s (i + 1)
+  pub onwards : i < length s → startsWith (45 ∷ 45 ∷ []) (drop i s) ≡ false → listed (getD s i 0) ≡ true → Contents s i ≡ Contents s (i + 1)
   onwards h d g = ap (reachOf (length s)) (open-at h) ∙ rw (d, g) (reach-map (length s) (readContents (drop (i + 1) s)) (λ c. getD s i 0 ∷ c))
 
-  pub close-fits : begins (45 ∷ 45 ∷ 62 ∷ []) (drop i s) ≡ true → i ≤ length s → i + 3 ≤ length s
+  pub close-fits : startsWith (45 ∷ 45 ∷ 62 ∷ []) (drop i s) ≡ true → i ≤ length s → i + 3 ≤ length s
   close-fits g h = word-fits s i h (45 ∷ 45 ∷ 62 ∷ []) g
 
   pub unclosed : length s ≤ i → No ≡ Contents s i
@@ -70,11 +70,11 @@ found-to total at e fail k = never k
 found-to total at e (got c r) k = cc
 
 module _ (s : List ℕ) (at : ℕ) (h : at + 2 ≤ length s) where
-  pub comment-off : begins (45 ∷ 45 ∷ []) (drop (at + 2) s) ≡ false → Nothing ≡ foundOf (length s) at (readComment (drop (at + 2) s))
+  pub comment-off : startsWith (45 ∷ 45 ∷ []) (drop (at + 2) s) ≡ false → Nothing ≡ foundOf (length s) at (readComment (drop (at + 2) s))
   unfolding readComment
   comment-off f = rw (word-is (45 ∷ 45 ∷ []) (drop (at + 2) s), f)
 
-  module _ (t : begins (45 ∷ 45 ∷ []) (drop (at + 2) s) ≡ true) where
+  module _ (t : startsWith (45 ∷ 45 ∷ []) (drop (at + 2) s) ≡ true) where
     pub comment-bound : at + 2 + 2 ≤ length s
     comment-bound = word-fits s (at + 2) h (45 ∷ 45 ∷ []) t
 

@@ -10,14 +10,14 @@ use Rattle.text.specs.Names.{Name}
 use Rattle.reports.specs.declared.tags.Reach.{Reach}
 use Rattle.reports.specs.declared.tags.Reach.the-variants.{No, To}
 use Rattle.documents.specs.Tokens.{amp, lt, gt, quot, apos}
-use Rattle.text.specs.Read.{begins, Read, fail, got}
+use Rattle.text.specs.Read.{startsWith, Read, fail, got}
 use Rattle.documents.specs.Reading.{readReference}
 use Rattle.reports.specs.Code.Reaches.{reachOf}
-use Rattle.text.proofs.Laws.Reads.{Holds, holds-got, begins-drop}
+use Rattle.text.proofs.Laws.Reads.{WhenRead, holds-got, begins-drop}
 
 -- what was read stands in front of what is left
 abbrev pub Suffix : {A : Type 0} → List ℕ → Read A → Type 0
-Suffix {A} l m = Holds (λ (a : A) (r : List ℕ). (p : List ℕ) × (p ++ r ≡ l)) m
+Suffix {A} l m = WhenRead (λ (a : A) (r : List ℕ). (p : List ℕ) × (p ++ r ≡ l)) m
 
 to-is : {a b : ℕ} → To a ≡ To b → a ≡ b
 to-is e = cc
@@ -43,18 +43,18 @@ module _ (s : List ℕ) (at : ℕ) (h : at ≤ length s) where
       (a, ap (got a) (sym rest ∙ ap (λ (n : ℕ). drop n s) here), omega arith, omega arith)
 
   -- a word that stands at the offset
-  pub word-fits : (w : List ℕ) → begins w (drop at s) ≡ true → at + length w ≤ length s
+  pub word-fits : (w : List ℕ) → startsWith w (drop at s) ≡ true → at + length w ≤ length s
   word-fits w t =
       omega (arith, ap length (begins-drop w (drop at s) t), length-append w (drop (length w) (drop at s)), length-drop at s)
 
-  word-reach : (w : List ℕ) → begins w (drop at s) ≡ true → at + length w ≡ length s - length (drop (length w) (drop at s))
+  word-reach : (w : List ℕ) → startsWith w (drop at s) ≡ true → at + length w ≡ length s - length (drop (length w) (drop at s))
   word-reach w t = omega (arith, word-fits w t, length-drop (length w) (drop at s), length-drop at s)
 
   abbrev R : Reach
   R = reachOf (length s) (readReference (drop at s))
 
   abbrev Begins : Name → Bool → Type 0
-  Begins n t = begins (n ++ (59 ∷ [])) (drop at s) ≡ t
+  Begins n t = startsWith (n ++ (59 ∷ [])) (drop at s) ≡ t
 
   pub reference₁ : Begins amp true → To (at + 4) ≡ R
   unfolding readReference

@@ -9,7 +9,7 @@ use Rattle.documents.specs.Tokens.{Token, declaration, comment, startTag, empty
 use Rattle.text.specs.Read.{Read, fail, got}
 use Rattle.documents.specs.Reading.{readToken}
 use Rattle.documents.specs.TagAt.{start, empty, end, WholeTag, TagAt, whole, none}
-use Rattle.text.proofs.Laws.Reads.{Holds, holds-got}
+use Rattle.text.proofs.Laws.Reads.{WhenRead, holds-got}
 use Rattle.documents.proofs.Laws.Read.ReadSound.{Good, token-sound}
 use Rattle.documents.proofs.Laws.Printed.TagAt.{Cut, nowhere, none-read, other-read, whole-cut, one-tag-at}
 use Rattle.reports.specs.Seen.{shown, foundOf, nameFrom, nameTo}
@@ -36,7 +36,7 @@ module _ (s : List ℕ) (at : ℕ) where
       record { stands = whole w refl refl; cut = whole-cut s at w }
   shown-spans e (text ps) r is g = record { stands = none (other-read s at is (λ k n. elim [ ])) refl refl; cut = nowhere s }
 
-  found-spans : (m : Read Token) → readToken (drop at s) ≡ m → Holds (Good (drop at s)) m
+  found-spans : (m : Read Token) → readToken (drop at s) ≡ m → WhenRead (Good (drop at s)) m
       → Spans s at (nameFrom (foundOf (length s) at m)) (nameTo (foundOf (length s) at m)) (tagName m)
   found-spans fail is h = record { stands = none (none-read s at is) refl refl; cut = nowhere s }
   found-spans (got t r) is h = shown-spans (length s - length r) t r is (holds-got h)

@@ -16,12 +16,12 @@ use Rattle.reports.specs.declared.tags.Reach.the-variants.{No, To}
 use Rattle.reports.specs.declared.tokens.Found.{Found}
 use Rattle.reports.specs.declared.tokens.Found.the-variants.{Nothing, Text}
 use Rattle.documents.specs.Tokens.{Part, plain, reference, printPart, printParts, text, blank, listed, inText, isEntity, occurs}
-use Rattle.text.specs.Read.{begins, Read, fail, got, thenRead, when, readUpTo, printMany}
+use Rattle.text.specs.Read.{startsWith, Read, fail, got, thenRead, when, readUpTo, printMany}
 use Rattle.documents.specs.Reading.{readReference, readParts, textEnds, readText}
 use Rattle.reports.specs.Code.Reaches.{reachOf}
 use Rattle.reports.specs.Seen.{foundOf}
 use Rattle.documents.proofs.Laws.Read.Bytes.{entity-cases}
-use Rattle.text.proofs.Laws.Reads.{Holds, holds-map, holds-got}
+use Rattle.text.proofs.Laws.Reads.{WhenRead, holds-map, holds-got}
 use Rattle.text.proofs.Laws.ReadMany.{many-sound}
 use Rattle.documents.proofs.Laws.Read.PartsSound.{reference-sound, part-sound}
 use Rattle.reports.proofs.Laws.Read.Reaches.{reached}
@@ -49,8 +49,8 @@ unfolding readText
 text-start s at = shown-text (length s) at (readParts inText (drop at s))
 
 -- a word without `<` stands at the front of a text if it stands at the front of the text and what follows it
-word-inside : (w p r : List ℕ) → every (λ b. not (eqb b 60)) w ≡ true → textEnds r ≡ true → begins w (p ++ r) ≡ begins w p
-unfolding begins every
+word-inside : (w p r : List ℕ) → every (λ b. not (eqb b 60)) w ≡ true → textEnds r ≡ true → startsWith w (p ++ r) ≡ startsWith w p
+unfolding startsWith every
 word-inside [] p r h e = refl
 word-inside (x ∷ w) [] [] h e = refl
 word-inside (x ∷ w) [] (c ∷ r) h e =
@@ -62,7 +62,7 @@ word-inside (x ∷ w) (c ∷ p) r h e = rw (word-inside w p r (and-right (not (e
 over-reference : (n : Name) (ps : List Part) → isEntity n ≡ true
     → (occurs (93 ∷ 93 ∷ 62 ∷ []) (printParts (reference n ∷ ps)) ≡ occurs (93 ∷ 93 ∷ 62 ∷ []) (printParts ps))
     × (every blank (printParts (reference n ∷ ps)) ≡ false)
-unfolding occurs begins printMany printPart every blank
+unfolding occurs startsWith printMany printPart every blank
 over-reference n ps h =
     entity-cases n h (λ e. is e (refl, refl)) (λ e. is e (refl, refl)) (λ e. is e (refl, refl)) (λ e. is e (refl, refl)) (λ e. is e (refl, refl))
   where
@@ -87,46 +87,46 @@ unfolding every
 no-less = refl
 
 -- whether `]]>` stands at the front of a text, by the bytes from there on
-front-word : (b : ℕ) (l p r : List ℕ) → p ++ r ≡ l → textEnds r ≡ true → begins (93 ∷ 93 ∷ 62 ∷ []) (b ∷ p) ≡ begins (93 ∷ 93 ∷ 62 ∷ []) (b ∷ l)
+front-word : (b : ℕ) (l p r : List ℕ) → p ++ r ≡ l → textEnds r ≡ true → startsWith (93 ∷ 93 ∷ 62 ∷ []) (b ∷ p) ≡ startsWith (93 ∷ 93 ∷ 62 ∷ []) (b ∷ l)
 front-word b l p r e t =
-    sym (word-inside (93 ∷ 93 ∷ 62 ∷ []) (b ∷ p) r no-less t) ∙ ap (λ (x : List ℕ). begins (93 ∷ 93 ∷ 62 ∷ []) (b ∷ x)) e
+    sym (word-inside (93 ∷ 93 ∷ 62 ∷ []) (b ∷ p) r no-less t) ∙ ap (λ (x : List ℕ). startsWith (93 ∷ 93 ∷ 62 ∷ []) (b ∷ x)) e
 
 plain-of : (total : ℕ) (some all : Bool) (b : ℕ) (l : List ℕ) (m : Read (List Part))
-    → Holds (λ ps r. printParts ps ++ r ≡ l) m → begins (93 ∷ 93 ∷ 62 ∷ []) (b ∷ l) ≡ false
+    → WhenRead (λ ps r. printParts ps ++ r ≡ l) m → startsWith (93 ∷ 93 ∷ 62 ∷ []) (b ∷ l) ≡ false
     → textOf total some all (thenRead m (λ ps r. got (plain b ∷ ps) r)) ≡ textOf total true (all && blank b) m
 unfolding printMany printPart occurs every
 plain-of total some all b l fail h f = refl
 plain-of total some all b l (got ps r) h f =
     cases (textEnds r)
     (λ t.
-    let none : begins (93 ∷ 93 ∷ 62 ∷ []) (b ∷ printParts ps) ≡ false = front-word b l (printParts ps) r (holds-got h) t ∙ f in
+    let none : startsWith (93 ∷ 93 ∷ 62 ∷ []) (b ∷ printParts ps) ≡ false = front-word b l (printParts ps) r (holds-got h) t ∙ f in
     rw (none, or-true some, and-assoc all (blank b) (every blank (printParts ps))))
     (λ t. rw (
       t,
       or-true some,
-      and-false (not (begins (93 ∷ 93 ∷ 62 ∷ []) (b ∷ printParts ps) || occurs (93 ∷ 93 ∷ 62 ∷ []) (printParts ps))),
+      and-false (not (startsWith (93 ∷ 93 ∷ 62 ∷ []) (b ∷ printParts ps) || occurs (93 ∷ 93 ∷ 62 ∷ []) (printParts ps))),
       and-false (not (occurs (93 ∷ 93 ∷ 62 ∷ []) (printParts ps))),
     ))
 
 section-of : (total : ℕ) (some all : Bool) (b : ℕ) (l : List ℕ) (m : Read (List Part))
-    → Holds (λ ps r. printParts ps ++ r ≡ l) m → begins (93 ∷ 93 ∷ 62 ∷ []) (b ∷ l) ≡ true
+    → WhenRead (λ ps r. printParts ps ++ r ≡ l) m → startsWith (93 ∷ 93 ∷ 62 ∷ []) (b ∷ l) ≡ true
     → Nothing ≡ textOf total some all (thenRead m (λ ps r. got (plain b ∷ ps) r))
 unfolding printMany printPart occurs every
 section-of total some all b l fail h f = refl
 section-of total some all b l (got ps r) h f =
     cases (textEnds r)
     (λ t.
-    let there : begins (93 ∷ 93 ∷ 62 ∷ []) (b ∷ printParts ps) ≡ true = front-word b l (printParts ps) r (holds-got h) t ∙ f in
+    let there : startsWith (93 ∷ 93 ∷ 62 ∷ []) (b ∷ printParts ps) ≡ true = front-word b l (printParts ps) r (holds-got h) t ∙ f in
     rw (there, or-true some))
-    (λ t. rw (t, or-true some, and-false (not (begins (93 ∷ 93 ∷ 62 ∷ []) (b ∷ printParts ps) || occurs (93 ∷ 93 ∷ 62 ∷ []) (printParts ps)))))
+    (λ t. rw (t, or-true some, and-false (not (startsWith (93 ∷ 93 ∷ 62 ∷ []) (b ∷ printParts ps) || occurs (93 ∷ 93 ∷ 62 ∷ []) (printParts ps)))))
 
 -- a text that ends here: at `<` or the end it is one if it has a part, elsewhere it is none
 stopped : (total : ℕ) (some all : Bool) (r : List ℕ) → textEnds r ≡ true → textOf total some all (got [] r) ≡ cond some (Text (total - length r) all) Nothing
-unfolding occurs begins printMany every
+unfolding occurs startsWith printMany every
 stopped total some all r t = rw (t, or-false some, and-true some, and-true all)
 
 unstopped : (total : ℕ) (some all : Bool) (r : List ℕ) → textEnds r ≡ false → textOf total some all (got [] r) ≡ Nothing
-unfolding occurs begins printMany every
+unfolding occurs startsWith printMany every
 unstopped total some all r t = rw (t, and-false (some || false))
 
 less-no-text : (b : ℕ) → b ≡ 60 → inText b ≡ false
@@ -164,17 +164,17 @@ module _ (s : List ℕ) (some all : Bool) (i : ℕ) where
         ap (textOf (length s) some all) (amp-got inText s i h a is) ∙ reference-of (length s) some all n (readParts inText (drop e s)) entity,
       )
 
-  rest-sound : Holds (λ ps r. printParts ps ++ r ≡ drop (i + 1) s) (readParts inText (drop (i + 1) s))
+  rest-sound : WhenRead (λ ps r. printParts ps ++ r ≡ drop (i + 1) s) (readParts inText (drop (i + 1) s))
   rest-sound = holds-map (many-sound (part-sound inText) (drop (i + 1) s)) (λ ps r g. g .1)
 
-  pub text-section : i < length s → (getD s i 0 ≡ 38 → ⊥) → inText (getD s i 0) ≡ true → begins (93 ∷ 93 ∷ 62 ∷ []) (drop i s) ≡ true
+  pub text-section : i < length s → (getD s i 0 ≡ 38 → ⊥) → inText (getD s i 0) ≡ true → startsWith (93 ∷ 93 ∷ 62 ∷ []) (drop i s) ≡ true
       → Nothing ≡ TextFrom s some all i
   text-section h n t w =
-      let here : begins (93 ∷ 93 ∷ 62 ∷ []) (getD s i 0 ∷ drop (i + 1) s) ≡ true = rw (add-one i, ← drop-cons s i 0 h) w in
+      let here : startsWith (93 ∷ 93 ∷ 62 ∷ []) (getD s i 0 ∷ drop (i + 1) s) ≡ true = rw (add-one i, ← drop-cons s i 0 h) w in
       section-of (length s) some all (getD s i 0) (drop (i + 1) s) _ rest-sound here ∙ ap (textOf (length s) some all) (sym (plain-got inText s i h n t))
 
-  pub text-plain : i < length s → (getD s i 0 ≡ 38 → ⊥) → inText (getD s i 0) ≡ true → begins (93 ∷ 93 ∷ 62 ∷ []) (drop i s) ≡ false
+  pub text-plain : i < length s → (getD s i 0 ≡ 38 → ⊥) → inText (getD s i 0) ≡ true → startsWith (93 ∷ 93 ∷ 62 ∷ []) (drop i s) ≡ false
       → TextFrom s some all i ≡ TextFrom s true (all && blank (getD s i 0)) (i + 1)
   text-plain h n t w =
-      let here : begins (93 ∷ 93 ∷ 62 ∷ []) (getD s i 0 ∷ drop (i + 1) s) ≡ false = rw (add-one i, ← drop-cons s i 0 h) w in
+      let here : startsWith (93 ∷ 93 ∷ 62 ∷ []) (getD s i 0 ∷ drop (i + 1) s) ≡ false = rw (add-one i, ← drop-cons s i 0 h) w in
       ap (textOf (length s) some all) (plain-got inText s i h n t) ∙ plain-of (length s) some all (getD s i 0) (drop (i + 1) s) _ rest-sound here

@@ -11,7 +11,7 @@ use lib.Seq.{drop-cons}
 use Rattle.reports.specs.declared.tokens.Found.{Found}
 use Rattle.reports.specs.declared.tokens.Found.the-variants.{Nothing, Declaration}
 use Rattle.documents.specs.Tokens.{declarationBytes}
-use Rattle.text.specs.Read.{begins}
+use Rattle.text.specs.Read.{startsWith}
 use Rattle.documents.specs.Reading.{readTag, readEndTag, readComment, readMarkup, readText, readToken}
 use Rattle.reports.specs.Seen.{foundOf}
 use Rattle.reports.specs.Code.Seen.{declarationAt}
@@ -26,12 +26,12 @@ module _ (s : List ℕ) (at : ℕ) where
   abbrev Here : Found
   Here = foundOf (length s) at (readToken (drop at s))
 
-  pub declared-to : at ≤ length s → begins declarationBytes (drop at s) ≡ true → Declaration (at + 21) ≡ declarationAt s at
+  pub declared-to : at ≤ length s → startsWith declarationBytes (drop at s) ≡ true → Declaration (at + 21) ≡ declarationAt s at
   declared-to h t =
       rw (word-is declarationBytes (drop at s), t)
       (ap Declaration (omega (arith, word-fits s at h declarationBytes t, length-drop (length declarationBytes) (drop at s), length-drop at s, declaration-length)))
 
-  pub declared-no : begins declarationBytes (drop at s) ≡ false → Nothing ≡ declarationAt s at
+  pub declared-no : startsWith declarationBytes (drop at s) ≡ false → Nothing ≡ declarationAt s at
   declared-no f = rw (word-is declarationBytes (drop at s), f)
 
   pub token-none : length s ≤ at → Nothing ≡ Here

@@ -6,13 +6,13 @@ use borrow.Author.Needs.{needs}
 use native.Mathlib.Numerals.{add-one}
 use lib.ListN.{length, drop, length-drop}
 use native.Mathlib.Nat.{add-zero, add-suc}
-use Rattle.text.specs.Read.{begins}
+use Rattle.text.specs.Read.{startsWith}
 use Rattle.text.proofs.Laws.Scans.{begins-no, begins-yes, begins-end, begins-short}
 use Rattle.text.proofs.words.word_at.Statement.{statement}
 use Rattle.text.proofs.words.word_at.Tie as tie
 
 abbrev Inv-loop : tie.InvT-loop
-Inv-loop s at w i₀ i = (i ≤ length w) × (length w ≤ length s - at) × (begins w (drop at s) ≡ begins (drop i w) (drop (at + i) s))
+Inv-loop s at w i₀ i = (i ≤ length w) × (length w ≤ length s - at) × (startsWith w (drop at s) ≡ startsWith (drop i w) (drop (at + i) s))
 
 abbrev μ-loop : tie.MeasureT-loop
 μ-loop s at w i₀ i = length w - i
