@@ -1,6 +1,5 @@
 pub mod ByteTests
 pub mod Bytes
-pub mod Chain
-pub mod Holds
+pub mod Quotes
 pub mod PartsSound
 pub mod ReadSound

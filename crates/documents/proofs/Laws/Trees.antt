@@ -1,3 +1,4 @@
+pub mod Chain
 pub mod Balance
 pub mod Listed
 pub mod OneDocument

@@ -15,7 +15,7 @@ use Rattle.documents.proofs.Laws.Printed.AttributesBack.{spread}
 use Rattle.text.proofs.Laws.Reads.{WhenRead, failed, gotten, then-holds, cond-holds, begins-drop, word-sound, name-sound}
 use Rattle.text.proofs.Laws.ReadMany.{Sound, many-sound}
 use Rattle.text.proofs.Laws.Fronts.{front-back, front-every}
-use Rattle.documents.proofs.Laws.Read.Holds.{quote-sound}
+use Rattle.documents.proofs.Laws.Read.Quotes.{quote-sound}
 
 pub reference-sound : (l : List ℕ) → WhenRead (λ n r. (isEntity n ≡ true) × (n ++ (59 ∷ r) ≡ l)) (readReference l)
 unfolding readReference isEntity sameName

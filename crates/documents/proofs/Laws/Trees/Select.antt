@@ -14,7 +14,7 @@ use Rattle.documents.specs.Tree.{Document, Place, Kind, elementNode, kin
 use Rattle.documents.specs.XPath.{Child, LocationPath, start, IsElement, Passes, nodeTest, selects, withStep, spelled, selected}
 use Rattle.documents.specs.NameList.{namesTo}
 use Rattle.documents.proofs.Laws.Trees.Places.{no-element, parent-node, above-or-self, self-or-above-to, self-or-above-from, names-length, names-at}
-use Rattle.documents.proofs.Laws.Read.Chain.{Link, Chain, nothing-yet, one-more, one-less, fits-chain, chain-fits}
+use Rattle.documents.proofs.Laws.Trees.Chain.{Link, Chain, nothing-yet, one-more, one-less, fits-chain, chain-fits}
 
 -- a node passes a step's test exactly when it is an element whose name the test takes
 passes-to : (t : Test) (k : Kind) → Passes (nodeTest t) k → (n : Name) × (k ≡ elementNode n) × Takes t n
