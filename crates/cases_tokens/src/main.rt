@@ -36,16 +36,28 @@ fn letter(f: Found) {
         Found::Comment(_) => {
             io::write_all(1, b" c");
         }
-        Found::Start(_, _, _) => {
+        Found::Start {
+            from: _,
+            to: _,
+            end: _,
+        } => {
             io::write_all(1, b" s:");
         }
-        Found::Empty(_, _, _) => {
+        Found::Empty {
+            from: _,
+            to: _,
+            end: _,
+        } => {
             io::write_all(1, b" x:");
         }
-        Found::End(_, _, _) => {
+        Found::End {
+            from: _,
+            to: _,
+            end: _,
+        } => {
             io::write_all(1, b" e:");
         }
-        Found::Text(_, all) => {
+        Found::Text { end: _, blank: all } => {
             if all {
                 io::write_all(1, b" b");
             } else {

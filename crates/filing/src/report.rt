@@ -125,10 +125,22 @@ fn take_token(a: &[u8], run: &mut [u8], c: Counters, f: Found, e: &[u8]) -> Take
     ensures { λ r. ⌜ Taking (now (a .entry)) (now (run .entry)) (fileFound (now (a .entry)) (record { bytes = now (run .entry); counters = c }) f (now (e .entry))) (r .refusal) (now (run .exit)) (r .counters) ⌝ }
 {
     match f {
-        Found::Start(_, _, _) => take_open(a, run, c, e),
-        Found::Empty(_, _, _) => take_empty(a, run, c, e),
-        Found::End(_, _, _) => take_close(a, run, c, e),
-        Found::Text(_, all) => take_text(run, c, all),
+        Found::Start {
+            from: _,
+            to: _,
+            end: _,
+        } => take_open(a, run, c, e),
+        Found::Empty {
+            from: _,
+            to: _,
+            end: _,
+        } => take_empty(a, run, c, e),
+        Found::End {
+            from: _,
+            to: _,
+            end: _,
+        } => take_close(a, run, c, e),
+        Found::Text { end: _, blank: all } => take_text(run, c, all),
         Found::Nothing => Taken {
             refusal: 0,
             counters: c,

@@ -30,10 +30,10 @@ pub enum Found {
     Nothing,
     Declaration(usize),
     Comment(usize),
-    Start(usize, usize, usize),
-    Empty(usize, usize, usize),
-    End(usize, usize, usize),
-    Text(usize, bool),
+    Start { from: usize, to: usize, end: usize },
+    Empty { from: usize, to: usize, end: usize },
+    End { from: usize, to: usize, end: usize },
+    Text { end: usize, blank: bool },
 }
 
 // A start or empty-element tag, whose `<` stands at the offset.
@@ -60,7 +60,11 @@ fn tag_end(s: &[u8], from: usize, to: usize, e: usize) -> Found
         return Found::Nothing;
     }
     if s[e] == 62 {
-        return Found::Start(from, to, e + 1);
+        return Found::Start {
+            from,
+            to,
+            end: e + 1,
+        };
     }
     if s[e] != 47 {
         return Found::Nothing;
@@ -72,7 +76,11 @@ fn tag_end(s: &[u8], from: usize, to: usize, e: usize) -> Found
     if s[g] != 62 {
         return Found::Nothing;
     }
-    Found::Empty(from, to, g + 1)
+    Found::Empty {
+        from,
+        to,
+        end: g + 1,
+    }
 }
 
 // An end tag, whose `</` stands at the offset.
@@ -85,7 +93,7 @@ fn end_tag(s: &[u8], at: usize) -> Found
         Reach::No => Found::Nothing,
         Reach::To(to) => match byte_end(s, to, 62) {
             Reach::No => Found::Nothing,
-            Reach::To(e) => Found::End(from, to, e),
+            Reach::To(e) => Found::End { from, to, end: e },
         },
     }
 }
@@ -201,7 +209,7 @@ fn text_found(at: usize, end: usize, all: bool) -> Found
     ensures { λ r. ⌜ r ≡ textFound at end all ⌝ }
 {
     if at < end {
-        return Found::Text(end, all);
+        return Found::Text { end, blank: all };
     }
     Found::Nothing
 }
@@ -255,13 +263,13 @@ pub fn name_span(f: Found) -> Span
     ensures { λ r. ⌜ (r .from ≡ nameFrom f) × (r .to ≡ nameTo f) ⌝ }
 {
     match f {
-        Found::Start(from, to, _) => Span { from, to },
-        Found::Empty(from, to, _) => Span { from, to },
-        Found::End(from, to, _) => Span { from, to },
+        Found::Start { from, to, end: _ } => Span { from, to },
+        Found::Empty { from, to, end: _ } => Span { from, to },
+        Found::End { from, to, end: _ } => Span { from, to },
         Found::Nothing => Span { from: 0, to: 0 },
         Found::Declaration(_) => Span { from: 0, to: 0 },
         Found::Comment(_) => Span { from: 0, to: 0 },
-        Found::Text(_, _) => Span { from: 0, to: 0 },
+        Found::Text { end: _, blank: _ } => Span { from: 0, to: 0 },
     }
 }
 
@@ -290,10 +298,22 @@ pub fn end_of(f: Found) -> usize
         Found::Nothing => 0,
         Found::Declaration(e) => e,
         Found::Comment(e) => e,
-        Found::Start(_, _, e) => e,
-        Found::Empty(_, _, e) => e,
-        Found::End(_, _, e) => e,
-        Found::Text(e, _) => e,
+        Found::Start {
+            from: _,
+            to: _,
+            end,
+        } => end,
+        Found::Empty {
+            from: _,
+            to: _,
+            end,
+        } => end,
+        Found::End {
+            from: _,
+            to: _,
+            end,
+        } => end,
+        Found::Text { end, blank: _ } => end,
     }
 }
 
@@ -305,10 +325,22 @@ pub fn is_declaration(f: Found) -> bool
         Found::Nothing => false,
         Found::Declaration(_) => true,
         Found::Comment(_) => false,
-        Found::Start(_, _, _) => false,
-        Found::Empty(_, _, _) => false,
-        Found::End(_, _, _) => false,
-        Found::Text(_, _) => false,
+        Found::Start {
+            from: _,
+            to: _,
+            end: _,
+        } => false,
+        Found::Empty {
+            from: _,
+            to: _,
+            end: _,
+        } => false,
+        Found::End {
+            from: _,
+            to: _,
+            end: _,
+        } => false,
+        Found::Text { end: _, blank: _ } => false,
     }
 }
 
