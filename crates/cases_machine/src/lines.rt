@@ -1,6 +1,6 @@
 // A line of the script. `NAME = TEXT`: the text is built. `>NAME`: the set is written back. `^N NAME`: what was written, N bytes, is
 // built. `!AT BYTE NAME`: the worked example with one byte changed is written back. `?`: something asked. `=`: something put in place.
-// `;`: a remark.
+// `;`: a remark, shown: what the offsets after it are.
 use crate::answers;
 use cases::expand::expand;
 use cases::expand::times;
@@ -52,7 +52,8 @@ fn lent(s: &[u8], a: &mut [u8], out: &mut [u8], sizes: Sizes) -> Sizes {
     match words::byte(s, 0) {
         b'=' => return put(s, a, sizes),
         b'?' => ask(words::tail(s), a, out),
-        b';' | b'\n' => return sizes,
+        b';' => say::bytes(words::tail(s)),
+        b'\n' => return sizes,
         _ => answer(s, a, out),
     }
     sizes
