@@ -9,5 +9,6 @@ pub mod Fronts
 pub mod Scans
 pub mod Reads
 pub mod ReadNumber
+pub mod NumberScan
 pub mod ReadMany
 pub mod Output

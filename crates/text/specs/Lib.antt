@@ -5,6 +5,7 @@ pub mod Classes
 pub mod Decimal
 pub mod Bytes
 pub mod Read
+pub mod Numbers
 pub mod Refusals
 pub mod Answers
 pub mod Order

@@ -40,19 +40,24 @@ number-back most n r s p h =
       le-leb n most h,
     )
 
-digit-is : (b : ℕ) → digit b ≡ true → (48 ≤ b) × (b ≤ 57)
+pub digit-is : (b : ℕ) → digit b ≡ true → (48 ≤ b) × (b ≤ 57)
 unfolding digit
 digit-is b h = (leb-true 48 b (and-left _ _ h), leb-true b 57 (and-right (leb 48 b) _ h))
 
 -- further digits after a number
-value-decimal : (n : ℕ) (l : List ℕ) → 1 ≤ n → every digit l ≡ true → (decimal (valueOf n l) ≡ decimal n ++ l) × (1 ≤ valueOf n l)
+pub value-grows : (n : ℕ) (l : List ℕ) → n ≤ valueOf n l
 unfolding valueOf
-value-decimal n [] p h = (sym (append-nil (decimal n)), p)
+value-grows n [] = omega arith
+value-grows n (b ∷ l) = omega (arith, value-grows (10 * n + (b - 48)) l)
+
+value-decimal : (n : ℕ) (l : List ℕ) → 1 ≤ n → every digit l ≡ true → decimal (valueOf n l) ≡ decimal n ++ l
+unfolding valueOf
+value-decimal n [] p h = sym (append-nil (decimal n))
 value-decimal n (b ∷ l) p h =
     let (low, high) = digit-is b (every-head digit b l h) in
     let byte : 48 + (b - 48) ≡ b = omega arith in
-    let more = value-decimal (10 * n + (b - 48)) l (omega arith) (every-rest digit b l h) in
-    (more .0 ∙ rw (decimal-more n (b - 48) p (omega arith), byte) (append-assoc (decimal n) (b ∷ []) l), more .1)
+    value-decimal (10 * n + (b - 48)) l (omega arith) (every-rest digit b l h)
+    ∙ rw (decimal-more n (b - 48) p (omega arith), byte) (append-assoc (decimal n) (b ∷ []) l)
 
 front-decimal : (l : List ℕ) → numberAhead l ≡ true → (decimal (valueOf 0 (front digit l)) ≡ front digit l) × (1 ≤ valueOf 0 (front digit l))
 unfolding valueOf front digit
@@ -61,8 +66,8 @@ front-decimal (b ∷ l) h =
     let low : 49 ≤ b = leb-true 49 b (and-left _ _ h) in
     let high : b ≤ 57 = leb-true b 57 (and-right (leb 49 b) _ h) in
     let byte : 48 + (0 + (b - 48)) ≡ b = omega arith in
-    let (is, some) = value-decimal (0 + (b - 48)) (front digit l) (omega arith) (front-every digit l) in
-    rw (le-leb 48 b (omega arith), le-leb b 57 high) (is ∙ rw (decimal-one (0 + (b - 48)) (omega arith), byte), some)
+    let is = value-decimal (0 + (b - 48)) (front digit l) (omega arith) (front-every digit l) in
+    rw (le-leb 48 b (omega arith), le-leb b 57 high) (is ∙ rw (decimal-one (0 + (b - 48)) (omega arith), byte), omega (arith, value-grows (0 + (b - 48)) (front digit l)))
 
 pub number-sound : (most : ℕ) (l : List ℕ) → WhenRead (λ n r. (1 ≤ n) × (n ≤ most) × (decimal n ++ r ≡ l)) (readNumber most l)
 unfolding readNumber
