@@ -61,85 +61,30 @@ next Malformed b = Malformed
 abbrev pub orElse : ℕ → ℕ → ℕ
 orElse a b = cond (eqb a 0) b a
 
+-- a tally by its fields, in their order
+abbrev pub tally : ℕ → ℕ → ℕ → ℕ → ℕ → ℕ → ℕ → ℕ → ℕ → ℕ → ℕ → Tally
+tally at last begin first from deep folders paths steps labels fault = record
+    { at = at; last = last; begin = begin; first = first; from = from; deep = deep; folders = folders; paths = paths; steps = steps; labels = labels; fault = fault }
+
 -- one byte more is read
 abbrev pub ticked : Tally → Tally
-ticked t = record {
-  at = t .at + 1;
-  last = t .last;
-  begin = t .begin;
-  first = t .first;
-  from = t .from;
-  deep = t .deep;
-  folders = t .folders;
-  paths = t .paths;
-  steps = t .steps;
-  labels = t .labels;
-  fault = t .fault;
-}
+ticked t = tally (t .at + 1) (t .last) (t .begin) (t .first) (t .from) (t .deep) (t .folders) (t .paths) (t .steps) (t .labels) (t .fault)
 
 -- a folder's number n has ended; it must be above the one before (4)
 abbrev pub folderRead : ℕ → Tally → Tally
-folderRead n t = record {
-  at = t .at;
-  last = n;
-  begin = t .begin;
-  first = t .first;
-  from = t .from;
-  deep = t .deep;
-  folders = t .folders + 1;
-  paths = t .paths;
-  steps = t .steps;
-  labels = t .labels;
-  fault = orElse (t .fault) (cond (leb n (t .last)) (numberOf outOfOrder) 0);
-}
+folderRead n t = tally (t .at) n (t .begin) (t .first) (t .from) (t .deep) (t .folders + 1) (t .paths) (t .steps) (t .labels) (orElse (t .fault) (cond (leb n (t .last)) (numberOf outOfOrder) 0))
 
 -- a path begins after its bracket
 abbrev pub pathBegun : Tally → Tally
-pathBegun t = record {
-  at = t .at;
-  last = t .last;
-  begin = t .at + 1;
-  first = t .steps;
-  from = t .from;
-  deep = t .deep;
-  folders = t .folders;
-  paths = t .paths;
-  steps = t .steps;
-  labels = t .labels;
-  fault = t .fault;
-}
+pathBegun t = tally (t .at) (t .last) (t .at + 1) (t .steps) (t .from) (t .deep) (t .folders) (t .paths) (t .steps) (t .labels) (t .fault)
 
 -- the step is a descendant step
 abbrev pub deepened : Tally → Tally
-deepened t = record {
-  at = t .at;
-  last = t .last;
-  begin = t .begin;
-  first = t .first;
-  from = t .from;
-  deep = 1;
-  folders = t .folders;
-  paths = t .paths;
-  steps = t .steps;
-  labels = t .labels;
-  fault = t .fault;
-}
+deepened t = tally (t .at) (t .last) (t .begin) (t .first) (t .from) 1 (t .folders) (t .paths) (t .steps) (t .labels) (t .fault)
 
 -- a label begins at this byte
 abbrev pub labelBegun : Tally → Tally
-labelBegun t = record {
-  at = t .at;
-  last = t .last;
-  begin = t .begin;
-  first = t .first;
-  from = t .at;
-  deep = t .deep;
-  folders = t .folders;
-  paths = t .paths;
-  steps = t .steps;
-  labels = t .labels;
-  fault = t .fault;
-}
+labelBegun t = tally (t .at) (t .last) (t .begin) (t .first) (t .at) (t .deep) (t .folders) (t .paths) (t .steps) (t .labels) (t .fault)
 
 -- a step over the path's limit (6)
 abbrev pub stepFault : Tally → ℕ
@@ -147,19 +92,7 @@ stepFault t = cond (leb maxSteps (t .steps - t .first)) (numberOf pathTooLong) 0
 
 -- a step has ended, with a label over the length of a name (5) or not; `more` is 1 for a label and 0 for `*`
 abbrev pub stepRead : ℕ → ℕ → Tally → Tally
-stepRead more long t = record {
-  at = t .at;
-  last = t .last;
-  begin = t .begin;
-  first = t .first;
-  from = t .from;
-  deep = 0;
-  folders = t .folders;
-  paths = t .paths;
-  steps = t .steps + 1;
-  labels = t .labels + more;
-  fault = orElse (t .fault) (orElse long (stepFault t));
-}
+stepRead more long t = tally (t .at) (t .last) (t .begin) (t .first) (t .from) 0 (t .folders) (t .paths) (t .steps + 1) (t .labels + more) (orElse (t .fault) (orElse long (stepFault t)))
 
 abbrev pub labelRead : Tally → Tally
 labelRead t = stepRead 1 (cond (leb (suc maxName) (t .at - t .from)) (numberOf nameTooLong) 0) t
@@ -169,19 +102,7 @@ starRead t = stepRead 0 0 t
 
 -- a path has ended, if this byte is its bracket
 abbrev pub pathRead : ℕ → Tally → Tally
-pathRead b t = record {
-  at = t .at;
-  last = t .last;
-  begin = t .begin;
-  first = t .first;
-  from = t .from;
-  deep = t .deep;
-  folders = t .folders;
-  paths = t .paths + cond (eqb b 41) 1 0;
-  steps = t .steps;
-  labels = t .labels;
-  fault = t .fault;
-}
+pathRead b t = tally (t .at) (t .last) (t .begin) (t .first) (t .from) (t .deep) (t .folders) (t .paths + cond (eqb b 41) 1 0) (t .steps) (t .labels) (t .fault)
 
 -- what byte b adds
 unfoldable pub counted : Mode → ℕ → Tally → Tally
@@ -212,8 +133,7 @@ scan s (b ∷ l) = scan (scanned s b) l
 unfoldable pub start : Scan
 start = record {
   mode = Header 0;
-  tally = record
-      { at = 0; last = 0; begin = 0; first = 0; from = 0; deep = 0; folders = 0; paths = 0; steps = 0; labels = 0; fault = 0 };
+  tally = tally 0 0 0 0 0 0 0 0 0 0 0;
 }
 
 abbrev pub isDone : Mode → Bool

@@ -75,13 +75,6 @@ module _ (p : Path) (s : ℕ) where
       let now = h (isEmpty outer) (λ i. activeReversed outer p i) (λ i. seenReversed outer p i) e in
       (now, ap (λ (b : Bool). b || seenReversed outer p s) now ∙ never outer h .1)
 
-  -- a step past the path's last is never active
-  pub active-past : length p < s → (names : List Name) → active p s names ≡ false
-  active-past h names = never (reverse names) (past p s h) .0
-
-  pub seen-past : length p < s → (names : List Name) → seen p s names ≡ false
-  seen-past h names = never (reverse names) (past p s h) .1
-
   -- active-more, of any names that are not empty
   pub active-last : (names : List Name) (n : ℕ) → length names ≡ suc n
       → active p s names

@@ -1,20 +1,16 @@
 -- Of an accepted set no path is empty.
 use Prim.Native.Nat.{ℕ}
 use mathlib.Core.Path.{_≡_, refl}
-use mathlib.Core.Bool.{Bool, true, _&&_}
-use mathlib.Core.List.{List, [], _∷_, _++_}
+use mathlib.Core.Bool.{true, _&&_}
+use mathlib.Core.List.{List, [], _∷_}
 use Rattle.text.specs.Names.{within}
 use Rattle.notation.specs.Limits.{maxNumber}
 use Rattle.notation.specs.Sets.{Path, folder, FolderSet}
 use Rattle.text.specs.Lists.{every, nonEmpty}
 use Rattle.notation.specs.Form.{formedStep, formedPath, formedFolder, formed, pathsOf}
 use Rattle.notation.specs.Accepted.{Accepted}
+use Rattle.text.proofs.Laws.Lists.{every-append}
 use Rattle.text.proofs.Laws.Tests.{and-left, and-right, both-true}
-
-every-append : {A : Type 0} (f : A → Bool) (l k : List A) → every f l ≡ true → every f k ≡ true → every f (l ++ k) ≡ true
-unfolding every
-every-append f [] k h g = g
-every-append f (a ∷ l) k h g = both-true (and-left (f a) (every f l) h) (every-append f l k (and-right (f a) (every f l) h) g)
 
 formed-some : (ps : List Path) → every formedPath ps ≡ true → every nonEmpty ps ≡ true
 unfolding every formedPath

@@ -1,29 +1,14 @@
 -- The loops of the pass that writes the masks and the initial state: what one turn does, and where they begin and end.
-use Prim.Native.Nat.{ℕ, zero, suc, _+_, _-_, _^_, _≤_, _<_}
-use mathlib.Core.Path.{_≡_, refl, _∙_}
+use Prim.Native.Nat.{ℕ, suc, _+_, _-_, _≤_, _<_}
+use mathlib.Core.Path.{_≡_, _∙_}
 use mathlib.Core.Bool.{Bool, true, false, _||_}
-use mathlib.Core.List.{List, [], _∷_}
+use mathlib.Core.List.{List}
 use native.Mathlib.Nat.{add-zero, sub-zero}
 use native.Mathlib.Omega.{arith}
 use borrow.Author.Tests.{eq-eqb, ne-eqb, eqb-true}
 use lib.Dec.{eqb}
-use lib.ListN.{getD}
 use Rattle.stored.specs.Code.Masks.{flagStep, flagSteps, flagPath, flagPaths, rooted, anyRooted}
 use Rattle.stored.proofs.Laws.Tables.Goto.{same-test}
-
-abbrev pub powers : List ℕ
-powers = 1 ∷ 2 ∷ 4 ∷ 8 ∷ 16 ∷ 32 ∷ 64 ∷ 128 ∷ []
-
-pub power-at : (k : ℕ) → k < 8 → getD powers k 0 ≡ 2 ^ k
-power-at zero h = refl
-power-at (suc zero) h = refl
-power-at (suc (suc zero)) h = refl
-power-at (suc (suc (suc zero))) h = refl
-power-at (suc (suc (suc (suc zero)))) h = refl
-power-at (suc (suc (suc (suc (suc zero))))) h = refl
-power-at (suc (suc (suc (suc (suc (suc zero)))))) h = refl
-power-at (suc (suc (suc (suc (suc (suc (suc zero))))))) h = refl
-power-at (suc (suc (suc (suc (suc (suc (suc (suc k)))))))) h = absurd (omega arith)
 
 -- the steps of a path
 module _ (steps from : ℕ) where

@@ -30,7 +30,8 @@ use Rattle.notation.proofs.Laws.Stored.Reads.{text-len, folders-read, paths-rea
 use Rattle.notation.proofs.Laws.Stored.ReadFolders.{folder-read}
 use Rattle.notation.proofs.Laws.Stored.ReadPaths.{path-read, label-read}
 use Rattle.stored.specs.Automaton.{allSteps, allLabels}
-use Rattle.text.proofs.Laws.Tests.{both, both-true, neither}
+use Rattle.text.proofs.Laws.Lists.{every-append}
+use Rattle.text.proofs.Laws.Tests.{both, neither}
 use Rattle.stored.proofs.Laws.Shapes.Shaped.{FolderFacts, PathFacts, LabelFacts}
 
 -- a test of all elements, or of some, at each
@@ -46,11 +47,6 @@ any-at f d [] h i b = absurd (omega arith)
 any-at f d (a ∷ l) h zero b = neither (f a) (any f l) h .0
 any-at f d (a ∷ l) h (suc i) b = any-at f d l (neither (f a) (any f l) h .1) i (omega arith)
 
-every-both : {A : Type 0} (f : A → Bool) (k l : List A) → every f k ≡ true → every f l ≡ true → every f (k ++ l) ≡ true
-unfolding every
-every-both f [] l h g = g
-every-both f (a ∷ k) l h g = let b = both (f a) (every f k) h in both-true (b .0) (every-both f k l (b .1) g)
-
 -- every number is positive, and no path is empty
 positive : (x : Folder) → formedFolder x ≡ true → 1 ≤ folderNumber x
 unfolding formedFolder
@@ -65,7 +61,7 @@ unfolding pathsOf every
 all-formed [] h = refl
 all-formed (x ∷ s) h =
     let b = both (formedFolder x) (every formedFolder s) h in
-    every-both formedPath (folderPaths x) (pathsOf s) (formed-paths x (b .0)) (all-formed s (b .1))
+    every-append formedPath (folderPaths x) (pathsOf s) (formed-paths x (b .0)) (all-formed s (b .1))
 
 some-steps : (p : Path) → formedPath p ≡ true → 1 ≤ length p
 unfolding formedPath
