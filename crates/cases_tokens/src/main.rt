@@ -1,4 +1,4 @@
-// Prints, for each case, its bytes, its tokens with the names of tags, and whether they are a run of tokens or torn; then, for some bytes and
+// Prints, for each case, its bytes, its tokens with the names of tags, and whether they are a run of tokens or not; then, for some bytes and
 // offsets, from where to where the name of the tag stands. A byte that does not print stands as `?`. d: declaration, c: comment, s: start tag, x: empty-element tag, e: end tag, t: text, b: blank text.
 use reports::tokens::Found;
 use reports::tokens::end_of;

@@ -181,7 +181,7 @@ declarationFirst (t ∷ ts) = every (λ u. not (isDeclaration u)) ts
 unfoldable pub formedRun : List Token → Bool
 formedRun ts = every formedToken ts && (textsApart ts && declarationFirst ts)
 
--- the bytes are a run of tokens. Without such a list the report is torn (refusal 9)
+-- the bytes are a run of tokens. Without such a list refusal 9 is given
 pub record RunOfTokens (bytes : List ℕ) : Type 0 where
   pub tokens : List Token
   pub well : formedRun tokens ≡ true

@@ -11,7 +11,7 @@ abbrev pub sizeOf : Written → ℕ
 sizeOf (Written.Bytes n) = n
 sizeOf (Written.Refused n) = 0
 
--- a page begins with what a set and a report print, by their bytes, up to the length that was answered
+-- a buffer begins with what a set and a report print, by their bytes, up to the length that was answered
 pub record Shows (set report : List ℕ) (answer : ℕ) (after : List ℕ) : Type 0 where
   pub counts : Counts answer after
   -- the line of the set's refusal, or of the report's, or the listing of the filed report: of each set and report there is one

@@ -1,7 +1,7 @@
 // Files the report `report.xml` by the folder set `folders.txt`, both of the current folder, and prints the listing or the refusal. Of a file
 // that is there and cannot be read it tells on standard error, and prints nothing.
 mod files;
-mod page;
+mod output;
 
 use filing::limits::LISTING_SIZE;
 use filing::limits::MAX_REPORT;
@@ -18,9 +18,9 @@ fn print(text: &[u8]) {
 fn print_filed(set: &[u8], report: &[u8]) {
     let mut a = [0u8; AUTOMATON_SIZE];
     let mut run = [0u8; RUN_SIZE];
-    let mut page = [0u8; LISTING_SIZE];
-    let n = page::filed(set, report, &mut a, &mut run, &mut page);
-    print(&page[..n]);
+    let mut out = [0u8; LISTING_SIZE];
+    let n = output::filed(set, report, &mut a, &mut run, &mut out);
+    print(&out[..n]);
 }
 
 // One byte more than the limit is read, so that a longer file is refused and never cut.

@@ -98,18 +98,34 @@ fn end_tag(s: &[u8], at: usize) -> Found
     }
 }
 
-// `--` stands at the offset. Its first byte is tested first: most bytes are another.
-fn dashes(s: &[u8], at: usize) -> bool
+// A word, by its first byte and the rest, stands at the offset. The first byte is tested first: most bytes are another.
+fn rare_word_at(s: &[u8], at: usize, first: u8, rest: &[u8]) -> bool
     requires { ⌜ at ≤ length (now s) ⌝ }
-    ensures { λ r. ⌜ r ≡ startsWith (45 ∷ 45 ∷ []) (drop at (now (s .entry))) ⌝ }
+    ensures { λ r. ⌜ r ≡ startsWith (first ∷ now (rest .entry)) (drop at (now (s .entry))) ⌝ }
 {
     if s.len() <= at {
         return false;
     }
-    if s[at] != 45 {
+    if s[at] != first {
         return false;
     }
-    word_at(s, at, b"--")
+    word_at(s, at + 1, rest)
+}
+
+// `--` stands at the offset.
+fn dashes(s: &[u8], at: usize) -> bool
+    requires { ⌜ at ≤ length (now s) ⌝ }
+    ensures { λ r. ⌜ r ≡ startsWith (45 ∷ 45 ∷ []) (drop at (now (s .entry))) ⌝ }
+{
+    rare_word_at(s, at, 45, b"-")
+}
+
+// `]]>` stands at the offset.
+fn section_close(s: &[u8], at: usize) -> bool
+    requires { ⌜ at ≤ length (now s) ⌝ }
+    ensures { λ r. ⌜ r ≡ startsWith (93 ∷ 93 ∷ 62 ∷ []) (drop at (now (s .entry))) ⌝ }
+{
+    rare_word_at(s, at, 93, b"]>")
 }
 
 // `-->` stands at the offset.
@@ -118,20 +134,6 @@ fn comment_close(s: &[u8], at: usize) -> bool
     ensures { λ r. ⌜ r ≡ startsWith (45 ∷ 45 ∷ 62 ∷ []) (drop at (now (s .entry))) ⌝ }
 {
     word_at(s, at, b"-->")
-}
-
-// `]]>` stands at the offset. Its first byte is tested first: most bytes are another.
-fn section_close(s: &[u8], at: usize) -> bool
-    requires { ⌜ at ≤ length (now s) ⌝ }
-    ensures { λ r. ⌜ r ≡ startsWith (93 ∷ 93 ∷ 62 ∷ []) (drop at (now (s .entry))) ⌝ }
-{
-    if s.len() <= at {
-        return false;
-    }
-    if s[at] != 93 {
-        return false;
-    }
-    word_at(s, at, b"]]>")
 }
 
 // The contents of a comment, with the `-->` after them.

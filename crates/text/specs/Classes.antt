@@ -84,7 +84,7 @@ invalidClass = 22
 pub data Range : Type 0 where
   range : ℕ → ℕ → ℕ → Range
 
--- the class of the first range that holds the byte; a byte of no range is foreign
+-- the class of the first range that holds the byte; a byte of no range is invalid
 unfoldable pub lookUp : List Range → ℕ → ℕ
 lookUp [] b = invalidClass
 lookUp (range low high class ∷ rs) b = cond (within low high b) class (lookUp rs b)

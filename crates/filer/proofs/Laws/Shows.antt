@@ -1,4 +1,4 @@
--- From what filing's call prints to what the page shows.
+-- From what filing's call prints to what the buffer shows.
 use Prim.Native.Nat.{ℕ, _≤_}
 use native.Mathlib.Omega.{arith}
 use mathlib.Core.Path.{_≡_, sym, ap, _∙_}
@@ -22,23 +22,23 @@ size-said : (answer : Written) (n : ℕ) → writtenSays answer ≡ value n → 
 size-said (Written.Bytes k) n e = cc
 size-said (Written.Refused k) n e = absurd (let z : _≡_ {A = ℕ} 0 1 = cc in omega arith)
 
-on-page : (text before after : List ℕ) (answer : Written) → PrintsText text before answer after
+in-front : (text before after : List ℕ) (answer : Written) → PrintsText text before answer after
     → (Counts (sizeOf answer) after) × (take (sizeOf answer) after ≡ text)
-on-page text before after answer p =
+in-front text before after answer p =
     let within : length text ≤ length after = omega (arith, length-append text (drop (length text) before), ap length (p .leaves)) in
     rw (size-said answer (length text) (p .answers)) ((within, sym (length-take-le (length text) after within)), ap (take (length text)) (p .leaves) ∙ take-append-seam text _)
 
-module _ (set report a run page : List ℕ) (answer : Written) (a' run' page' : List ℕ) where
-  pub shows : automatonSize ≤ length a → runSize ≤ length run → listingSize ≤ length page → Prints set report a run page answer a' run' page'
-      → Shows set report (sizeOf answer) page'
+module _ (set report a run out : List ℕ) (answer : Written) (a' run' out' : List ℕ) where
+  pub shows : automatonSize ≤ length a → runSize ≤ length run → listingSize ≤ length out → Prints set report a run out answer a' run' out'
+      → Shows set report (sizeOf answer) out'
   unfolding tooSmall
   shows h k l p = record {
-    counts = on-page (printed .0) page page' answer (printed .1) .0;
-    shown = λ bytes t. on-page bytes page page' answer (p .printed enough bytes t) .1;
+    counts = in-front (printed .0) out out' answer (printed .1) .0;
+    shown = λ bytes t. in-front bytes out out' answer (p .printed enough bytes t) .1;
   }
     where
-      enough : tooSmall a run page ≡ false
-      enough = rw (le-ltb (length a) automatonSize h, le-ltb (length run) runSize k, le-ltb (length page) listingSize l)
+      enough : tooSmall a run out ≡ false
+      enough = rw (le-ltb (length a) automatonSize h, le-ltb (length run) runSize k, le-ltb (length out) listingSize l)
 
-      printed : (text : List ℕ) × PrintsText text page answer page'
-      printed = some-printed set report a run page answer a' run' page' p enough
+      printed : (text : List ℕ) × PrintsText text out answer out'
+      printed = some-printed set report a run out answer a' run' out' p enough

@@ -1,4 +1,4 @@
--- `print_filed`: the buffers have their sizes, and what is printed lies within the page.
+-- `print_filed`: the buffers have their sizes, and what is printed lies within the buffer.
 use Prim.Native.Nat.{ℕ}
 use native.Mathlib.Omega.{arith}
 use lib.ListN.{length-replicate}
@@ -23,8 +23,8 @@ filed-requires : tie.Need-filed-requires
 unfolding automatonSize runSize listingSize maxSetBytes maxMovesLine
 filed-requires c κs = (omega (arith, length-replicate {A = ℕ} 65536 0), omega (arith, length-replicate {A = ℕ} 65536 0), omega (arith, length-replicate {A = ℕ} 16406 0))
 
-array-share-prefix-page : tie.Need-array-share-prefix-page
-array-share-prefix-page c = c .before .before .before .filed .ensures .counts .0
+array-share-prefix-out : tie.Need-array-share-prefix-out
+array-share-prefix-out c = c .before .before .before .filed .ensures .counts .0
 
 slice-aggregate-print : tie.Need-slice-aggregate-print
 slice-aggregate-print c = c .before .before .before .before .filed .ensures .counts .1
@@ -43,7 +43,7 @@ print-filed-spec =
     slice-aggregate-filed-2
     slice-aggregate-filed-3
     filed-requires
-    array-share-prefix-page
+    array-share-prefix-out
     slice-aggregate-print
     print-requires
     returns)

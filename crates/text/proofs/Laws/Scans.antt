@@ -68,6 +68,10 @@ module _ (b : ℕ) (w s : List ℕ) (k : ℕ) where
   unfolding startsWith
   begins-other l n = rw (drop-cons s k 0 l, ne-eqb b (getD s k 0) (λ e. n (sym e)))
 
+  pub begins-here : k < length s → getD s k 0 ≡ b → startsWith (b ∷ w) (drop k s) ≡ startsWith w (drop (k + 1) s)
+  unfolding startsWith
+  begins-here l e = rw (drop-cons s k 0 l, eq-eqb b (getD s k 0) (sym e), add-one)
+
   pub begins-past : length s ≤ k → startsWith (b ∷ w) (drop k s) ≡ false
   unfolding startsWith
   begins-past h = ap (startsWith (b ∷ w)) (drop-of-length-le s h)

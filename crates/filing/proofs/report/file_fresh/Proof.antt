@@ -34,7 +34,8 @@ same-length c = search needs
 returns-3 : tie.Need-returns-3
 unfolding maxReportBytes
 returns-3 c =
-    let same = report-run (c .before .before .before .before .before .before .before .before .before .before .args .a .now) (record { bytes = c .before .before .before .before .before .before .before .before .before .before .args .run .now; counters = noCounters }) (c .before .before .before .before .before .before .before .before .before .before .args .s .now) (c .before .before .before .before .before .before .if1 .left) (sym (c .before .before .before .before .before .all-listed .ensures) ∙ not-false _ (c .before .before .before .before .if2 .left)) in
+    let args = c .before .before .before .before .before .before .before .before .before .before .args in
+    let same = report-run (args .a .now) (record { bytes = args .run .now; counters = noCounters }) (args .s .now) (c .before .before .before .before .before .before .if1 .left) (sym (c .before .before .before .before .before .all-listed .ensures) ∙ not-false _ (c .before .before .before .before .if2 .left)) in
     rw same (c .before .before .take-run .ensures)
 
 pub file-fresh-spec : {M : Type 1} → statement M

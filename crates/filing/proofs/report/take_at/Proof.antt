@@ -7,13 +7,19 @@ name-span-requires : tie.Need-name-span-requires
 name-span-requires c κs = search needs
 
 sub-take-next : tie.Need-sub-take-next
-sub-take-next c = spans (c .before .before .before .before .before .args .s .now) (c .before .before .before .before .before .args .at) _ _ (c .before .before .before .before .before .args .f) (c .before .before .before .before .before .pre .0) (c .before .name-span .ensures .0) (c .before .name-span .ensures .1) .cut .low
+sub-take-next c =
+    let args = c .before .before .before .before .before .args in
+    spans (args .s .now) (args .at) _ _ (args .f) (c .before .before .before .before .before .pre .0) (c .before .name-span .ensures .0) (c .before .name-span .ensures .1) .cut .low
 
 part-take-next-start : tie.Need-part-take-next-start
-part-take-next-start c = spans (c .before .before .before .before .before .args .s .now) (c .before .before .before .before .before .args .at) _ _ (c .before .before .before .before .before .args .f) (c .before .before .before .before .before .pre .0) (c .before .name-span .ensures .0) (c .before .name-span .ensures .1) .cut .low
+part-take-next-start c =
+    let args = c .before .before .before .before .before .args in
+    spans (args .s .now) (args .at) _ _ (args .f) (c .before .before .before .before .before .pre .0) (c .before .name-span .ensures .0) (c .before .name-span .ensures .1) .cut .low
 
 part-take-next-end : tie.Need-part-take-next-end
-part-take-next-end c = spans (c .before .before .before .before .before .args .s .now) (c .before .before .before .before .before .args .at) _ _ (c .before .before .before .before .before .args .f) (c .before .before .before .before .before .pre .0) (c .before .name-span .ensures .0) (c .before .name-span .ensures .1) .cut .high
+part-take-next-end c =
+    let args = c .before .before .before .before .before .args in
+    spans (args .s .now) (args .at) _ _ (args .f) (c .before .before .before .before .before .pre .0) (c .before .name-span .ensures .0) (c .before .name-span .ensures .1) .cut .high
 
 take-next-requires : tie.Need-take-next-requires
 take-next-requires c κs = c .before .before .before .before .before .before .pre .1
@@ -23,7 +29,8 @@ same-length c = search needs
 
 returns : tie.Need-returns
 returns c =
-    let cut = spans (c .before .before .before .before .before .before .before .before .before .args .s .now) (c .before .before .before .before .before .before .before .before .before .args .at) _ _ (c .before .before .before .before .before .before .before .before .before .args .f) (c .before .before .before .before .before .before .before .before .before .pre .0) (c .before .before .before .before .before .name-span .ensures .0) (c .before .before .before .before .before .name-span .ensures .1) .cut in
+    let args = c .before .before .before .before .before .before .before .before .before .args in
+    let cut = spans (args .s .now) (args .at) _ _ (args .f) (c .before .before .before .before .before .before .before .before .before .pre .0) (c .before .before .before .before .before .name-span .ensures .0) (c .before .before .before .before .before .name-span .ensures .1) .cut in
     rw (cut .part) at (c .before .before .take-next .ensures)
 
 pub take-at-spec : {M : Type 1} → statement M

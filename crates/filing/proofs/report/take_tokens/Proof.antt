@@ -24,7 +24,8 @@ with-none-requires c κs = search needs
 
 loop-holds : tie.Need-loop-holds Inv-loop μ-loop
 loop-holds c =
-    let turn : Turn (c .before .before .before .before .args .a .now) (c .before .before .before .before .args .s .now) 0 (c .with-none .result .refusal) (c .before .before .before .before .args .run .now) (c .with-none .result .counters) (runFrom (c .before .before .before .before .args .a .now) (filed (record { bytes = c .before .before .before .before .args .run .now; counters = noCounters })) (readReport (c .before .before .before .before .args .s .now))) = record { outcome = filed (record { bytes = c .before .before .before .before .args .run .now; counters = noCounters }); answered = (c .with-none .ensures .0, rw (c .with-none .ensures .1)); same = refl; fit = c .before .before .before .before .pre } in
+    let args = c .before .before .before .before .args in
+    let turn : Turn (args .a .now) (args .s .now) 0 (c .with-none .result .refusal) (args .run .now) (c .with-none .result .counters) (runFrom (args .a .now) (filed (record { bytes = args .run .now; counters = noCounters })) (readReport (args .s .now))) = record { outcome = filed (record { bytes = args .run .now; counters = noCounters }); answered = (c .with-none .ensures .0, rw (c .with-none .ensures .1)); same = refl; fit = c .before .before .before .before .pre } in
     (omega arith, (refl, (refl, turn)))
 
 token-at-requires : tie.Need-token-at-requires Inv-loop μ-loop
@@ -46,22 +47,26 @@ returns c =
     record { answered = rw (sym (l .inv .1 .1 .1 .same) ∙ syntaxError) (c .with-none2 .ensures .0); restarts = l .inv .1 .1 .0 }
 
 take-at-requires : tie.Need-take-at-requires Inv-loop μ-loop
-take-at-requires c κs = (c .before .before .before .token-at .ensures, fit-answered _ (c .before .before .before .before .before .loop .inv .1 .1 .1 .outcome) _ _ _ (c .before .before .before .before .before .loop .inv .1 .1 .1 .answered) (c .before .before .before .before .before .loop .inv .1 .1 .1 .fit))
+take-at-requires c κs =
+    let turn = c .before .before .before .before .before .loop in
+    (c .before .before .before .token-at .ensures, fit-answered _ (turn .inv .1 .1 .1 .outcome) _ _ _ (turn .inv .1 .1 .1 .answered) (turn .inv .1 .1 .1 .fit))
 
 end-of-requires : tie.Need-end-of-requires Inv-loop μ-loop
 end-of-requires c κs = search needs
 
 loop-less : tie.Need-loop-less Inv-loop μ-loop
 loop-less c =
-    let past = turn-past (c .before .before .before .before .before .before .before .before .before .before .before .before .before .before .args .a .now) (c .before .before .before .before .before .before .before .before .before .before .before .before .before .before .args .s .now) (c .before .before .before .before .before .before .before .before .before .loop .i) (c .before .before .before .before .before .before .before .token-at .result) (c .before .before .before .before .before .before .before .token-at .ensures) (c .before .before .before .before .before .before .before .before .loop-test .taken) (sym (c .before .before .before .before .before .before .no-token-at .ensures) ∙ c .before .before .before .before .before .if1 .left) (c .end-of .result) (c .end-of .ensures) in
+    let args = c .before .before .before .before .before .before .before .before .before .before .before .before .before .before .args in
+    let past = turn-past (args .a .now) (args .s .now) (c .before .before .before .before .before .before .before .before .before .loop .i) (c .before .before .before .before .before .before .before .token-at .result) (c .before .before .before .before .before .before .before .token-at .ensures) (c .before .before .before .before .before .before .before .before .loop-test .taken) (sym (c .before .before .before .before .before .before .no-token-at .ensures) ∙ c .before .before .before .before .before .if1 .left) (c .end-of .result) (c .end-of .ensures) in
     omega (arith, past .0, past .1)
 
 loop-again : tie.Need-loop-again Inv-loop μ-loop
 loop-again c =
+    let args = c .before .before .before .before .before .before .before .before .before .before .before .before .before .before .args in
     let l = c .before .before .before .before .before .before .before .before .before .loop in
     let taken = c .before .before .before .take-at in
-    let past = turn-past (c .before .before .before .before .before .before .before .before .before .before .before .before .before .before .args .a .now) (c .before .before .before .before .before .before .before .before .before .before .before .before .before .before .args .s .now) (c .before .before .before .before .before .before .before .before .before .loop .i) (c .before .before .before .before .before .before .before .token-at .result) (c .before .before .before .before .before .before .before .token-at .ensures) (c .before .before .before .before .before .before .before .before .loop-test .taken) (sym (c .before .before .before .before .before .before .no-token-at .ensures) ∙ c .before .before .before .before .before .if1 .left) (c .end-of .result) (c .end-of .ensures) in
-    let turn = turn-taken (c .before .before .before .before .before .before .before .before .before .before .before .before .before .before .args .a .now) (c .before .before .before .before .before .before .before .before .before .before .before .before .before .before .args .s .now) (c .before .before .before .before .before .before .before .before .before .loop .i) (c .before .before .before .before .before .before .before .token-at .result) (c .before .before .before .before .before .before .before .token-at .ensures) (c .before .before .before .before .before .before .before .before .loop-test .taken) (sym (c .before .before .before .before .before .before .no-token-at .ensures) ∙ c .before .before .before .before .before .if1 .left) (c .end-of .result) (c .end-of .ensures) (l .run) (l .taken .refusal) (l .taken .counters) (taken .result .refusal) (taken .last .1 .0) (taken .result .counters) _ (l .inv .1 .1 .1) (taken .ensures) in
+    let past = turn-past (args .a .now) (args .s .now) (c .before .before .before .before .before .before .before .before .before .loop .i) (c .before .before .before .before .before .before .before .token-at .result) (c .before .before .before .before .before .before .before .token-at .ensures) (c .before .before .before .before .before .before .before .before .loop-test .taken) (sym (c .before .before .before .before .before .before .no-token-at .ensures) ∙ c .before .before .before .before .before .if1 .left) (c .end-of .result) (c .end-of .ensures) in
+    let turn = turn-taken (args .a .now) (args .s .now) (c .before .before .before .before .before .before .before .before .before .loop .i) (c .before .before .before .before .before .before .before .token-at .result) (c .before .before .before .before .before .before .before .token-at .ensures) (c .before .before .before .before .before .before .before .before .loop-test .taken) (sym (c .before .before .before .before .before .before .no-token-at .ensures) ∙ c .before .before .before .before .before .if1 .left) (c .end-of .result) (c .end-of .ensures) (l .run) (l .taken .refusal) (l .taken .counters) (taken .result .refusal) (taken .last .1 .0) (taken .result .counters) _ (l .inv .1 .1 .1) (taken .ensures) in
     (past .1, (taken .kept .1 .0 ∙ l .inv .1 .0, (taken .ensures (l .inv .1 .1 .1 .outcome) (l .inv .1 .1 .1 .answered) .restarts ∙ l .inv .1 .1 .0, turn)))
 
 same-length-2 : tie.Need-same-length-2 Inv-loop μ-loop

@@ -27,7 +27,9 @@ folder-shaped-requires : tie.Need-folder-shaped-requires Inv-loop μ-loop
 folder-shaped-requires c κs = omega arith
 
 returns : tie.Need-returns Inv-loop μ-loop
-returns c = sym (all-fails (folderCount (c .before .before .before .before .before .before .args .a .now)) (folderShaped (c .before .before .before .before .before .before .args .a .now)) (c .before .before .before .loop .i) (omega (arith, (c .before .before .before .before .folders .ensures .0))) (sym (c .before .folder-shaped .ensures) ∙ not-true (c .before .folder-shaped .result) (c .if1 .taken)))
+returns c =
+    let args = c .before .before .before .before .before .before .args in
+    sym (all-fails (folderCount (args .a .now)) (folderShaped (args .a .now)) (c .before .before .before .loop .i) (omega (arith, (c .before .before .before .before .folders .ensures .0))) (sym (c .before .folder-shaped .ensures) ∙ not-true (c .before .folder-shaped .result) (c .if1 .taken)))
 
 add-i : tie.Need-add-i Inv-loop μ-loop
 add-i c = omega arith
@@ -36,7 +38,9 @@ loop-less : tie.Need-loop-less Inv-loop μ-loop
 loop-less c = omega arith
 
 loop-again : tie.Need-loop-again Inv-loop μ-loop
-loop-again c = (omega arith, all-more (c .before .before .before .loop .i) (folderShaped (c .before .before .before .before .before .before .args .a .now)) (c .before .before .before .loop .inv .1) (sym (c .before .folder-shaped .ensures) ∙ not-false (c .before .folder-shaped .result) (c .if1 .left)))
+loop-again c =
+    let turn = c .before .before .before .loop in
+    (omega arith, all-more (turn .i) (folderShaped (c .before .before .before .before .before .before .args .a .now)) (turn .inv .1) (sym (c .before .folder-shaped .ensures) ∙ not-false (c .before .folder-shaped .result) (c .if1 .left)))
 
 returns-2 : tie.Need-returns-2 Inv-loop μ-loop
 returns-2 c = let e : c .before .loop .i ≡ folderCount (c .before .before .before .before .args .a .now) = omega (arith, c .before .before .folders .ensures .0) in

@@ -38,7 +38,9 @@ loop-less c = omega arith
 
 loop-again : tie.Need-loop-again Inv-loop μ-loop
 unfolding hashes
-loop-again c = (omega arith, all-more (c .before .before .before .loop .i) (headShaped (c .before .before .before .before .before .args .a .now)) (c .before .before .before .loop .inv .1) (sym (c .before .head-shaped .ensures) ∙ not-false (c .before .head-shaped .result) (c .if1 .left)))
+loop-again c =
+    let turn = c .before .before .before .loop in
+    (omega arith, all-more (turn .i) (headShaped (c .before .before .before .before .before .args .a .now)) (turn .inv .1) (sym (c .before .head-shaped .ensures) ∙ not-false (c .before .head-shaped .result) (c .if1 .left)))
 
 returns-2 : tie.Need-returns-2 Inv-loop μ-loop
 unfolding hashes

@@ -27,7 +27,9 @@ path-shaped-requires : tie.Need-path-shaped-requires Inv-loop μ-loop
 path-shaped-requires c κs = omega arith
 
 returns : tie.Need-returns Inv-loop μ-loop
-returns c = sym (all-fails (pathCount (c .before .before .before .before .before .before .args .a .now)) (pathShaped (c .before .before .before .before .before .before .args .a .now)) (c .before .before .before .loop .i) (omega (arith, (c .before .before .before .before .paths .ensures .0))) (sym (c .before .path-shaped .ensures) ∙ not-true (c .before .path-shaped .result) (c .if1 .taken)))
+returns c =
+    let args = c .before .before .before .before .before .before .args in
+    sym (all-fails (pathCount (args .a .now)) (pathShaped (args .a .now)) (c .before .before .before .loop .i) (omega (arith, (c .before .before .before .before .paths .ensures .0))) (sym (c .before .path-shaped .ensures) ∙ not-true (c .before .path-shaped .result) (c .if1 .taken)))
 
 add-i : tie.Need-add-i Inv-loop μ-loop
 add-i c = omega arith
@@ -36,7 +38,9 @@ loop-less : tie.Need-loop-less Inv-loop μ-loop
 loop-less c = omega arith
 
 loop-again : tie.Need-loop-again Inv-loop μ-loop
-loop-again c = (omega arith, all-more (c .before .before .before .loop .i) (pathShaped (c .before .before .before .before .before .before .args .a .now)) (c .before .before .before .loop .inv .1) (sym (c .before .path-shaped .ensures) ∙ not-false (c .before .path-shaped .result) (c .if1 .left)))
+loop-again c =
+    let turn = c .before .before .before .loop in
+    (omega arith, all-more (turn .i) (pathShaped (c .before .before .before .before .before .before .args .a .now)) (turn .inv .1) (sym (c .before .path-shaped .ensures) ∙ not-false (c .before .path-shaped .result) (c .if1 .left)))
 
 returns-2 : tie.Need-returns-2 Inv-loop μ-loop
 returns-2 c = let e : c .before .loop .i ≡ pathCount (c .before .before .before .before .args .a .now) = omega (arith, c .before .before .paths .ensures .0) in

@@ -27,7 +27,9 @@ step-shaped-requires : tie.Need-step-shaped-requires Inv-loop μ-loop
 step-shaped-requires c κs = omega arith
 
 returns : tie.Need-returns Inv-loop μ-loop
-returns c = sym (all-fails (stepCount (c .before .before .before .before .before .before .args .a .now)) (stepShaped (c .before .before .before .before .before .before .args .a .now)) (c .before .before .before .loop .i) (omega (arith, (c .before .before .before .before .steps .ensures .0))) (sym (c .before .step-shaped .ensures) ∙ not-true (c .before .step-shaped .result) (c .if1 .taken)))
+returns c =
+    let args = c .before .before .before .before .before .before .args in
+    sym (all-fails (stepCount (args .a .now)) (stepShaped (args .a .now)) (c .before .before .before .loop .i) (omega (arith, (c .before .before .before .before .steps .ensures .0))) (sym (c .before .step-shaped .ensures) ∙ not-true (c .before .step-shaped .result) (c .if1 .taken)))
 
 add-i : tie.Need-add-i Inv-loop μ-loop
 add-i c = omega arith
@@ -36,7 +38,9 @@ loop-less : tie.Need-loop-less Inv-loop μ-loop
 loop-less c = omega arith
 
 loop-again : tie.Need-loop-again Inv-loop μ-loop
-loop-again c = (omega arith, all-more (c .before .before .before .loop .i) (stepShaped (c .before .before .before .before .before .before .args .a .now)) (c .before .before .before .loop .inv .1) (sym (c .before .step-shaped .ensures) ∙ not-false (c .before .step-shaped .result) (c .if1 .left)))
+loop-again c =
+    let turn = c .before .before .before .loop in
+    (omega arith, all-more (turn .i) (stepShaped (c .before .before .before .before .before .before .args .a .now)) (turn .inv .1) (sym (c .before .step-shaped .ensures) ∙ not-false (c .before .step-shaped .result) (c .if1 .left)))
 
 returns-2 : tie.Need-returns-2 Inv-loop μ-loop
 returns-2 c = let e : c .before .loop .i ≡ stepCount (c .before .before .before .before .args .a .now) = omega (arith, c .before .before .steps .ensures .0) in

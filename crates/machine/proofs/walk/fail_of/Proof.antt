@@ -28,7 +28,9 @@ unfolding failOf
 returns c = small (c .before .before .args .a .now) (c .before .before .args .q) (c .if1 .taken)
 
 returns-2 : tie.Need-returns-2
-returns-2 c = c .link-field .ensures .0 ∙ sym (of-label (c .before .before .before .args .a .now) (c .before .before .before .args .q) (c .before .if1 .left))
+returns-2 c =
+    let args = c .before .before .before .args in
+    c .link-field .ensures .0 ∙ sym (of-label (args .a .now) (args .q) (c .before .if1 .left))
 
 pub fail-of-spec : {M : Type 1} → statement M
 fail-of-spec =

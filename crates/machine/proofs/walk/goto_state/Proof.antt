@@ -35,11 +35,13 @@ word-requires c κs = let b = c .before .before in
 
 loop-holds : tie.Need-loop-holds Inv-loop μ-loop
 unfolding goto headsAt
-loop-holds c = let a = c .before .before .before .args .a .now in
-    let q = c .before .before .before .args .q in
-    let e = c .before .before .before .args .e .now in
+loop-holds c =
+    let args = c .before .before .before .args in
+    let a = args .a .now in
+    let q = args .q in
+    let e = args .e .now in
     let ch : Searchable a = c .before .before .before .pre .0 in
-    let hh : c .before .before .before .args .h ≡ hash e = c .before .before .before .pre .1 .0 in
+    let hh : args .h ≡ hash e = c .before .before .before .pre .1 .0 in
     let r : c .word .result ≡ headAt a (hash e) = rw hh at (c .word .ensures .0) in
     (rw r (ch .head (hash e) (hash-small e)), sym (ap (gotoFrom maxLabels a q e) r))
 
@@ -56,14 +58,17 @@ unfolding maxLabels
 add-result c = omega (arith, c .before .before .before .before .before .before .before .pre .0 .few)
 
 returns : tie.Need-returns Inv-loop μ-loop
-returns c = let a = c .before .before .before .before .before .before .before .args .a .now in
-    let q = c .before .before .before .before .before .before .before .args .q in
-    let e = c .before .before .before .before .before .before .before .args .e .now in
+returns c =
+    let args = c .before .before .before .before .before .before .before .args in
+    let turn = c .before .before .before .loop in
+    let a = args .a .now in
+    let q = args .q in
+    let e = args .e .now in
     let ch : Searchable a = c .before .before .before .before .before .before .before .pre .0 in
-    let k = c .before .before .before .loop .k in
+    let k = turn .k in
     let t : true ≡ follows a q e (k - 1) = sym (c .if1 .taken) ∙ c .before .follows-label .ensures in
     let n : k + 1 ≡ suc k = omega arith in
-    (n ∙ (goto-found a ch q e k (c .before .before .loop-test .taken) (c .before .before .before .loop .inv .0) t ∙ sym (c .before .before .before .loop .inv .1)), omega (arith, c .before .before .before .loop .inv .0))
+    (n ∙ (goto-found a ch q e k (c .before .before .loop-test .taken) (turn .inv .0) t ∙ sym (turn .inv .1)), omega (arith, turn .inv .0))
 
 sub-word : tie.Need-sub-word Inv-loop μ-loop
 sub-word c = omega arith
@@ -90,22 +95,27 @@ loop-less c = let b = c .before .before .before .before .before .before .before 
 
 loop-again : tie.Need-loop-again Inv-loop μ-loop
 unfolding linksAt linkSize
-loop-again c = let a = c .before .before .before .before .before .before .before .before .args .a .now in
-    let q = c .before .before .before .before .before .before .before .before .args .q in
-    let e = c .before .before .before .before .before .before .before .before .args .e .now in
+loop-again c =
+    let args = c .before .before .before .before .before .before .before .before .args in
+    let turn = c .before .before .before .before .loop in
+    let a = args .a .now in
+    let q = args .q in
+    let e = args .e .now in
     let ch : Searchable a = c .before .before .before .before .before .before .before .before .pre .0 in
-    let k = c .before .before .before .before .loop .k in
+    let k = turn .k in
     let z = c .before .before .before .loop-test .taken in
-    let i : k ≤ labelCount a = c .before .before .before .before .loop .inv .0 in
+    let i : k ≤ labelCount a = turn .inv .0 in
     let l : k - 1 < labelCount a = low a ch k z i in
     let r : c .word2 .result ≡ nextAt a (k - 1) = c .word2 .ensures .0 in
     let t : false ≡ follows a q e (k - 1) = sym (c .before .if1 .left) ∙ c .before .before .follows-label .ensures in
-    (rw r (ch .next (k - 1) l), c .before .before .before .before .loop .inv .1 ∙ (goto-further a ch q e k z i t ∙ sym (ap (gotoFrom maxLabels a q e) r)))
+    (rw r (ch .next (k - 1) l), turn .inv .1 ∙ (goto-further a ch q e k z i t ∙ sym (ap (gotoFrom maxLabels a q e) r)))
 
 returns-2 : tie.Need-returns-2 Inv-loop μ-loop
-returns-2 c = let a = c .before .before .before .before .before .args .a .now in
-    let q = c .before .before .before .before .before .args .q in
-    let e = c .before .before .before .before .before .args .e .now in
+returns-2 c =
+    let args = c .before .before .before .before .before .args in
+    let a = args .a .now in
+    let q = args .q in
+    let e = args .e .now in
     let ch : Searchable a = c .before .before .before .before .before .pre .0 in
     (sym (c .before .loop .inv .1 ∙ (ap (gotoFrom maxLabels a q e) (c .loop-test .left) ∙ goto-end maxLabels a q e)), omega arith)
 

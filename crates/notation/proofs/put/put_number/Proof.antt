@@ -7,7 +7,9 @@ use Rattle.notation.proofs.put.put_number.Statement.{statement}
 use Rattle.notation.proofs.put.put_number.Tie as tie
 
 put-folder-requires : tie.Need-put-folder-requires
-put-folder-requires c κs = let w : Within (folderRead (c .before .before .before .args .n) (c .before .before .before .args .t)) =
+put-folder-requires c κs =
+    let args = c .before .before .before .args in
+    let w : Within (folderRead (args .n) (args .t)) =
     rw (eq-eqb _ _ (c .before .if1 .taken)) at (c .before .before .before .pre .0) in
     (omega arith, c .before .before .before .pre .1)
 

@@ -24,8 +24,10 @@ same-length c = search needs
 
 returns : tie.Need-returns
 unfolding textAt
-returns c = let text = c .before .before .before .before .before .before .before .before .before .before .before .before .before .before .before .before .before .before .before .args .text .now in
-    let rest = drop setSize (c .before .before .before .before .before .before .before .before .before .before .before .before .before .before .before .before .before .before .before .args .part .now) in
+returns c =
+    let args = c .before .before .before .before .before .before .before .before .before .before .before .before .before .before .before .before .before .before .before .args in
+    let text = args .text .now in
+    let rest = drop setSize (args .part .now) in
     c .before .before .put-counts .ensures
     ∙ rw (c .before .before .before .before .before .before .before .fill-tables .ensures .0, c .before .before .before .before .before .before .before .fill-tables .ensures .1, c .before .before .before .before .before .before .before .before .before .before .before .copy .ensures, c .before .before .before .before .before .before .before .before .before .before .before .before .before .before .before .clear-set .ensures)
     (part-is text rest (c .before .before .before .before .before .before .before .before .before .before .before .before .before .before .before .before .before .before .before .pre .0) (c .before .before .before .before .before .before .before .before .before .before .before .before .before .before .before .before .before .before .before .pre .1))

@@ -74,12 +74,15 @@ loop-less c = omega arith
 
 loop-again : tie.Need-loop-again Inv-loop μ-loop
 unfolding foldersAt folderSize
-loop-again c = let part = c .before .before .before .before .before .before .before .before .args .part .now in
-    let number = c .before .before .before .before .before .before .before .before .args .number .0 in
+loop-again c =
+    let args = c .before .before .before .before .before .before .before .before .args in
+    let turn = c .before .before .before .loop in
+    let part = args .part .now in
+    let number = args .number .0 in
     let top = c .before .before .before .before .least .result in
-    let i = c .before .before .before .loop .i in
+    let i = turn .i in
     let n : storedNumber part i ≡ number → ⊥ = λ e. c .if2 .left (c .before .word-at .ensures .0 ∙ e) in
-    (omega arith, c .before .before .before .loop .inv .1 ∙ further part number i top (c .before .before .loop-test .taken) n)
+    (omega arith, turn .inv .1 ∙ further part number i top (c .before .before .loop-test .taken) n)
 
 returns-3 : tie.Need-returns-3 Inv-loop μ-loop
 unfolding folderOf setSize maxPaths searchFolder

@@ -33,9 +33,10 @@ enum-told c = search needs
 
 returns : tie.Need-returns Inv-loop μ-loop
 returns c =
+    let turn = c .before .before .before .before .before .before .loop in
     let a = c .before .before .before .before .before .before .before .before .args in
-    sym (c .before .before .before .before .before .before .loop .inv .1
-    ∙ amp-no (inValue (a .quote)) (a .s .now) (c .before .before .before .before .before .before .loop .i) (c .before .before .before .before .before .loop-test .taken) (c .before .before .before .if1 .taken) (sym (c .before .before .reference-end .ensures) ∙ c .enum-told .given .1))
+    sym (turn .inv .1
+    ∙ amp-no (inValue (a .quote)) (a .s .now) (turn .i) (c .before .before .before .before .before .loop-test .taken) (c .before .before .before .if1 .taken) (sym (c .before .before .reference-end .ensures) ∙ c .enum-told .given .1))
 
 enum-known-e : tie.Need-enum-known-e Inv-loop μ-loop
 enum-known-e c = search needs
@@ -48,18 +49,20 @@ loop-less c =
 
 loop-again : tie.Need-loop-again Inv-loop μ-loop
 loop-again c =
+    let turn = c .before .before .before .before .before .before .before .loop in
     let a = c .before .before .before .before .before .before .before .before .before .args in
-    let on = amp-to (inValue (a .quote)) (a .s .now) (c .before .before .before .before .before .before .before .loop .i) (c .before .before .before .before .before .before .loop-test .taken) (c .before .before .before .before .if1 .taken) (c .before .e .given .0 .0) (sym (c .before .before .before .reference-end .ensures) ∙ c .before .e .given .1) in
-    (on .1, c .before .before .before .before .before .before .before .loop .inv .1 ∙ on .2)
+    let on = amp-to (inValue (a .quote)) (a .s .now) (turn .i) (c .before .before .before .before .before .before .loop-test .taken) (c .before .before .before .before .if1 .taken) (c .before .e .given .0 .0) (sym (c .before .before .before .reference-end .ensures) ∙ c .before .e .given .1) in
+    (on .1, turn .inv .1 ∙ on .2)
 
 in-value-requires : tie.Need-in-value-requires Inv-loop μ-loop
 in-value-requires c κs = search needs
 
 returns-2 : tie.Need-returns-2 Inv-loop μ-loop
 returns-2 c =
+    let turn = c .before .before .before .before .before .loop in
     let a = c .before .before .before .before .before .before .before .args in
-    sym (c .before .before .before .before .before .loop .inv .1
-    ∙ plain-off (inValue (a .quote)) (a .s .now) (c .before .before .before .before .before .loop .i) (c .before .before .before .before .loop-test .taken) (c .before .before .if1 .left) (sym (c .before .in-value .ensures) ∙ not-true _ (c .if2 .taken)))
+    sym (turn .inv .1
+    ∙ plain-off (inValue (a .quote)) (a .s .now) (turn .i) (c .before .before .before .before .loop-test .taken) (c .before .before .if1 .left) (sym (c .before .in-value .ensures) ∙ not-true _ (c .if2 .taken)))
 
 add-i : tie.Need-add-i Inv-loop μ-loop
 add-i c = omega arith
@@ -69,14 +72,17 @@ loop-less-2 c = omega arith
 
 loop-again-2 : tie.Need-loop-again-2 Inv-loop μ-loop
 loop-again-2 c =
+    let turn = c .before .before .before .before .before .loop in
     let a = c .before .before .before .before .before .before .before .args in (
       omega arith,
-      c .before .before .before .before .before .loop .inv .1
-          ∙ plain-on (inValue (a .quote)) (a .s .now) (c .before .before .before .before .before .loop .i) (c .before .before .before .before .loop-test .taken) (c .before .before .if1 .left) (sym (c .before .in-value .ensures) ∙ not-false _ (c .if2 .left)),
+      turn .inv .1
+          ∙ plain-on (inValue (a .quote)) (a .s .now) (turn .i) (c .before .before .before .before .loop-test .taken) (c .before .before .if1 .left) (sym (c .before .in-value .ensures) ∙ not-false _ (c .if2 .left)),
     )
 
 returns-3 : tie.Need-returns-3 Inv-loop μ-loop
-returns-3 c = sym (c .before .loop .inv .1 ∙ parts-end (inValue (c .before .before .before .args .quote)) (c .before .before .before .args .s .now) (c .before .loop .i) (c .before .loop .inv .0) (c .loop-test .left))
+returns-3 c =
+    let args = c .before .before .before .args in
+    sym (c .before .loop .inv .1 ∙ parts-end (inValue (args .quote)) (args .s .now) (c .before .loop .i) (c .before .loop .inv .0) (c .loop-test .left))
 
 pub value-end-spec : {M : Type 1} → statement M
 value-end-spec =

@@ -17,7 +17,9 @@ returns : tie.Need-returns
 returns c = comment-off _ _ (c .before .before .before .pre) (sym (c .before .dashes .ensures) ∙ not-true _ (c .if1 .taken))
 
 add-contents-end : tie.Need-add-contents-end
-add-contents-end c = omega (arith, comment-bound (c .before .before .before .args .s .now) (c .before .before .before .args .at) (c .before .before .before .pre) (sym (c .before .dashes .ensures) ∙ not-false _ (c .if1 .left)))
+add-contents-end c =
+    let args = c .before .before .before .args in
+    omega (arith, comment-bound (args .s .now) (args .at) (c .before .before .before .pre) (sym (c .before .dashes .ensures) ∙ not-false _ (c .if1 .left)))
 
 contents-end-requires : tie.Need-contents-end-requires
 contents-end-requires c κs = comment-bound _ _ (c .before .before .before .pre) (sym (c .before .dashes .ensures) ∙ not-false _ (c .if1 .left))

@@ -25,7 +25,9 @@ comment-close-requires : tie.Need-comment-close-requires Inv-loop μ-loop
 comment-close-requires c κs = c .before .before .before .loop .inv .0
 
 add-t8 : tie.Need-add-t8 Inv-loop μ-loop
-add-t8 c = omega (arith, close-fits (c .before .before .before .before .before .before .before .args .s .now) (c .before .before .before .before .before .loop .i) (sym (c .before .comment-close .ensures) ∙ c .if2 .taken) (c .before .before .before .before .before .loop .inv .0))
+add-t8 c =
+    let turn = c .before .before .before .before .before .loop in
+    omega (arith, close-fits (c .before .before .before .before .before .before .before .args .s .now) (turn .i) (sym (c .before .comment-close .ensures) ∙ c .if2 .taken) (turn .inv .0))
 
 returns : tie.Need-returns Inv-loop μ-loop
 returns c = close-to _ _ (c .before .before .before .before .loop-test .taken) (sym (c .before .before .before .dashes .ensures) ∙ c .before .before .if1 .taken) (sym (c .before .comment-close .ensures) ∙ c .if2 .taken) ∙ sym (c .before .before .before .before .before .loop .inv .1)

@@ -17,11 +17,15 @@ add-t7 c = search needs
 
 returns : tie.Need-returns
 unfolding declarationBytes
-returns c = declared-to (c .before .before .before .before .args .s .now) (c .before .before .before .before .args .at) (c .before .before .before .before .pre) (sym (c .before .word-at .ensures) ∙ c .if1 .taken)
+returns c =
+    let args = c .before .before .before .before .args in
+    declared-to (args .s .now) (args .at) (c .before .before .before .before .pre) (sym (c .before .word-at .ensures) ∙ c .if1 .taken)
 
 returns-2 : tie.Need-returns-2
 unfolding declarationBytes
-returns-2 c = declared-no (c .before .before .before .before .args .s .now) (c .before .before .before .before .args .at) (sym (c .before .word-at .ensures) ∙ c .if1 .left)
+returns-2 c =
+    let args = c .before .before .before .before .args in
+    declared-no (args .s .now) (args .at) (sym (c .before .word-at .ensures) ∙ c .if1 .left)
 
 pub declaration-spec : {M : Type 1} → statement M
 declaration-spec =

@@ -39,16 +39,18 @@ loop-less c = omega arith
 
 loop-again : tie.Need-loop-again Inv-loop μ-loop
 loop-again c =
-    let on = run-next (c .before .before .before .before .before .before .before .before .before .args .s .now) (c .before .before .before .before .before .before .before .loop .i) _ (c .before .before .before .before .before .token-at .ensures) (c .before .before .before .before .before .before .loop-test .taken) (rw (c .before .before .before .before .end-of .ensures) at (c .before .before .before .if1 .left)) (sym (c .before .is-declaration .ensures) ∙ c .if3 .left) in
-    rw (c .before .before .before .before .end-of .ensures) (on .0, c .before .before .before .before .before .before .before .loop .inv .1 ∙ on .1)
+    let turn = c .before .before .before .before .before .before .before .loop in
+    let on = run-next (c .before .before .before .before .before .before .before .before .before .args .s .now) (turn .i) _ (c .before .before .before .before .before .token-at .ensures) (c .before .before .before .before .before .before .loop-test .taken) (rw (c .before .before .before .before .end-of .ensures) at (c .before .before .before .if1 .left)) (sym (c .before .is-declaration .ensures) ∙ c .if3 .left) in
+    rw (c .before .before .before .before .end-of .ensures) (on .0, turn .inv .1 ∙ on .1)
 
 loop-less-2 : tie.Need-loop-less-2 Inv-loop μ-loop
 loop-less-2 c = omega arith
 
 loop-again-2 : tie.Need-loop-again-2 Inv-loop μ-loop
 loop-again-2 c =
-    let on = run-first (c .before .before .before .before .before .before .before .args .s .now) (c .before .before .before .before .before .loop .i) _ (c .before .before .before .token-at .ensures) (c .before .before .before .before .loop-test .taken) (rw (c .before .before .end-of .ensures) at (c .before .if1 .left)) (c .if2 .left) in
-    rw (c .before .before .end-of .ensures) (on .0, c .before .before .before .before .before .loop .inv .1 ∙ on .1)
+    let turn = c .before .before .before .before .before .loop in
+    let on = run-first (c .before .before .before .before .before .before .before .args .s .now) (turn .i) _ (c .before .before .before .token-at .ensures) (c .before .before .before .before .loop-test .taken) (rw (c .before .before .end-of .ensures) at (c .before .if1 .left)) (c .if2 .left) in
+    rw (c .before .before .end-of .ensures) (on .0, turn .inv .1 ∙ on .1)
 
 returns-3 : tie.Need-returns-3 Inv-loop μ-loop
 returns-3 c = run-said _ _ (run-end _ _ (c .loop-test .left) ∙ sym (c .before .loop .inv .1))

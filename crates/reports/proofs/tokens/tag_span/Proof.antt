@@ -12,7 +12,8 @@ name-span-requires c κs = search needs
 
 returns : tie.Need-returns
 returns c =
-    spans (c .before .before .before .args .s .now) (c .before .before .before .args .at) _ _ (c .before .token-at .result) (c .before .token-at .ensures)
+    let args = c .before .before .before .args in
+    spans (args .s .now) (args .at) _ _ (c .before .token-at .result) (c .before .token-at .ensures)
     (c .name-span .ensures .0) (c .name-span .ensures .1) .stands
 
 pub tag-span-spec : {M : Type 1} → statement M

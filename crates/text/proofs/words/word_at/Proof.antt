@@ -21,7 +21,9 @@ minus-requires : tie.Need-minus-requires Inv-loop μ-loop
 minus-requires c κs = search needs
 
 returns : tie.Need-returns Inv-loop μ-loop
-returns c = sym (begins-short _ _ (rw (length-drop (c .before .before .before .before .args .at) (c .before .before .before .before .args .s .now)) (rw (c .before .minus .ensures) at (c .if1 .taken))))
+returns c =
+    let args = c .before .before .before .before .args in
+    sym (begins-short _ _ (rw (length-drop (args .at) (args .s .now)) (rw (c .before .minus .ensures) at (c .if1 .taken))))
 
 loop-holds : tie.Need-loop-holds Inv-loop μ-loop
 loop-holds c = (omega arith, omega arith, rw add-zero)
@@ -37,9 +39,10 @@ shared-slice-read-if2-2 c = omega arith
 
 returns-2 : tie.Need-returns-2 Inv-loop μ-loop
 returns-2 c =
+    let turn = c .before .before .before .before .loop in
     let a = c .before .before .before .before .before .before .before .before .before .args in
-    let i = c .before .before .before .before .loop .i in
-    sym (c .before .before .before .before .loop .inv .2 ∙ begins-no (a .w .now) (a .s .now) i (a .at + i) (c .before .before .before .loop-test .taken) (omega arith) (c .if2 .taken))
+    let i = turn .i in
+    sym (turn .inv .2 ∙ begins-no (a .w .now) (a .s .now) i (a .at + i) (c .before .before .before .loop-test .taken) (omega arith) (c .if2 .taken))
 
 add-i : tie.Need-add-i Inv-loop μ-loop
 add-i c = omega arith
@@ -49,9 +52,10 @@ loop-less c = omega arith
 
 loop-again : tie.Need-loop-again Inv-loop μ-loop
 loop-again c =
+    let turn = c .before .before .before .before .loop in
     let a = c .before .before .before .before .before .before .before .before .before .args in
-    let i = c .before .before .before .before .loop .i in
-    (omega arith, c .before .before .before .before .loop .inv .1, rw (add-one, add-suc) (c .before .before .before .before .loop .inv .2 ∙ begins-yes (a .w .now) (a .s .now) i (a .at + i) (c .before .before .before .loop-test .taken) (omega arith) (c .if2 .left)))
+    let i = turn .i in
+    (omega arith, turn .inv .1, rw (add-one, add-suc) (turn .inv .2 ∙ begins-yes (a .w .now) (a .s .now) i (a .at + i) (c .before .before .before .loop-test .taken) (omega arith) (c .if2 .left)))
 
 returns-3 : tie.Need-returns-3 Inv-loop μ-loop
 returns-3 c =

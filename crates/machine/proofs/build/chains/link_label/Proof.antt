@@ -67,10 +67,11 @@ same-length c = search needs
 returns : tie.Need-returns
 unfolding headsAt linksAt linkSize
 returns c =
+    let args = c .before .before .before .before .before .before .before .before .before .before .before .before .before .before .args in
     done
-    (c .before .before .before .before .before .before .before .before .before .before .before .before .before .before .args .part .now)
+    (args .part .now)
     (c .before .before .before .before .before .before .put16 .last .0)
-    (c .before .before .before .before .before .before .before .before .before .before .before .before .before .before .args .l)
+    (args .l)
     (c .before .before .before .before .before .before .before .before .before .before .hash-of .result)
     (c .before .before .before .before .before .before .before .before .word-at .result)
     (c .before .before .before .before .before .before .before .before .before .before .hash-of .ensures .0 ∙ ap hash (c .before .before .before .before .before .before .before .before .before .before .before .label-name .ensures))

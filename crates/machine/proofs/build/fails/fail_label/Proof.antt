@@ -45,7 +45,9 @@ same-length c = search needs
 
 returns : tie.Need-returns
 unfolding failedIf linksAt linkSize
-returns c = done (c .before .before .before .before .before .before .before .before .before .before .args .a .now) (c .before .before .before .before .before .before .before .before .before .before .args .l) (c .before .before .before .before .before .before .before .before .before .before .args .n) (c .before .before .before .before .fail-to .result)
+returns c =
+    let args = c .before .before .before .before .before .before .before .before .before .before .args in
+    done (args .a .now) (args .l) (args .n) (c .before .before .before .before .fail-to .result)
     (sym (c .before .before .before .before .before .before .before .link-field .ensures .0) ∙ c .before .before .before .before .before .before .if1 .taken) (c .before .before .before .before .fail-to .ensures) (c .before .before .put16 .ensures)
 
 same-length-2 : tie.Need-same-length-2
@@ -53,8 +55,10 @@ same-length-2 c = search needs
 
 returns-2 : tie.Need-returns-2
 unfolding failedIf
-returns-2 c = let n : sizeAt (c .before .before .before .before .args .a .now) (c .before .before .before .before .args .l) ≡ c .before .before .before .before .args .n → ⊥ = λ e. c .if1 .left (c .before .link-field .ensures .0 ∙ e) in
-    rw (ne-eqb (sizeAt (c .before .before .before .before .args .a .now) (c .before .before .before .before .args .l)) (c .before .before .before .before .args .n) n)
+returns-2 c =
+    let args = c .before .before .before .before .args in
+    let n : sizeAt (args .a .now) (args .l) ≡ args .n → ⊥ = λ e. c .if1 .left (c .before .link-field .ensures .0 ∙ e) in
+    rw (ne-eqb (sizeAt (args .a .now) (args .l)) (args .n) n)
 
 pub fail-label-spec : {M : Type 1} → statement M
 fail-label-spec =

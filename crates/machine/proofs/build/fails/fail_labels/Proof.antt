@@ -25,8 +25,10 @@ unfolding failedBelow
 loop-holds c = (omega arith, refl, refl)
 
 fail-label-requires : tie.Need-fail-label-requires Inv-loop μ-loop
-fail-label-requires c κs = let a = c .before .before .before .before .before .before .args .a .now in
-    let n = c .before .before .before .before .before .before .args .n in
+fail-label-requires c κs =
+    let args = c .before .before .before .before .before .before .args in
+    let a = args .a .now in
+    let n = args .n in
     let x = c .before .before .loop in
     let k : x .l < labelCount a = omega (arith, c .before .loop-test .taken, c .before .before .before .labels .ensures .0) in
     let r = grows-below n (x .l) a (c .before .before .before .before .before .before .pre) (omega arith) in
@@ -41,8 +43,10 @@ loop-less c = omega arith
 
 loop-again : tie.Need-loop-again Inv-loop μ-loop
 unfolding failedBelow
-loop-again c = let a = c .before .before .before .before .before .before .before .before .before .args .a .now in
-    let n = c .before .before .before .before .before .before .before .before .before .args .n in
+loop-again c =
+    let args = c .before .before .before .before .before .before .before .before .before .args in
+    let a = args .a .now in
+    let n = args .n in
     let x = c .before .before .before .before .before .loop in
     (omega arith, c .before .before .fail-label .kept .0 ∙ x .inv .1, c .before .before .fail-label .ensures ∙ (ap (failedIf n (x .l)) (x .inv .2) ∙ rw add-one))
 
@@ -50,8 +54,10 @@ same-length : tie.Need-same-length Inv-loop μ-loop
 same-length c = c .before .loop .inv .1
 
 returns : tie.Need-returns Inv-loop μ-loop
-returns c = let a = c .before .before .before .before .before .args .a .now in
-    let n = c .before .before .before .before .before .args .n in
+returns c =
+    let args = c .before .before .before .before .before .args in
+    let a = args .a .now in
+    let n = args .n in
     let x = c .before .loop in
     let e : x .l ≡ labelCount a = omega (arith, x .inv .0, c .loop-test .left, c .before .before .labels .ensures .0) in
     x .inv .2 ∙ ap (λ (k : ℕ). failedBelow n k a) e

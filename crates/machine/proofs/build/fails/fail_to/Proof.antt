@@ -18,8 +18,10 @@ link-field-requires c κs = (omega (arith, c .before .pre .1, c .before .pre .0 
 
 returns : tie.Need-returns
 unfolding failTo
-returns c = let a = c .before .before .before .args .a .now in
-    let l = c .before .before .before .args .l in
+returns c =
+    let args = c .before .before .before .args in
+    let a = args .a .now in
+    let l = args .l in
     let g : Growing a = c .before .before .before .pre .0 in
     let i : l < labelCount a = c .before .before .before .pre .1 in
     let p : parentAt a l ≡ 0 = sym (c .before .link-field .ensures .0) ∙ c .if1 .taken in
@@ -35,8 +37,10 @@ hash-of-requires : tie.Need-hash-of-requires
 hash-of-requires c κs = search needs
 
 walk-from-requires : tie.Need-walk-from-requires
-walk-from-requires c κs = let a = c .before .before .before .before .before .before .args .a .now in
-    let l = c .before .before .before .before .before .before .args .l in
+walk-from-requires c κs =
+    let args = c .before .before .before .before .before .before .args in
+    let a = args .a .now in
+    let l = args .l in
     let g : Growing a = c .before .before .before .before .before .before .pre .0 in
     let i : l < labelCount a = c .before .before .before .before .before .before .pre .1 in
     let p : c .before .before .before .before .link-field .result ≡ parentAt a l = c .before .before .before .before .link-field .ensures .0 in
@@ -45,8 +49,10 @@ walk-from-requires c κs = let a = c .before .before .before .before .before .be
 
 returns-2 : tie.Need-returns-2
 unfolding failTo
-returns-2 c = let a = c .before .before .before .before .before .before .before .args .a .now in
-    let l = c .before .before .before .before .before .before .before .args .l in
+returns-2 c =
+    let args = c .before .before .before .before .before .before .before .args in
+    let a = args .a .now in
+    let l = args .l in
     let g : Growing a = c .before .before .before .before .before .before .before .pre .0 in
     let i : l < labelCount a = c .before .before .before .before .before .before .before .pre .1 in
     let p : c .before .before .before .before .before .link-field .result ≡ parentAt a l = c .before .before .before .before .before .link-field .ensures .0 in

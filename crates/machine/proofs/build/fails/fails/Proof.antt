@@ -47,9 +47,11 @@ same-length c = c .before .loop .inv .1
 
 returns : tie.Need-returns Inv-loop μ-loop
 unfolding maxSteps
-returns c = let x = c .before .loop in
+returns c =
+    let args = c .before .before .before .args in
+    let x = c .before .loop in
     let e : x .n ≡ suc maxSteps = omega (arith, x .inv .0, c .loop-test .left) in
-    x .inv .2 ∙ ap (λ (k : ℕ). failedTo (labelCount (c .before .before .before .args .a .now)) k (c .before .before .before .args .a .now)) e
+    x .inv .2 ∙ ap (λ (k : ℕ). failedTo (labelCount (args .a .now)) k (args .a .now)) e
 
 pub fails-spec : {M : Type 1} → statement M
 fails-spec =

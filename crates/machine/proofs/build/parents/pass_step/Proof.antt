@@ -56,9 +56,11 @@ same-length : tie.Need-same-length
 same-length c = search needs
 
 returns : tie.Need-returns
-returns c = let i = c .before .before .before .before .before .before .before .before .before .before .args .i in
-    let at = c .before .before .before .before .before .before .before .before .before .before .args .at in
-    let a = c .before .before .before .before .before .before .before .before .before .before .args .part .now in
+returns c =
+    let args = c .before .before .before .before .before .before .before .before .before .before .args in
+    let i = args .i in
+    let at = args .at in
+    let a = args .part .now in
     let first = c .before .before .before .before .before .before .before .starts-path .result in
     let x = c .before .before .before .x .given in
     let on = c .before .enter .result in
@@ -82,9 +84,11 @@ same-length-2 : tie.Need-same-length-2
 same-length-2 c = search needs
 
 returns-2 : tie.Need-returns-2
-returns-2 c = let i = c .before .before .before .before .before .before .before .before .before .before .before .before .before .before .args .i in
-    let at = c .before .before .before .before .before .before .before .before .before .before .before .before .before .before .args .at in
-    let a = c .before .before .before .before .before .before .before .before .before .before .before .before .before .before .args .part .now in
+returns-2 c =
+    let args = c .before .before .before .before .before .before .before .before .before .before .before .before .before .before .args in
+    let i = args .i in
+    let at = args .at in
+    let a = args .part .now in
     let first = c .before .before .before .before .before .before .before .before .before .before .before .starts-path .result in
     let x = c .before .before .before .before .before .before .before .x .given in
     let on = c .before .before .before .before .before .enter .result in
@@ -103,9 +107,11 @@ same-length-3 : tie.Need-same-length-3
 same-length-3 c = search needs
 
 returns-3 : tie.Need-returns-3
-returns-3 c = let i = c .before .before .before .before .before .before .before .args .i in
-    let at = c .before .before .before .before .before .before .before .args .at in
-    let a = c .before .before .before .before .before .before .before .args .part .now in
+returns-3 c =
+    let args = c .before .before .before .before .before .before .before .args in
+    let i = args .i in
+    let at = args .at in
+    let a = args .part .now in
     let e = missing i at a (c .before .before .before .before .starts-path .result) (c .before .before .before .before .starts-path .ensures) (sym (c .before .before .step-at .ensures) ∙ c .enum-told .given .1) in
     let s = c .before .before .before .before .before .before .before .pre .0 in (
       sym (ap (λ (r : Passed). r .bytes) e),

@@ -52,8 +52,10 @@ same-length c = search needs
 
 returns-2 : tie.Need-returns-2
 unfolding maxLabels
-returns-2 c = let at = c .before .before .before .before .before .before .before .before .args .at in
-    let a = c .before .before .before .before .before .before .before .before .args .part .now in
+returns-2 c =
+    let args = c .before .before .before .before .before .before .before .before .args in
+    let at = args .at in
+    let a = args .part .now in
     let e = roomy at a (c .before .before .before .before .store-word .last .0) (c .follow .result) (c .before .before .before .before .before .before .if1 .left) (c .before .before .before .before .store-word .ensures) (c .follow .ensures .0) in
     let s : Searchable (c .before .before .before .before .store-word .last .0) = subst Searchable (sym (c .before .before .before .before .store-word .ensures)) (searchable-stored (at .labels) (at .state) a (c .before .before .before .before .before .before .before .before .pre .0)) in (
       sym (ap (λ (r : Passed). r .bytes) e),

@@ -51,11 +51,12 @@ same-length c = search needs
 returns : tie.Need-returns
 unfolding linksAt linkSize
 returns c =
+    let args = c .before .before .before .before .before .before .before .before .before .before .before .args in
     done
-    (c .before .before .before .before .before .before .before .before .before .before .before .args .part .now)
+    (args .part .now)
     (c .before .before .before .before .before .before .put16 .last .0)
-    (c .before .before .before .before .before .before .before .before .before .before .before .args .l)
-    (c .before .before .before .before .before .before .before .before .before .before .before .args .q)
+    (args .l)
+    (args .q)
     (c .before .before .before .before .before .before .before .before .size-of .result)
     (c .before .before .before .before .before .before .before .before .size-of .ensures .0)
     (c .before .before .before .before .before .before .put16 .ensures)

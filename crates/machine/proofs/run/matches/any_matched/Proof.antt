@@ -25,8 +25,10 @@ place-matched-requires : tie.Need-place-matched-requires Inv-loop μ-loop
 place-matched-requires c κs = search needs
 
 returns : tie.Need-returns Inv-loop μ-loop
-returns c = let b = c .before .before .before .before .before .before .args in
-    sym (c .before .before .before .loop .inv .1 ∙ any-here (λ p. placeMatched (b .a .now) (b .run .now) (record { 0 = p })) (b .first) (b .count) (c .before .before .before .loop .i) (c .before .before .loop-test .taken) (sym (c .before .place-matched .ensures) ∙ c .if1 .taken))
+returns c =
+    let turn = c .before .before .before .loop in
+    let b = c .before .before .before .before .before .before .args in
+    sym (turn .inv .1 ∙ any-here (λ p. placeMatched (b .a .now) (b .run .now) (record { 0 = p })) (b .first) (b .count) (turn .i) (c .before .before .loop-test .taken) (sym (c .before .place-matched .ensures) ∙ c .if1 .taken))
 
 add-i : tie.Need-add-i Inv-loop μ-loop
 add-i c = omega (arith, c .before .before .before .before .before .before .pre .1)
@@ -35,8 +37,10 @@ loop-less : tie.Need-loop-less Inv-loop μ-loop
 loop-less c = omega arith
 
 loop-again : tie.Need-loop-again Inv-loop μ-loop
-loop-again c = let b = c .before .before .before .before .before .before .args in
-    (omega arith, c .before .before .before .loop .inv .1 ∙ any-next (λ p. placeMatched (b .a .now) (b .run .now) (record { 0 = p })) (b .first) (b .count) (c .before .before .before .loop .i) (c .before .before .loop-test .taken) (sym (c .before .place-matched .ensures) ∙ c .if1 .left))
+loop-again c =
+    let turn = c .before .before .before .loop in
+    let b = c .before .before .before .before .before .before .args in
+    (omega arith, turn .inv .1 ∙ any-next (λ p. placeMatched (b .a .now) (b .run .now) (record { 0 = p })) (b .first) (b .count) (turn .i) (c .before .before .loop-test .taken) (sym (c .before .place-matched .ensures) ∙ c .if1 .left))
 
 returns-2 : tie.Need-returns-2 Inv-loop μ-loop
 returns-2 c = let b = c .before .before .before .before .args in

@@ -46,8 +46,10 @@ loop-less : tie.Need-loop-less Inv-loop μ-loop
 loop-less c = omega arith
 
 loop-again : tie.Need-loop-again Inv-loop μ-loop
-loop-again c = let a = c .before .before .before .before .before .before .before .before .args in
-    (omega arith, all-more (c .before .before .before .loop .d) (rowShaped (a .a .now) (a .run .now)) (c .before .before .before .loop .inv .1) (sym (c .before .row-shaped .ensures) ∙ not-false _ (c .if2 .left)))
+loop-again c =
+    let turn = c .before .before .before .loop in
+    let a = c .before .before .before .before .before .before .before .before .args in
+    (omega arith, all-more (turn .d) (rowShaped (a .a .now) (a .run .now)) (turn .inv .1) (sym (c .before .row-shaped .ensures) ∙ not-false _ (c .if2 .left)))
 
 returns-3 : tie.Need-returns-3 Inv-loop μ-loop
 unfolding maxDepth

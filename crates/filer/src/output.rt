@@ -1,4 +1,4 @@
-// What is printed, at the start of a lent page of filing's LISTING_SIZE bytes.
+// What is printed, at the start of a lent buffer of filing's LISTING_SIZE bytes.
 use filing::printing::print_filing;
 use text::written::Written;
 ghost use mathlib.Core.Path.{_≡_};
@@ -20,9 +20,9 @@ fn size_of(answer: Written) -> usize
 }
 
 // What a set and a report print; its length.
-pub fn filed(set: &[u8], report: &[u8], a: &mut [u8], run: &mut [u8], page: &mut [u8]) -> usize
-    requires { ⌜ (automatonSize ≤ length (now a)) × (runSize ≤ length (now run)) × (listingSize ≤ length (now page)) ⌝ }
-    ensures { λ r. ⌜ Shows (now (set .entry)) (now (report .entry)) r (now (page .exit)) ⌝ }
+pub fn filed(set: &[u8], report: &[u8], a: &mut [u8], run: &mut [u8], out: &mut [u8]) -> usize
+    requires { ⌜ (automatonSize ≤ length (now a)) × (runSize ≤ length (now run)) × (listingSize ≤ length (now out)) ⌝ }
+    ensures { λ r. ⌜ Shows (now (set .entry)) (now (report .entry)) r (now (out .exit)) ⌝ }
 {
-    size_of(print_filing(set, report, a, run, page))
+    size_of(print_filing(set, report, a, run, out))
 }
