@@ -2,7 +2,6 @@
 ghost use mathlib.Core.Path.{_≡_};
 ghost use Prim.Native.Nat.{_+_, _≤_};
 ghost use lib.ListN.{length, drop};
-ghost use Rattle.text.specs.Lists.{every};
 ghost use Rattle.documents.specs.Tokens.{blank as blankByte, listed as listedByte, inText};
 ghost use Rattle.text.specs.Read.{front};
 
@@ -52,20 +51,6 @@ pub fn in_text(b: u8) -> bool
         return false;
     }
     listed(b)
-}
-
-// Whether every byte of a report is listed; without that, refusal 8.
-pub fn all_listed(s: &[u8]) -> bool
-    ensures { λ r. ⌜ r ≡ every listedByte (now (s .entry)) ⌝ }
-{
-    let mut i = 0;
-    while i < s.len() {
-        if !listed(s[i]) {
-            return false;
-        }
-        i += 1;
-    }
-    true
 }
 
 // Where the blanks that begin at an offset end.

@@ -16,7 +16,8 @@ ghost use Prim.Native.Nat.{_+_, _≤_, _<_};
 ghost use lib.ListN.{length, drop};
 ghost use mathlib.Core.List.{[], _∷_};
 ghost use Rattle.text.specs.Read.{startsWith};
-ghost use Rattle.documents.specs.Tokens.{RunOfTokens};
+ghost use Rattle.text.specs.Lists.{every};
+ghost use Rattle.documents.specs.Tokens.{RunOfTokens, listed as listedByte};
 ghost use Rattle.documents.specs.TagAt.{TagAt};
 ghost use Rattle.documents.specs.Reading.{readTag, readEndTag, readContents, readComment, readText, readToken};
 ghost use Rattle.reports.specs.Code.Reaches.{reachOf};
@@ -34,6 +35,20 @@ pub enum Found {
     Empty { from: usize, to: usize, end: usize },
     End { from: usize, to: usize, end: usize },
     Text { end: usize, blank: bool },
+}
+
+// Whether every byte of a report is listed; without that, refusal 8.
+pub fn all_listed(s: &[u8]) -> bool
+    ensures { λ r. ⌜ r ≡ every listedByte (now (s .entry)) ⌝ }
+{
+    let mut i = 0;
+    while i < s.len() {
+        if !listed(s[i]) {
+            return false;
+        }
+        i += 1;
+    }
+    true
 }
 
 // A start or empty-element tag, whose `<` stands at the offset.

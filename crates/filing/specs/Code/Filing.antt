@@ -15,9 +15,9 @@ use Rattle.documents.specs.Reading.{readReport}
 use Rattle.filing.specs.Limits.{maxReportBytes}
 use Rattle.filing.specs.Filing.{Outcome, andThen, unless, Machine, fileTokens, sharedMachine}
 
-abbrev pub isTorn : Read (List Token) → Bool
-isTorn fail = true
-isTorn (got ts r) = false
+abbrev pub isNoRun : Read (List Token) → Bool
+isNoRun fail = true
+isNoRun (got ts r) = false
 
 abbrev pub tokensIn : Read (List Token) → List Token
 tokensIn fail = []
@@ -25,7 +25,7 @@ tokensIn (got ts r) = ts
 
 abbrev pub reportTests : List ℕ → List Condition
 reportTests report =
-    gives (ltb maxReportBytes (length report)) tooLarge ∷ gives (not (every listed report)) invalidByte ∷ gives (isTorn (readReport report)) syntaxError ∷ []
+    gives (ltb maxReportBytes (length report)) tooLarge ∷ gives (not (every listed report)) invalidByte ∷ gives (isNoRun (readReport report)) syntaxError ∷ []
 
 unfoldable pub fileReport : {S : Type 0} → Machine S → S → List Condition → List ℕ → Outcome S
 fileReport k s before report = andThen (unless (first (before ++ reportTests report)) s) (λ t. fileTokens k t (tokensIn (readReport report)))

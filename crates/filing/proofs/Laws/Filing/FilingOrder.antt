@@ -24,7 +24,7 @@ use Rattle.documents.specs.Document.{Event, opening, closing, textHere, comment
 use Rattle.documents.proofs.Laws.Read.ReadSound.{found-run, run-found, none-found}
 use Rattle.filing.specs.Filing.{Outcome, refused, filed, andThen, unless, Machine, eventOrder, endOrder, fileEvents, fileTokens, Reason, reason, reportOrder, Decided, OutcomeOf, sharedMachine, FilingGives, FiledWith}
 use Rattle.filing.specs.ReportRefusals.{storedMachine, tested, ReportGives, ofLent}
-use Rattle.filing.specs.Code.Filing.{isTorn, tokensIn, reportTests, fileReport, fileWith}
+use Rattle.filing.specs.Code.Filing.{isNoRun, tokensIn, reportTests, fileReport, fileWith}
 use Rattle.filing.proofs.Laws.Filing.FilingParts.{clash as clash₀, unmet, later-unmet, first-then, first-before, first-has, unless-refused, either-refused, events-refused}
 
 -- an event, and the end, is refused with the first of its order whose condition holds
@@ -69,7 +69,7 @@ tested-tests : (tests : List Condition) → Tests (map tested tests) tests
 tested-tests [] = noTests
 tested-tests (gives b r ∷ tests) = test (λ e. e, λ e. e) (tested-tests tests)
 
-no-run : (report : List ℕ) (x : Read (List Token)) → readReport report ≡ x → (isTorn x ≡ true) ↔ (RunOfTokens report → ⊥)
+no-run : (report : List ℕ) (x : Read (List Token)) → readReport report ≡ x → (isNoRun x ≡ true) ↔ (RunOfTokens report → ⊥)
 no-run report fail e = (λ h. none-found report e, λ h. refl)
 no-run report (got ts r) e = (λ h. clash h refl, λ h. absurd (h (found-run report ts r e)))
 
@@ -79,7 +79,7 @@ report-tests report =
     (test (not-true (every listed report), λ h. ap not h)
     (test (no-run report (readReport report) refl) noTests))
 
-tokens-found : {S : Type 0} (k : Machine S) (s : S) (report : List ℕ) (o : Outcome S) (x : Read (List Token)) → readReport report ≡ x → isTorn x ≡ false
+tokens-found : {S : Type 0} (k : Machine S) (s : S) (report : List ℕ) (o : Outcome S) (x : Read (List Token)) → readReport report ≡ x → isNoRun x ≡ false
     → ((run : RunOfTokens report) × (fileTokens k s (run .tokens) ≡ o)) ↔ (fileTokens k s (tokensIn x) ≡ o)
 tokens-found k s report o fail e h = clash refl h
 tokens-found k s report o (got ts r) e h =

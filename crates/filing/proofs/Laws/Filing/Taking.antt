@@ -36,7 +36,7 @@ use Rattle.reports.specs.Seen.{shown, foundOf, foundEnd, declares}
 use Rattle.reports.specs.Code.Seen.{tagName, nameOfToken}
 use Rattle.filing.specs.Filing.{Outcome, refused, filed, andThen, unless, fileEvents}
 use Rattle.filing.specs.ReportRefusals.{storedMachine, leftBy, Files}
-use Rattle.filing.specs.Code.Filing.{isTorn, tokensIn, fileReport}
+use Rattle.filing.specs.Code.Filing.{isNoRun, tokensIn, fileReport}
 use Rattle.filing.specs.Code.Taking.{Answered, Taking, leftIn, Leaves, fileOpen, fileClose, fileText, fileFound, fileLast, noTokenAt, runFrom}
 use Rattle.filing.proofs.Laws.Filing.FilingParts.{then-filed, then-same, events-append}
 use Rattle.filing.proofs.Laws.Filing.FilingOrder.{report-is, start-refused, start-lent, once-started, report-own}
@@ -241,7 +241,7 @@ module _ (a : List ℕ) (t : Left) (s : List ℕ) where
   unfolding fileReport first
   report-run h k = rw (le-ltb maxReportBytes (length s) h, k) (go (readReport s))
     where
-      go : (x : Read (List Token)) → andThen (unless (first (gives (isTorn x) syntaxError ∷ [])) t) (λ t. andThen (fileEvents (storedMachine a) t (eventsOf (tokensIn x))) fileLast)
+      go : (x : Read (List Token)) → andThen (unless (first (gives (isNoRun x) syntaxError ∷ [])) t) (λ t. andThen (fileEvents (storedMachine a) t (eventsOf (tokensIn x))) fileLast)
           ≡ andThen (runFrom a (filed t) x) fileLast
       go fail = refl
       go (got ts r) = refl

@@ -1,4 +1,4 @@
--- `filing::scan::all_listed` meets its contract. The loop's invariant: the answer is whether the bytes that are left are listed.
+-- `tokens::all_listed` meets its contract. The loop's invariant: the answer is whether the bytes that are left are listed.
 use Prim.Native.Nat.{_≤_, _-_}
 use mathlib.Core.Path.{_≡_, refl, sym, _∙_}
 use native.Mathlib.Omega.{arith}
@@ -9,8 +9,8 @@ use lib.ListN.{length, drop}
 use Rattle.text.specs.Lists.{every}
 use Rattle.documents.specs.Tokens.{listed}
 use Rattle.text.proofs.Laws.Scans.{every-no, every-yes, every-end}
-use Rattle.reports.proofs.scan.all_listed.Statement.{statement}
-use Rattle.reports.proofs.scan.all_listed.Tie as tie
+use Rattle.reports.proofs.tokens.all_listed.Statement.{statement}
+use Rattle.reports.proofs.tokens.all_listed.Tie as tie
 
 abbrev Inv-loop : tie.InvT-loop
 Inv-loop s i₀ i = (i ≤ length s) × (every listed s ≡ every listed (drop i s))
