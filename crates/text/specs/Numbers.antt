@@ -5,6 +5,6 @@ use Rattle.text.specs.Read.{Read, fail, got}
 use Rattle.text.specs.declared.numbers.Number.{Number}
 
 -- its value, and where it ends in bytes of this length in all; 0 and 0 if none was read
-abbrev pub numberIn : ℕ → Read ℕ → Number
-numberIn total fail = record { value = 0; end = 0 }
-numberIn total (got n r) = record { value = n; end = total - length r }
+abbrev pub numberFound : ℕ → Read ℕ → Number
+numberFound total fail = record { value = 0; end = 0 }
+numberFound total (got n r) = record { value = n; end = total - length r }

@@ -23,7 +23,7 @@ further size (some at) n = cond (leb (at + n) size) (some (at + n)) none
 abbrev pub Within : List ℕ → Cursor → Type 0
 Within out cursor = cursor .fits ≡ true → cursor .at ≤ length out
 
--- these bytes were added
+-- these bytes were added. What a buffer holds once a piece had no room is not said: who must leave it as it was measures with a dry cursor first
 pub record Adds (out : List ℕ) (cursor : Cursor) (bytes out' : List ℕ) (cursor' : Cursor) : Type 0 where
   pub on : Within out' cursor'
   pub size : length out' ≡ length out

@@ -3,7 +3,7 @@ use crate::truth::between;
 ghost use mathlib.Core.Path.{_≡_};
 ghost use lib.ListN.{length, drop};
 ghost use Rattle.text.specs.Read.{numberAhead, readNumber};
-ghost use Rattle.text.specs.Numbers.{numberIn};
+ghost use Rattle.text.specs.Numbers.{numberFound};
 
 pub struct Number {
     pub value: usize,
@@ -25,7 +25,7 @@ pub fn number_ahead(s: &[u8], at: usize) -> bool
 // The number from 1 to `most` that stands at an offset; 0, and the end 0, where none does. A digit is added only if `most` allows it, so no
 // sum is too large.
 pub fn number_at(s: &[u8], at: usize, most: usize) -> Number
-    ensures { λ r. ⌜ r ≡ numberIn (length (now (s .entry))) (readNumber most (drop at (now (s .entry)))) ⌝ }
+    ensures { λ r. ⌜ r ≡ numberFound (length (now (s .entry))) (readNumber most (drop at (now (s .entry)))) ⌝ }
 {
     let none = Number { value: 0, end: 0 };
     if !number_ahead(s, at) {

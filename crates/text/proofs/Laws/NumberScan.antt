@@ -10,7 +10,7 @@ use lib.ListN.{length, getD, drop, length-drop, drop-of-length-le}
 use lib.Seq.{drop-cons}
 use Rattle.text.specs.Names.{digit}
 use Rattle.text.specs.Read.{front, back, valueOf, numberAhead, readNumber}
-use Rattle.text.specs.Numbers.{numberIn}
+use Rattle.text.specs.Numbers.{numberFound}
 use Rattle.text.specs.declared.numbers.Number.{Number}
 use Rattle.text.proofs.Laws.Fronts.{stops, front-stop, back-stop}
 use Rattle.text.proofs.Laws.ReadNumber.{value-grows}
@@ -21,7 +21,7 @@ some-byte (b ∷ l) t = omega arith
 
 module _ (s : List ℕ) (at most : ℕ) where
   abbrev pub Found : Number → Type 0
-  Found n = n ≡ numberIn (length s) (readNumber most (drop at s))
+  Found n = n ≡ numberFound (length s) (readNumber most (drop at s))
 
   pub no-number : numberAhead (drop at s) ≡ false → Found (record { value = 0; end = 0 })
   unfolding readNumber

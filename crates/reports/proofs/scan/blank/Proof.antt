@@ -1,4 +1,4 @@
--- `filing::scan::blank` meets its contract.
+-- `scan::blank` meets its contract.
 use mathlib.Core.Path.{sym, ap}
 use Rattle.documents.specs.Tokens.{blank}
 use Rattle.documents.proofs.Laws.Read.ByteTests.{blank-high, blank-last}

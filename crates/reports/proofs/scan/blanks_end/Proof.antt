@@ -1,4 +1,4 @@
--- `filing::scan::blanks_end` meets its contract. The loop's invariant: the end is as far from here as the bytes that pass go.
+-- `scan::blanks_end` meets its contract. The loop's invariant: the end is as far from here as the bytes that pass go.
 use Prim.Native.Nat.{_+_, _≤_, _-_}
 use mathlib.Core.Path.{_≡_, refl, sym, _∙_}
 use native.Mathlib.Omega.{arith}

@@ -1,4 +1,4 @@
--- `filing::scan::in_text` meets its contract.
+-- `scan::in_text` meets its contract.
 use mathlib.Core.Path.{sym, ap, _∙_}
 use Rattle.documents.specs.Tokens.{inText, listed}
 use Rattle.documents.proofs.Laws.Read.ByteTests.{text-last}

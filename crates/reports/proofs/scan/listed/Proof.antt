@@ -1,4 +1,4 @@
--- `filing::scan::listed` meets its contract.
+-- `scan::listed` meets its contract.
 use mathlib.Core.Path.{sym, ap}
 use Rattle.documents.specs.Tokens.{listed}
 use Rattle.documents.proofs.Laws.Read.ByteTests.{listed-high, listed-last}

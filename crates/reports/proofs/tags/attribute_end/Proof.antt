@@ -1,4 +1,4 @@
--- `filing::tags::attribute_end` meets its contract.
+-- `tags::attribute_end` meets its contract.
 use mathlib.Core.Path.{sym, _∙_}
 use Rattle.reports.proofs.Laws.Read.Offsets.{attribute-no, attribute-no₂, attribute-to, name-bound, mark-bound}
 use borrow.Author.Needs.{needs}

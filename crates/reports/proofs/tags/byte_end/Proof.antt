@@ -1,4 +1,4 @@
--- `filing::tags::byte_end` meets its contract.
+-- `tags::byte_end` meets its contract.
 use Rattle.reports.proofs.Laws.Read.Offsets.{mark-none, mark-no, mark-to}
 use borrow.Author.Needs.{needs}
 use Rattle.reports.proofs.tags.byte_end.Statement.{statement}

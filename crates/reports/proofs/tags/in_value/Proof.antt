@@ -1,4 +1,4 @@
--- `filing::tags::in_value` meets its contract.
+-- `tags::in_value` meets its contract.
 use mathlib.Core.Path.{sym, _∙_}
 use Rattle.documents.proofs.Laws.Read.ByteTests.{value-quote, value-last}
 use borrow.Author.Needs.{needs}

@@ -1,4 +1,4 @@
--- `filing::tags::inside_end` meets its contract. The loop's invariant: what is inside the tag from here ends where it ends from the start.
+-- `tags::inside_end` meets its contract. The loop's invariant: what is inside the tag from here ends where it ends from the start.
 use Prim.Native.Nat.{_-_, _≤_}
 use mathlib.Core.Path.{_≡_, refl, sym, _∙_}
 use native.Mathlib.Omega.{arith}

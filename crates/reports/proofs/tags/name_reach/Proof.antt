@@ -1,4 +1,4 @@
--- `filing::tags::name_reach` meets its contract.
+-- `tags::name_reach` meets its contract.
 use mathlib.Core.Path.{sym, _∙_}
 use borrow.Author.Tests.{not-true, not-false}
 use Rattle.reports.proofs.Laws.Read.Offsets.{name-none, name-no, name-to}

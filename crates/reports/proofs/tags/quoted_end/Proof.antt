@@ -1,4 +1,4 @@
--- `filing::tags::quoted_end` meets its contract.
+-- `tags::quoted_end` meets its contract.
 use mathlib.Core.Path.{sym, _∙_}
 use Rattle.reports.proofs.Laws.Read.Offsets.{quoted-no, quoted-none, quoted-off, quoted-to}
 use borrow.Author.Needs.{needs}

@@ -1,4 +1,4 @@
--- `filing::tags::reference_end` meets its contract: the first of the five words that stands there.
+-- `tags::reference_end` meets its contract: the first of the five words that stands there.
 use mathlib.Core.Path.{sym, _∙_}
 use Rattle.reports.proofs.Laws.Read.Reaches.{reference₁, reference₂, reference₃, reference₄, reference₅, reference₆}
 use borrow.Author.Needs.{needs}

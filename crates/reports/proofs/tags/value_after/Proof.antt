@@ -1,4 +1,4 @@
--- `filing::tags::value_after` meets its contract.
+-- `tags::value_after` meets its contract.
 use mathlib.Core.Path.{_∙_}
 use Rattle.reports.proofs.Laws.Read.Offsets.{value-none, value-double, value-single, value-no}
 use borrow.Author.Needs.{needs}

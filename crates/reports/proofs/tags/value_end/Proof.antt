@@ -1,4 +1,4 @@
--- `filing::tags::value_end` meets its contract. The loop's invariant: the parts from here go as far as those from the start.
+-- `tags::value_end` meets its contract. The loop's invariant: the parts from here go as far as those from the start.
 use Prim.Native.Nat.{_≤_, _-_}
 use mathlib.Core.Path.{_≡_, refl, sym, _∙_}
 use native.Mathlib.Omega.{arith}

@@ -1,4 +1,4 @@
--- `filing::tokens::comment` meets its contract.
+-- `tokens::comment` meets its contract.
 use mathlib.Core.Path.{sym, _∙_}
 use native.Mathlib.Omega.{arith}
 use borrow.Author.Tests.{not-true, not-false}

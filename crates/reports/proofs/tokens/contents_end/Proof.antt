@@ -1,4 +1,4 @@
--- `filing::tokens::contents_end` meets its contract. The loop's invariant: the contents from here end where those from the start end.
+-- `tokens::contents_end` meets its contract. The loop's invariant: the contents from here end where those from the start end.
 use Prim.Native.Nat.{_-_, _≤_}
 use mathlib.Core.Path.{_≡_, refl, sym, _∙_}
 use native.Mathlib.Omega.{arith}

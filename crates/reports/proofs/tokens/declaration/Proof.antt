@@ -1,4 +1,4 @@
--- `filing::tokens::declaration` meets its contract.
+-- `tokens::declaration` meets its contract.
 use mathlib.Core.Path.{sym, _∙_}
 use Rattle.documents.specs.Tokens.{declarationBytes}
 use Rattle.reports.proofs.Laws.Read.TokenAt.{declared-to, declared-no}

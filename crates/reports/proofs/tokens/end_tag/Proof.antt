@@ -1,4 +1,4 @@
--- `filing::tokens::end_tag` meets its contract.
+-- `tokens::end_tag` meets its contract.
 use mathlib.Core.Path.{sym, _∙_}
 use Rattle.reports.proofs.Laws.Read.Offsets.{name-bound}
 use Rattle.reports.proofs.Laws.Read.Tags.{end-no, end-no₂, end-to}

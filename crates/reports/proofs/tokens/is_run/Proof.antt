@@ -1,4 +1,4 @@
--- `filing::tokens::is_run` meets its contract. The loop's invariant: the report is a run exactly when the rest from here is.
+-- `tokens::is_run` meets its contract. The loop's invariant: the report is a run exactly when the rest from here is.
 use Prim.Native.Nat.{_-_, _≤_}
 use mathlib.Core.Path.{_≡_, refl, sym, _∙_}
 use native.Mathlib.Omega.{arith}

@@ -1,4 +1,4 @@
--- `filing::tokens::tag` meets its contract.
+-- `tokens::tag` meets its contract.
 use Prim.Native.Nat.{_+_}
 use mathlib.Core.Path.{sym, _∙_}
 use native.Mathlib.Omega.{arith}

@@ -1,4 +1,4 @@
--- `filing::tokens::tag_end` meets its contract.
+-- `tokens::tag_end` meets its contract.
 use borrow.Author.Tests.{lt-ltb, le-ltb, eq-eqb, ne-eqb}
 use borrow.Author.Needs.{needs}
 use Rattle.reports.proofs.tokens.tag_end.Statement.{statement}

@@ -1,4 +1,4 @@
--- `filing::tokens::tag_name` meets its contract: it hands back the part between the offsets that `tag_span` answers, and they lie in the bytes.
+-- `tokens::tag_name` meets its contract: it hands back the part between the offsets that `tag_span` answers, and they lie in the bytes.
 use Prim.Native.Nat.{ℕ}
 use native.Mathlib.Nat.{add-comm}
 use mathlib.Core.Path.{refl, ap}

@@ -1,4 +1,4 @@
--- `filing::tokens::tag_span` meets its contract: the token at the offset gives the offsets of its name.
+-- `tokens::tag_span` meets its contract: the token at the offset gives the offsets of its name.
 use borrow.Author.Needs.{needs}
 use Rattle.reports.proofs.Laws.Read.TagName.{spans}
 use Rattle.reports.proofs.tokens.tag_span.Statement.{statement}

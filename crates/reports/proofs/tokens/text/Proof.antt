@@ -1,4 +1,4 @@
--- `filing::tokens::text` meets its contract. The loop's invariant: the text is what the parts from here make of it.
+-- `tokens::text` meets its contract. The loop's invariant: the text is what the parts from here make of it.
 use Prim.Native.Nat.{_+_, _-_, _≤_, _<_}
 use mathlib.Core.Path.{_≡_, sym, ap, _∙_}
 use native.Mathlib.Omega.{arith}

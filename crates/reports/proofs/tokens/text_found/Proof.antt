@@ -1,4 +1,4 @@
--- `filing::tokens::text_found` meets its contract.
+-- `tokens::text_found` meets its contract.
 use borrow.Author.Tests.{lt-ltb, le-ltb}
 use Rattle.reports.proofs.tokens.text_found.Statement.{statement}
 use Rattle.reports.proofs.tokens.text_found.Tie as tie

@@ -1,4 +1,4 @@
--- `filing::tokens::token_at` meets its contract: the first two bytes tell which token is read.
+-- `tokens::token_at` meets its contract: the first two bytes tell which token is read.
 use mathlib.Core.Path.{_∙_}
 use Rattle.reports.proofs.Laws.Read.TokenAt.{token-none, token-text, token-short, token-comment, token-end, token-declaration, token-tag}
 use borrow.Author.Needs.{needs}

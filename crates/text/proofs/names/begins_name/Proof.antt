@@ -1,4 +1,4 @@
--- `notation::names::begins_name` meets its contract: the class tells.
+-- `text::names::begins_name` meets its contract: the class tells.
 use mathlib.Core.Path.{sym}
 use borrow.Author.Needs.{needs}
 use Rattle.text.proofs.Laws.Bytes.Classes.{begins-class}

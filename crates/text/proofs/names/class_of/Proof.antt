@@ -1,4 +1,4 @@
--- `notation::names::class_of` meets its contract: the table is the list of the rule's values at 0 .. 127, which is computed here;
+-- `text::names::class_of` meets its contract: the table is the list of the rule's values at 0 .. 127, which is computed here;
 -- a byte of 128 and more is of no range.
 use mathlib.Core.Path.{sym}
 use borrow.Author.Needs.{needs}

@@ -1,4 +1,4 @@
--- `notation::names::in_name` meets its contract: the class tells.
+-- `text::names::in_name` meets its contract: the class tells.
 use mathlib.Core.Path.{sym}
 use borrow.Author.Needs.{needs}
 use Rattle.text.proofs.Laws.Bytes.Classes.{in-class}

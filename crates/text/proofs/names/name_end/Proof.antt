@@ -1,4 +1,4 @@
--- `notation::names::name_end` meets its contract. The loop's invariant: the end is as far from here as the name bytes go, and the table is
+-- `text::names::name_end` meets its contract. The loop's invariant: the end is as far from here as the name bytes go, and the table is
 -- the rule's.
 use Prim.Native.Nat.{_+_, _-_}
 use mathlib.Core.Path.{_≡_, refl, sym, _∙_}

@@ -1,4 +1,4 @@
--- `notation::names::name_form` meets its contract: after a first byte of a name, the run of name bytes must go to the end.
+-- `text::names::name_form` meets its contract: after a first byte of a name, the run of name bytes must go to the end.
 use mathlib.Core.Path.{sym, _∙_}
 use native.Mathlib.Omega.{arith}
 use borrow.Author.Needs.{needs}

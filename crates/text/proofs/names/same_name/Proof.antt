@@ -1,4 +1,4 @@
--- `notation::names::same_name` meets its contract. The loop's invariant: the answer is whether what is left of both is the same.
+-- `text::names::same_name` meets its contract. The loop's invariant: the answer is whether what is left of both is the same.
 use Prim.Native.Nat.{_≤_, _-_}
 use mathlib.Core.Path.{_≡_, refl, _∙_, sym}
 use native.Mathlib.Omega.{arith}

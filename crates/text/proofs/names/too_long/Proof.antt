@@ -1,4 +1,4 @@
--- `notation::names::too_long` meets its contract: the code's constant is the specification's limit.
+-- `text::names::too_long` meets its contract: the code's constant is the specification's limit.
 use mathlib.Core.Path.{refl}
 use Rattle.text.specs.Names.{maxName}
 use Rattle.text.proofs.names.too_long.Statement.{statement}
