@@ -18,12 +18,11 @@ ghost use mathlib.Core.Bool.{false};
 ghost use Prim.Native.Nat.{_≤_};
 ghost use Rattle.model.specs.Folders.{countFrom};
 ghost use Rattle.stored.specs.HeldSet.{foldersHeld, folderHeld};
-ghost use Rattle.text.specs.Output.{Within, Adds, Composes};
+ghost use Rattle.text.specs.Output.{start, Adds};
 ghost use Rattle.filing.specs.Listing.{movesLine, refusedLine};
 ghost use Rattle.filing.specs.Listed.{pathListed, ifMatched, pathsListed, lineListed, lineAt, folderListed, foldersListed, listingIn, listingRefusal, ListingWritten, RefusedWritten};
 
 fn emit_path(a: &[u8], place: usize, out: &mut [u8], cursor: Cursor) -> Cursor
-    requires { ⌜ Within (now out) cursor ⌝ }
     ensures { λ r. ⌜ Adds (now (out .entry)) cursor (pathListed (now (a .entry)) place) (now (out .exit)) r ⌝ }
 {
     let open = emit(out, cursor, b" (");
@@ -32,7 +31,6 @@ fn emit_path(a: &[u8], place: usize, out: &mut [u8], cursor: Cursor) -> Cursor
 }
 
 fn emit_if_matched(a: &[u8], run: &[u8], place: usize, out: &mut [u8], cursor: Cursor) -> Cursor
-    requires { ⌜ Within (now out) cursor ⌝ }
     ensures { λ r. ⌜ Adds (now (out .entry)) cursor (ifMatched (now (a .entry)) (now (run .entry)) place) (now (out .exit)) r ⌝ }
 {
     if matches::place_matched(a, run, PathPlace(place)) {
@@ -50,7 +48,7 @@ fn emit_paths(
     out: &mut [u8],
     cursor: Cursor,
 ) -> Cursor
-    requires { ⌜ (first ≤ 65536) × (count ≤ 65536) × (Within (now out) cursor) ⌝ }
+    requires { ⌜ (first ≤ 65536) × (count ≤ 65536) ⌝ }
     ensures { λ r. ⌜ Adds (now (out .entry)) cursor (pathsListed (now (a .entry)) (now (run .entry)) (countFrom first count)) (now (out .exit)) r ⌝ }
 {
     let mut to = cursor;
@@ -63,7 +61,6 @@ fn emit_paths(
 }
 
 fn emit_line(a: &[u8], run: &[u8], i: usize, out: &mut [u8], cursor: Cursor) -> Cursor
-    requires { ⌜ Within (now out) cursor ⌝ }
     ensures { λ r. ⌜ Adds (now (out .entry)) cursor (lineAt (now (a .entry)) (now (run .entry)) (folderHeld (now (a .entry)) i)) (now (out .exit)) r ⌝ }
 {
     match set::folder_at(a, i) {
@@ -85,7 +82,7 @@ fn emit_folder_line(
     out: &mut [u8],
     cursor: Cursor,
 ) -> Cursor
-    requires { ⌜ (first ≤ 65536) × (count ≤ 65536) × (Within (now out) cursor) ⌝ }
+    requires { ⌜ (first ≤ 65536) × (count ≤ 65536) ⌝ }
     ensures { λ r. ⌜ Adds (now (out .entry)) cursor (lineListed (now (a .entry)) (now (run .entry)) number (countFrom first count)) (now (out .exit)) r ⌝ }
 {
     let head = emit_numbered(out, cursor, b"(folder ", number);
@@ -95,7 +92,6 @@ fn emit_folder_line(
 
 // A folder's line, none where no path of it is matched.
 fn emit_folder(a: &[u8], run: &[u8], i: usize, out: &mut [u8], cursor: Cursor) -> Cursor
-    requires { ⌜ Within (now out) cursor ⌝ }
     ensures { λ r. ⌜ Adds (now (out .entry)) cursor (folderListed (now (a .entry)) (now (run .entry)) i) (now (out .exit)) r ⌝ }
 {
     if matches::folder_paths_matched(a, run, i) {
@@ -105,7 +101,6 @@ fn emit_folder(a: &[u8], run: &[u8], i: usize, out: &mut [u8], cursor: Cursor) -
 }
 
 fn emit_folders(a: &[u8], run: &[u8], out: &mut [u8], cursor: Cursor) -> Cursor
-    requires { ⌜ Within (now out) cursor ⌝ }
     ensures { λ r. ⌜ Adds (now (out .entry)) cursor (foldersListed (now (a .entry)) (now (run .entry)) (countFrom 0 (foldersHeld (now (a .entry))))) (now (out .exit)) r ⌝ }
 {
     let top = set::folders(a);
@@ -119,7 +114,6 @@ fn emit_folders(a: &[u8], run: &[u8], out: &mut [u8], cursor: Cursor) -> Cursor
 }
 
 fn emit_moves(opens: usize, moves: usize, out: &mut [u8], cursor: Cursor) -> Cursor
-    requires { ⌜ Within (now out) cursor ⌝ }
     ensures { λ r. ⌜ Adds (now (out .entry)) cursor (movesLine opens moves) (now (out .exit)) r ⌝ }
 {
     let first = emit_numbered(out, cursor, b"(moves ", opens);
@@ -129,7 +123,7 @@ fn emit_moves(opens: usize, moves: usize, out: &mut [u8], cursor: Cursor) -> Cur
 }
 
 fn compose(a: &[u8], run: &[u8], c: Counters, out: &mut [u8], dry: bool) -> Cursor
-    ensures { λ r. ⌜ Composes dry (listingIn (now (a .entry)) (now (run .entry)) c) (now (out .entry)) (now (out .exit)) r ⌝ }
+    ensures { λ r. ⌜ Adds (now (out .entry)) (start dry) (listingIn (now (a .entry)) (now (run .entry)) c) (now (out .exit)) r ⌝ }
 {
     let start = begin(out, dry, b"(filed\n");
     let folders = emit_folders(a, run, out, start);
@@ -138,7 +132,7 @@ fn compose(a: &[u8], run: &[u8], c: Counters, out: &mut [u8], dry: bool) -> Curs
 }
 
 fn compose_refused(n: u8, out: &mut [u8]) -> Cursor
-    ensures { λ r. ⌜ Composes false (refusedLine n) (now (out .entry)) (now (out .exit)) r ⌝ }
+    ensures { λ r. ⌜ Adds (now (out .entry)) (start false) (refusedLine n) (now (out .exit)) r ⌝ }
 {
     let word = begin(out, false, b"(refused ");
     let number = emit_number(out, word, n as usize);

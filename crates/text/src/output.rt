@@ -5,7 +5,7 @@ ghost use mathlib.Core.List.{[], _∷_, _++_};
 ghost use Prim.Native.Nat.{_+_, _<_};
 ghost use lib.Dec.{leb};
 ghost use Rattle.text.specs.Decimal.{decimal};
-ghost use Rattle.text.specs.Output.{Adds, Composes};
+ghost use Rattle.text.specs.Output.{start, Puts, Adds};
 
 pub struct Cursor {
     // After the last piece.
@@ -27,7 +27,7 @@ fn has_room(size: usize, at: usize, n: usize) -> bool
 }
 
 pub fn emit(out: &mut [u8], cursor: Cursor, piece: &[u8]) -> Cursor
-    ensures { λ r. ⌜ Adds (now (out .entry)) cursor (now (piece .entry)) (now (out .exit)) r ⌝ }
+    ensures { λ r. ⌜ Puts (now (out .entry)) cursor (now (piece .entry)) (now (out .exit)) r ⌝ }
 {
     if !cursor.fits {
         return cursor;
@@ -55,7 +55,7 @@ pub fn emit(out: &mut [u8], cursor: Cursor, piece: &[u8]) -> Cursor
 
 // The first piece, at the buffer's start.
 pub fn begin(out: &mut [u8], dry: bool, piece: &[u8]) -> Cursor
-    ensures { λ r. ⌜ Composes dry (now (piece .entry)) (now (out .entry)) (now (out .exit)) r ⌝ }
+    ensures { λ r. ⌜ Puts (now (out .entry)) (start dry) (now (piece .entry)) (now (out .exit)) r ⌝ }
 {
     let start = Cursor {
         at: 0,
@@ -68,13 +68,13 @@ pub fn begin(out: &mut [u8], dry: bool, piece: &[u8]) -> Cursor
 // A digit.
 fn emit_digit(out: &mut [u8], cursor: Cursor, d: usize) -> Cursor
     requires { ⌜ d < 10 ⌝ }
-    ensures { λ r. ⌜ Adds (now (out .entry)) cursor ((48 + d) ∷ []) (now (out .exit)) r ⌝ }
+    ensures { λ r. ⌜ Puts (now (out .entry)) cursor ((48 + d) ∷ []) (now (out .exit)) r ⌝ }
 {
     let digit = [48 + d as u8];
     emit(out, cursor, &digit)
 }
 
-// A number's decimal digits.
+// A number's decimal digits, a piece each.
 pub fn emit_number(out: &mut [u8], cursor: Cursor, n: usize) -> Cursor
     ensures { λ r. ⌜ Adds (now (out .entry)) cursor (decimal n) (now (out .exit)) r ⌝ }
 {

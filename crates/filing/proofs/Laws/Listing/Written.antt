@@ -19,11 +19,11 @@ use Rattle.text.proofs.Laws.Tests.{cases, clash}
 use Rattle.text.proofs.Laws.Order.{not-given}
 use Rattle.text.specs.declared.output.Cursor.{Cursor}
 use Rattle.filing.specs.Limits.{maxMovesLine, listingSize}
-use Rattle.text.specs.Output.{Composes}
+use Rattle.text.specs.Output.{start, Adds}
 use Rattle.filing.specs.Listing.{refusedWord, refusedLine}
 use Rattle.filing.specs.Listed.{listingIn, listingRoom, listingRefusal, refusedConditions, RefusedWritten}
 use Rattle.text.proofs.Laws.Decimal.{tens, decimal-few}
-use Rattle.text.proofs.Laws.Output.{written-as, fits-as}
+use Rattle.text.proofs.Laws.Output.{written-as, fits-from-start}
 
 or-true : (p : Bool) → (p || true) ≡ true
 or-true true = refl
@@ -70,9 +70,9 @@ module _ (a run : List ℕ) (c : Counters) (out : List ℕ) where
         let l : ltb (length out) (max listingSize text) ≡ true = lt-ltb (length out) (max listingSize text) (omega (arith, leb-false text (length out) y)) in
         rw (t, s, l, y))
 
-    pub dry-says : {after : List ℕ} {cursor : Cursor} → given (lentConditions a run c) ≡ 0 → Composes true (listingIn a run c) out after cursor
+    pub dry-says : {after : List ℕ} {cursor : Cursor} → given (lentConditions a run c) ≡ 0 → Adds out (start true) (listingIn a run c) after cursor
         → listingRefusal a run c out ≡ cond (cursor .fits) 0 (numberOf shortBuffer)
-    dry-says z x = rw (fits-as x) (length-left z)
+    dry-says z x = rw (fits-from-start x) (length-left z)
 
   -- where nothing is refused the listing has room
   pub listing-room : listingRefusal a run c out ≡ 0 → length (listingIn a run c) ≤ length out
@@ -95,7 +95,7 @@ refused-short n h =
     let k : length (decimal n) ≤ 3 = decimal-few 2 n (omega arith) in
     omega (arith, length-append (decimal n) footer)
 
-pub line-written : (n : ℕ) (out : List ℕ) {after : List ℕ} {cursor : Cursor} → n < 256 → listingSize ≤ length out → Composes false (refusedLine n) out after cursor
+pub line-written : (n : ℕ) (out : List ℕ) {after : List ℕ} {cursor : Cursor} → n < 256 → listingSize ≤ length out → Adds out (start false) (refusedLine n) after cursor
     → RefusedWritten n out (Written.Bytes (cursor .at)) after
 unfolding given first
 line-written n out h l x =

@@ -3,7 +3,8 @@ use borrow.Author.Needs.{needs}
 use Rattle.notation.specs.Print.{footer}
 use Rattle.filing.specs.Listing.{filedHeader}
 use Rattle.filing.specs.Listed.{listingIn}
-use Rattle.text.proofs.Laws.Output.{and-then}
+use Rattle.text.specs.Output.{aPiece}
+use Rattle.text.proofs.Laws.Output.{one, and-then}
 use Rattle.filing.proofs.listing.compose.Statement.{statement}
 use Rattle.filing.proofs.listing.compose.Tie as tie
 
@@ -31,7 +32,7 @@ same-length c = search needs
 returns : tie.Need-returns
 unfolding listingIn filedHeader footer
 returns c =
-    and-then (c .before .before .before .before .before .before .before .before .before .before .before .before .before .before .before .begin .ensures) (and-then (c .before .before .before .before .before .before .before .before .before .before .before .emit-folders .ensures) (and-then (c .before .before .before .before .before .before .before .emit-moves .ensures) (c .before .before .emit .ensures)))
+    aPiece (c .before .before .before .before .before .before .before .before .before .before .before .before .before .before .before .begin .ensures) (and-then (c .before .before .before .before .before .before .before .before .before .before .before .emit-folders .ensures) (and-then (c .before .before .before .before .before .before .before .emit-moves .ensures) (one (c .before .before .emit .ensures))))
 
 pub compose-spec : {M : Type 1} → statement M
 compose-spec =

@@ -1,7 +1,8 @@
 -- `listing::compose_refused`: word, number, and the line's end.
 use Rattle.notation.specs.Print.{footer}
 use Rattle.filing.specs.Listing.{refusedWord, refusedLine}
-use Rattle.text.proofs.Laws.Output.{and-then}
+use Rattle.text.specs.Output.{aPiece}
+use Rattle.text.proofs.Laws.Output.{one, and-then}
 use borrow.Author.Needs.{needs}
 use Rattle.filing.proofs.listing.compose_refused.Statement.{statement}
 use Rattle.filing.proofs.listing.compose_refused.Tie as tie
@@ -26,7 +27,7 @@ same-length c = search needs
 
 returns : tie.Need-returns
 unfolding refusedLine refusedWord footer
-returns c = and-then (c .before .before .before .before .before .before .before .before .before .before .before .begin .ensures) (and-then (c .before .before .before .before .before .before .before .emit-number .ensures) (c .before .before .emit .ensures))
+returns c = aPiece (c .before .before .before .before .before .before .before .before .before .before .before .begin .ensures) (and-then (c .before .before .before .before .before .before .before .emit-number .ensures) (one (c .before .before .emit .ensures)))
 
 pub compose-refused-spec : {M : Type 1} → statement M
 compose-refused-spec =

@@ -1,6 +1,7 @@
 -- `listing::emit_folder`: the line, or nothing.
 use mathlib.Core.Path.{sym, _∙_}
-use Rattle.text.proofs.Laws.Output.{nothing, same-bytes}
+use Rattle.text.specs.Output.{noPieces}
+use Rattle.text.proofs.Laws.Output.{same-bytes}
 use Rattle.filing.proofs.Laws.Listing.Steps.{folder-yes, folder-no}
 use borrow.Author.Needs.{needs}
 use Rattle.filing.proofs.listing.emit_folder.Statement.{statement}
@@ -19,7 +20,7 @@ returns : tie.Need-returns
 returns c = same-bytes (c .before .before .emit-line .ensures) (folder-yes _ _ _ (sym (c .before .before .before .before .before .folder-paths-matched .ensures) ∙ c .before .before .before .before .if1 .taken))
 
 returns-2 : tie.Need-returns-2
-returns-2 c = same-bytes (nothing _ _ (c .before .before .before .before .before .pre)) (folder-no _ _ _ (sym (c .before .folder-paths-matched .ensures) ∙ c .if1 .left))
+returns-2 c = same-bytes noPieces (folder-no _ _ _ (sym (c .before .folder-paths-matched .ensures) ∙ c .if1 .left))
 
 pub emit-folder-spec : {M : Type 1} → statement M
 emit-folder-spec =

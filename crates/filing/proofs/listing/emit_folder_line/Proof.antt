@@ -2,7 +2,7 @@
 use Rattle.model.specs.Folders.{countFrom}
 use Rattle.filing.proofs.Laws.Listing.Steps.{line-joined}
 use Rattle.notation.specs.Print.{footer, folderWord}
-use Rattle.text.proofs.Laws.Output.{and-then, same-bytes}
+use Rattle.text.proofs.Laws.Output.{one, and-then, same-bytes}
 use borrow.Author.Needs.{needs}
 use Rattle.filing.proofs.listing.emit_folder_line.Statement.{statement}
 use Rattle.filing.proofs.listing.emit_folder_line.Tie as tie
@@ -29,7 +29,7 @@ returns : tie.Need-returns
 unfolding footer folderWord
 returns c =
     let a = c .before .before .before .before .before .before .before .before .before .before .before .before .before .before .before .before .before .args in
-    same-bytes (and-then (c .before .before .before .before .before .before .before .before .before .before .before .emit-numbered .ensures) (and-then (c .before .before .before .before .before .before .before .emit-paths .ensures) (c .before .before .emit .ensures))) (line-joined (a .a .now) (a .run .now) (a .number) (countFrom (a .first) (a .count)))
+    same-bytes (and-then (c .before .before .before .before .before .before .before .before .before .before .before .emit-numbered .ensures) (and-then (c .before .before .before .before .before .before .before .emit-paths .ensures) (one (c .before .before .emit .ensures)))) (line-joined (a .a .now) (a .run .now) (a .number) (countFrom (a .first) (a .count)))
 
 pub emit-folder-line-spec : {M : Type 1} → statement M
 emit-folder-line-spec =

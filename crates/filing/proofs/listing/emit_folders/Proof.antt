@@ -6,9 +6,9 @@ use mathlib.Core.Path.{_≡_, sym, _∙_, ap}
 use borrow.Author.Needs.{needs}
 use Rattle.model.specs.Folders.{countFrom}
 use Rattle.stored.specs.HeldSet.{foldersHeld}
-use Rattle.text.specs.Output.{Adds}
+use Rattle.text.specs.Output.{Adds, noPieces}
 use Rattle.filing.specs.Listed.{foldersListed}
-use Rattle.text.proofs.Laws.Output.{nothing, and-then, same-bytes}
+use Rattle.text.proofs.Laws.Output.{and-then, same-bytes, size}
 use Rattle.filing.proofs.Laws.Listing.Steps.{folders-more}
 use Rattle.filing.proofs.listing.emit_folders.Statement.{statement}
 use Rattle.filing.proofs.listing.emit_folders.Tie as tie
@@ -24,10 +24,10 @@ folders-requires c κs = search needs
 
 loop-holds : tie.Need-loop-holds Inv-loop μ-loop
 unfolding foldersListed countFrom
-loop-holds c = (omega arith, nothing _ _ (c .before .before .before .before .pre))
+loop-holds c = (omega arith, noPieces)
 
 emit-folder-requires : tie.Need-emit-folder-requires Inv-loop μ-loop
-emit-folder-requires c κs = c .before .before .loop .inv .1 .on
+emit-folder-requires c κs = search needs
 
 add-i : tie.Need-add-i Inv-loop μ-loop
 add-i c = omega arith
@@ -41,7 +41,7 @@ loop-again c = let a = c .before .before .before .before .before .before .before
     (omega arith, same-bytes (and-then (l .inv .1) (c .before .before .emit-folder .ensures)) (folders-more (a .a .now) (a .run .now) (l .i) ∙ ap (λ (j : ℕ). foldersListed (a .a .now) (a .run .now) (countFrom 0 j)) (sym (add-one (l .i)))))
 
 same-length : tie.Need-same-length Inv-loop μ-loop
-same-length c = c .before .loop .inv .1 .size
+same-length c = size (c .before .loop .inv .1)
 
 returns : tie.Need-returns Inv-loop μ-loop
 returns c = let a = c .before .before .before .before .before .before .args in

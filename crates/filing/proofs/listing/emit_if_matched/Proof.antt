@@ -1,6 +1,7 @@
 -- `listing::emit_if_matched`: the path, or nothing.
 use mathlib.Core.Path.{sym, _∙_}
-use Rattle.text.proofs.Laws.Output.{nothing, same-bytes}
+use Rattle.text.specs.Output.{noPieces}
+use Rattle.text.proofs.Laws.Output.{same-bytes}
 use Rattle.filing.proofs.Laws.Listing.Steps.{path-yes, path-no}
 use borrow.Author.Needs.{needs}
 use Rattle.filing.proofs.listing.emit_if_matched.Statement.{statement}
@@ -19,7 +20,7 @@ returns : tie.Need-returns
 returns c = same-bytes (c .before .before .emit-path .ensures) (path-yes _ _ _ (sym (c .before .before .before .before .before .place-matched .ensures) ∙ c .before .before .before .before .if1 .taken))
 
 returns-2 : tie.Need-returns-2
-returns-2 c = same-bytes (nothing _ _ (c .before .before .before .before .before .pre)) (path-no _ _ _ (sym (c .before .place-matched .ensures) ∙ c .if1 .left))
+returns-2 c = same-bytes noPieces (path-no _ _ _ (sym (c .before .place-matched .ensures) ∙ c .if1 .left))
 
 pub emit-if-matched-spec : {M : Type 1} → statement M
 emit-if-matched-spec =

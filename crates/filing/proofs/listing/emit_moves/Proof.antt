@@ -2,7 +2,8 @@
 use Rattle.filing.proofs.Laws.Listing.Steps.{moves-joined}
 use Rattle.notation.specs.Print.{footer}
 use Rattle.filing.specs.Listing.{movesWord}
-use Rattle.text.proofs.Laws.Output.{and-then, same-bytes}
+use Rattle.text.specs.Output.{aPiece}
+use Rattle.text.proofs.Laws.Output.{one, and-then, same-bytes}
 use borrow.Author.Needs.{needs}
 use Rattle.filing.proofs.listing.emit_moves.Statement.{statement}
 use Rattle.filing.proofs.listing.emit_moves.Tie as tie
@@ -35,7 +36,7 @@ returns : tie.Need-returns
 unfolding footer movesWord
 returns c =
     let a = c .before .before .before .before .before .before .before .before .before .before .before .before .before .before .before .before .before .before .before .before .args in
-    same-bytes (and-then (c .before .before .before .before .before .before .before .before .before .before .before .before .before .before .before .before .emit-numbered .ensures) (and-then (c .before .before .before .before .before .before .before .before .before .before .before .emit .ensures) (and-then (c .before .before .before .before .before .before .before .emit-number .ensures) (c .before .before .emit2 .ensures)))) (moves-joined (a .opens) (a .moves))
+    same-bytes (and-then (c .before .before .before .before .before .before .before .before .before .before .before .before .before .before .before .before .emit-numbered .ensures) (aPiece (c .before .before .before .before .before .before .before .before .before .before .before .emit .ensures) (and-then (c .before .before .before .before .before .before .before .emit-number .ensures) (one (c .before .before .emit2 .ensures))))) (moves-joined (a .opens) (a .moves))
 
 pub emit-moves-spec : {M : Type 1} → statement M
 emit-moves-spec =

@@ -2,7 +2,8 @@
 use mathlib.Core.List.{List, [], _∷_, _++_}
 use Prim.Native.Nat.{ℕ}
 use mathlib.Core.Path.{ap}
-use Rattle.text.proofs.Laws.Output.{and-then, same-bytes}
+use Rattle.text.specs.Output.{aPiece}
+use Rattle.text.proofs.Laws.Output.{one, same-bytes}
 use Rattle.filing.specs.Listed.{pathListed}
 use borrow.Author.Needs.{needs}
 use Rattle.filing.proofs.listing.emit_path.Statement.{statement}
@@ -31,7 +32,7 @@ same-length c = search needs
 
 returns : tie.Need-returns
 unfolding pathListed
-returns c = same-bytes (and-then (c .before .before .before .before .before .before .before .before .before .before .before .before .emit .ensures) (and-then (c .before .before .before .before .before .before .before .emit2 .ensures) (c .before .before .emit3 .ensures))) (ap (λ (l : List ℕ). (32 ∷ 40 ∷ []) ++ (l ++ (41 ∷ []))) (c .before .before .before .before .before .before .before .before .path-text .ensures))
+returns c = same-bytes (aPiece (c .before .before .before .before .before .before .before .before .before .before .before .before .emit .ensures) (aPiece (c .before .before .before .before .before .before .before .emit2 .ensures) (one (c .before .before .emit3 .ensures)))) (ap (λ (l : List ℕ). (32 ∷ 40 ∷ []) ++ (l ++ (41 ∷ []))) (c .before .before .before .before .before .before .before .before .path-text .ensures))
 
 pub emit-path-spec : {M : Type 1} → statement M
 emit-path-spec =

@@ -4,9 +4,10 @@ use Prim.Native.Nat.{ℕ, _≤_, _-_}
 use native.Mathlib.Numerals.{add-one}
 use mathlib.Core.Path.{_≡_, sym, _∙_, ap}
 use Rattle.model.specs.Folders.{countFrom}
-use Rattle.text.specs.Output.{Adds}
+use borrow.Author.Needs.{needs}
+use Rattle.text.specs.Output.{Adds, noPieces}
 use Rattle.filing.specs.Listed.{pathsListed}
-use Rattle.text.proofs.Laws.Output.{nothing, and-then, same-bytes}
+use Rattle.text.proofs.Laws.Output.{and-then, same-bytes, size}
 use Rattle.filing.proofs.Laws.Listing.Steps.{paths-more}
 use Rattle.filing.proofs.listing.emit_paths.Statement.{statement}
 use Rattle.filing.proofs.listing.emit_paths.Tie as tie
@@ -19,13 +20,13 @@ abbrev μ-loop : tie.MeasureT-loop
 
 loop-holds : tie.Need-loop-holds Inv-loop μ-loop
 unfolding pathsListed countFrom
-loop-holds c = (omega arith, nothing _ _ (c .before .before .before .pre .2))
+loop-holds c = (omega arith, noPieces)
 
 add-emit-if-matched : tie.Need-add-emit-if-matched Inv-loop μ-loop
 add-emit-if-matched c = omega arith
 
 emit-if-matched-requires : tie.Need-emit-if-matched-requires Inv-loop μ-loop
-emit-if-matched-requires c κs = c .before .before .loop .inv .1 .on
+emit-if-matched-requires c κs = search needs
 
 add-i : tie.Need-add-i Inv-loop μ-loop
 add-i c = omega arith
@@ -39,7 +40,7 @@ loop-again c = let a = c .before .before .before .before .before .before .before
     (omega arith, same-bytes (and-then (l .inv .1) (c .before .before .emit-if-matched .ensures)) (paths-more (a .a .now) (a .run .now) (a .first) (l .i) ∙ ap (λ (j : ℕ). pathsListed (a .a .now) (a .run .now) (countFrom (a .first) j)) (sym (add-one (l .i)))))
 
 same-length : tie.Need-same-length Inv-loop μ-loop
-same-length c = c .before .loop .inv .1 .size
+same-length c = size (c .before .loop .inv .1)
 
 returns : tie.Need-returns Inv-loop μ-loop
 returns c = let a = c .before .before .before .before .before .args in

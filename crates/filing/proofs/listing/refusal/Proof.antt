@@ -3,6 +3,7 @@ use native.Mathlib.Omega.{arith}
 use mathlib.Core.Path.{refl, sym, _∙_}
 use Rattle.notation.specs.Limits.{maxSetBytes}
 use Rattle.filing.specs.Limits.{maxMovesLine, listingSize}
+use Rattle.text.proofs.Laws.Output.{kept}
 use Rattle.filing.proofs.Laws.Listing.Written.{out-short, lent-refused, dry-says}
 use borrow.Author.Needs.{needs}
 use Rattle.filing.proofs.listing.refusal.Statement.{statement}
@@ -33,7 +34,7 @@ unfolding listingSize maxSetBytes maxMovesLine
 returns-3 c = let a = c .before .before .before .before .before .before .before .before .before .before .before .args in
     let x = c .before .before .before .compose .ensures in
     let z = sym (c .before .before .before .before .before .before .refusal .ensures) ∙ c .before .before .before .before .before .if2 .left in
-    (sym (dry-says (a .a .now) (a .run .now) (a .c) (a .out .now) (omega (arith, c .before .before .before .before .before .before .before .if1 .left)) z x ∙ rw (c .if3 .taken)), x .kept refl)
+    (sym (dry-says (a .a .now) (a .run .now) (a .c) (a .out .now) (omega (arith, c .before .before .before .before .before .before .before .if1 .left)) z x ∙ rw (c .if3 .taken)), kept x refl)
 
 same-length-2 : tie.Need-same-length-2
 same-length-2 c = search needs
@@ -43,7 +44,7 @@ unfolding listingSize maxSetBytes maxMovesLine
 returns-4 c = let a = c .before .before .before .before .before .before .before .before .before .before .before .args in
     let x = c .before .before .before .compose .ensures in
     let z = sym (c .before .before .before .before .before .before .refusal .ensures) ∙ c .before .before .before .before .before .if2 .left in
-    (sym (dry-says (a .a .now) (a .run .now) (a .c) (a .out .now) (omega (arith, c .before .before .before .before .before .before .before .if1 .left)) z x ∙ rw (c .if3 .left)), x .kept refl)
+    (sym (dry-says (a .a .now) (a .run .now) (a .c) (a .out .now) (omega (arith, c .before .before .before .before .before .before .before .if1 .left)) z x ∙ rw (c .if3 .left)), kept x refl)
 
 pub refusal-spec : {M : Type 1} → statement M
 refusal-spec =

@@ -1,7 +1,7 @@
 -- `output::emit_number`: the digits of a tenth of the number, then its last digit.
 use native.Mathlib.Omega.{arith}
 use mathlib.Core.Path.{_∙_}
-use Rattle.text.proofs.Laws.Output.{and-then, same-bytes}
+use Rattle.text.proofs.Laws.Output.{one, and-then, same-bytes}
 use Rattle.text.proofs.Laws.Decimal.{decimal-small, decimal-step}
 use Prim.Native.Nat.{ℕ, _<_}
 use borrow.Fn.Kinds.{In}
@@ -46,7 +46,7 @@ emit-number-returns : (t : ℕ) → emit-number-lts.Need-returns (
   emit-number-below t,
   emit-number.Post,
 ) (emit-number-at t) emit-number.Post
-emit-number-returns t c = same-bytes (c .before .before .emit-digit .ensures) (decimal-small _ (c .before .before .before .before .if1 .taken))
+emit-number-returns t c = same-bytes (one (c .before .before .emit-digit .ensures)) (decimal-small _ (c .before .before .before .before .if1 .taken))
 
 emit-number-emit-number-requires : (t : ℕ) → emit-number-lts.Need-emit-number-requires (
   emit-digit-reads.Asked,
@@ -70,7 +70,7 @@ emit-number-same-length-2 : (t : ℕ) → emit-number-lts.Need-same-length-2 (
   emit-number-below t,
   emit-number.Post,
 ) (emit-number-at t) emit-number.Post
-emit-number-same-length-2 t c = c .before .before .emit-digit2 .ensures .size ∙ c .before .before .before .before .before .before .emit-number .ensures .size
+emit-number-same-length-2 t c = c .before .before .emit-digit2 .kept .0 ∙ c .before .before .before .before .before .before .emit-number .kept .0
 
 emit-number-returns-2 : (t : ℕ) → emit-number-lts.Need-returns-2 (
   emit-digit-reads.Asked,
@@ -78,7 +78,7 @@ emit-number-returns-2 : (t : ℕ) → emit-number-lts.Need-returns-2 (
   emit-number-below t,
   emit-number.Post,
 ) (emit-number-at t) emit-number.Post
-emit-number-returns-2 t c = same-bytes (and-then (c .before .before .before .before .before .before .emit-number .ensures) (c .before .before .emit-digit2 .ensures)) (decimal-step _ (c .before .before .before .before .before .before .before .before .if1 .left))
+emit-number-returns-2 t c = same-bytes (and-then (c .before .before .before .before .before .before .emit-number .ensures) (one (c .before .before .emit-digit2 .ensures))) (decimal-step _ (c .before .before .before .before .before .before .before .before .if1 .left))
 
 pub +emit-number-spec : {M : Type 1} → statement M
 +emit-number-spec = close μ-emit-number λ t. emit-number-lts.spec (
