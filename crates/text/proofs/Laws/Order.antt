@@ -6,13 +6,14 @@ use mathlib.Core.Logic.{_⊎_, inl, inr, _↔_}
 use mathlib.Core.Option.{Option, none, some, Option·none-ne-some, Option·some-injective, Option·some-ne-none}
 use mathlib.Core.List.{List, [], _∷_, _++_, List·Memᴰ, List·Memᴰ·head, List·Memᴰ·tail, List·Memᴰ·not-nil, List·Memᴰ·cases-cons}
 use lib.Dec.{eqb}
-use borrow.Author.Tests.{eq-eqb, ne-eqb}
+use borrow.Author.Tests.{ne-eqb}
+use Rattle.text.specs.Lists.{every}
 use Rattle.text.specs.Refusals.{Refusal, numberOf}
 use Rattle.text.specs.Answers.{Answer, refused, said}
 use Rattle.text.proofs.Laws.Numbers.{one-refusal, some-number}
 use Rattle.text.proofs.Laws.Said.{said-value, said-refused, value-said, refused-said}
 use Rattle.text.specs.Order.{Condition, gives, holds, FirstOf, first, isNone, numberIn, given, GivenBy, AnswersBy}
-use Rattle.text.proofs.Laws.Tests.{clash}
+use Rattle.text.proofs.Laws.Tests.{clash, and-left, and-right}
 
 pub is-none : (o : Option Refusal) → isNone o ≡ true → o ≡ none
 is-none none h = refl
@@ -119,25 +120,48 @@ unfolding given first
 given-cons true r later = refl
 given-cons false r later = refl
 
-pub given-here : (r : Refusal) (later : List Condition) → given (gives true r ∷ later) ≡ numberOf r
-given-here r later = given-cons true r later
-
-pub given-later : (r : Refusal) (later : List Condition) → given (gives false r ∷ later) ≡ given later
-given-later r later = given-cons false r later
-
 -- with nothing given, a first condition does not hold, and the later ones give nothing
 pub not-given : (b : Bool) (r : Refusal) (later : List Condition) → given (gives b r ∷ later) ≡ 0 → (b ≡ false) × (given later ≡ 0)
-not-given true r later h = absurd (some-number r (sym (given-here r later) ∙ h))
-not-given false r later h = (refl, sym (given-later r later) ∙ h)
+not-given true r later h = absurd (some-number r (sym (given-cons true r later) ∙ h))
+not-given false r later h = (refl, sym (given-cons false r later) ∙ h)
+
+pub unmet : (b : Bool) (r : Refusal) (later : List Condition) → first (gives b r ∷ later) ≡ none → b ≡ false
+unmet b r later h = none-first (gives b r ∷ later) h (gives b r) (List·Memᴰ·head refl)
+
+-- what all conditions of an order have, that which refuses has
+pub first-has : (f : Condition → Bool) (order : List Condition) (r : Refusal) → every f order ≡ true → first order ≡ some r → f (gives true r) ≡ true
+unfolding every first
+first-has f [] r h e = absurd (Option·none-ne-some r e)
+first-has f (gives true q ∷ later) r h e = rw (Option·some-injective q r e) at (and-left (f (gives true q)) (every f later) h)
+first-has f (gives false q ∷ later) r h e = first-has f later r (and-right (f (gives false q)) (every f later) h) e
 
 -- one order after another
-pub given-append : (xs ys : List Condition) → given (xs ++ ys) ≡ cond (eqb (given xs) 0) (given ys) (given xs)
-given-append [] ys = rw given-none
-given-append (gives true r ∷ xs) ys = rw (given-here r (xs ++ ys), given-here r xs, ne-eqb (numberOf r) 0 (some-number r))
-given-append (gives false r ∷ xs) ys = rw (given-later r (xs ++ ys), given-later r xs) (given-append xs ys)
+pub first-then : (order later : List Condition) → first order ≡ none → first (order ++ later) ≡ first later
+unfolding first
+first-then [] later h = refl
+first-then (gives true q ∷ order) later h = absurd (Option·some-ne-none q h)
+first-then (gives false q ∷ order) later h = first-then order later h
 
-pub given-first : (xs ys : List Condition) → (given xs ≡ 0 → ⊥) → given (xs ++ ys) ≡ given xs
-given-first xs ys n = given-append xs ys ∙ rw (ne-eqb (given xs) 0 n)
+pub first-before : (order later : List Condition) (r : Refusal) → first order ≡ some r → first (order ++ later) ≡ some r
+unfolding first
+first-before [] later r h = absurd (Option·none-ne-some r h)
+first-before (gives true q ∷ order) later r h = h
+first-before (gives false q ∷ order) later r h = first-before order later r h
 
-pub given-then : (xs ys : List Condition) → given xs ≡ 0 → given (xs ++ ys) ≡ given ys
-given-then xs ys z = given-append xs ys ∙ rw (eq-eqb (given xs) 0 z)
+pub later-unmet : (order later : List Condition) → first (order ++ later) ≡ none → first later ≡ none
+unfolding first
+later-unmet [] later h = h
+later-unmet (gives true q ∷ order) later h = absurd (Option·some-ne-none q h)
+later-unmet (gives false q ∷ order) later h = later-unmet order later h
+
+pub given-then : (order later : List Condition) → given order ≡ 0 → given (order ++ later) ≡ given later
+unfolding given
+given-then order later z = ap numberIn (first-then order later (number-zero (first order) .0 z))
+
+pub given-first : (order later : List Condition) → (given order ≡ 0 → ⊥) → given (order ++ later) ≡ given order
+unfolding given
+given-first order later n = go (first order) refl
+  where
+    go : (o : Option Refusal) → first order ≡ o → numberIn (first (order ++ later)) ≡ numberIn (first order)
+    go none e = absurd (n (ap numberIn e))
+    go (some r) e = ap numberIn (first-before order later r e ∙ sym e)

@@ -9,8 +9,11 @@ pub cases {ℓ} : {X : Type ℓ} (b : Bool) → (b ≡ true → X) → (b ≡ fa
 cases true on off = on refl
 cases false on off = off refl
 
+pub zero-one : {X : Type 0} → _≡_ {A = ℕ} 0 1 → X
+zero-one z = absurd (omega arith)
+
 pub clash : {X : Type 0} {b : Bool} → b ≡ true → b ≡ false → X
-clash p q = absurd (let z : _≡_ {A = ℕ} 0 1 = cc in omega arith)
+clash p q = zero-one (cc)
 
 pub both : (a b : Bool) → (a && b) ≡ true → (a ≡ true) × (b ≡ true)
 both true b e = (refl, e)

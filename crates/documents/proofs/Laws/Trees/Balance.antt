@@ -13,7 +13,7 @@ use Rattle.documents.specs.Tree.{Node, element, text, comment, Nodes, no
 use Rattle.documents.specs.Tokens.{Token, blank}
 use Rattle.documents.specs.Document.{Event, opening, closing, textHere, commentHere, eventsOf, eventsAt, eventsIn, elementsAmong, blankAmong, TreeOf}
 use Rattle.documents.specs.Code.Events.{balanced}
-use Rattle.text.proofs.Laws.Tests.{and-left, and-right, both-true}
+use Rattle.text.proofs.Laws.Tests.{zero-one, and-left, and-right, both-true}
 
 -- the events of siblings inside an element leave the balance as it is
 mutual
@@ -111,9 +111,6 @@ starts (element n kids) es = refl
 starts (text b) es = refl
 starts (comment b) es = refl
 
-clash : {A : Type 0} → _≡_ {A = ℕ} 0 1 → A
-clash z = absurd (omega arith)
-
 mutual
   unfolding eventsAt eventsIn
 
@@ -123,13 +120,13 @@ mutual
       let (inner, after) = same-in kids others (closing n ∷ r) (closing m ∷ s) refl refl
       (sym (append-assoc (eventsIn kids) (closing n ∷ []) r) ∙ tail-eq-of-cons-eq e ∙ append-assoc (eventsIn others) (closing m ∷ []) s) in
       (ap₂ element name inner, tail-eq-of-cons-eq after)
-  same-at (element n kids) (text b) r s e = clash (cc)
-  same-at (element n kids) (comment b) r s e = clash (cc)
-  same-at (text a) (element m others) r s e = clash (cc)
+  same-at (element n kids) (text b) r s e = zero-one (cc)
+  same-at (element n kids) (comment b) r s e = zero-one (cc)
+  same-at (text a) (element m others) r s e = zero-one (cc)
   same-at (text a) (text b) r s e = (cc, tail-eq-of-cons-eq e)
-  same-at (text a) (comment b) r s e = clash (cc)
-  same-at (comment a) (element m others) r s e = clash (cc)
-  same-at (comment a) (text b) r s e = clash (cc)
+  same-at (text a) (comment b) r s e = zero-one (cc)
+  same-at (comment a) (element m others) r s e = zero-one (cc)
+  same-at (comment a) (text b) r s e = zero-one (cc)
   same-at (comment a) (comment b) r s e = (cc, tail-eq-of-cons-eq e)
 
   same-in : (xs ys : Nodes) (r s : List Event) → ends r ≡ true → ends s ≡ true → eventsIn xs ++ r ≡ eventsIn ys ++ s → (xs ≡ ys) × (r ≡ s)

@@ -154,17 +154,6 @@ module _ (d : Document) where
   pub selected-is : (p : Path) (x : Place) → IsElement (kindAt d x) → selected d p x ↔ Fits p (namesTo d x)
   selected-is p x is = (selected-to p x is, selected-from p x is)
 
-  -- a path with a step selects nothing but elements
-  pub selected-element : (p : Path) (x : Place) → 1 ≤ length p → selected d p x → IsElement (kindAt d x)
-  unfolding stepsTo
-  selected-element p x h sel = last (length p) h (rw all-steps at sel)
-    where
-      last : (s : ℕ) → 1 ≤ s → selects d (stepsTo p s) [] x → IsElement (kindAt d x)
-      last zero l t = absurd (omega arith)
-      last (suc s) l t =
-          let (y, before, o) = step-to (stepsTo p s) (nthStep p (suc s)) x t in
-          (o .name, o .kind)
-
   -- demand 2: a path selects at least one element of the tree exactly when it fits the name list of some element of the tree
   pub selects-some : (p : Path)
       → ((x : Place) × IsElement (kindAt d x) × selected d p x) ↔ ((x : Place) × IsElement (kindAt d x) × Fits p (namesTo d x))

@@ -34,7 +34,8 @@ use Rattle.text.proofs.Laws.Tests.{neither}
 use Rattle.documents.proofs.Laws.Trees.Balance.{balanced-is}
 use Rattle.documents.proofs.Laws.Trees.Passed.{passed-is}
 use Rattle.documents.proofs.Laws.Trees.OneDocument.{one-document, report-selects}
-use Rattle.filing.proofs.Laws.Filing.FilingParts.{unmet, unless-filed, both-filed}
+use Rattle.text.proofs.Laws.Order.{unmet}
+use Rattle.filing.proofs.Laws.Filing.FilingParts.{unless-filed, both-filed}
 use Rattle.filing.proofs.Laws.Filing.FilingOrder.{filed-run, filing-is, filing-only}
 use Rattle.filing.proofs.Laws.Filing.FilingRun.{taken-after, taken-accepted, fresh-balanced, taken-matched, taken-opens}
 use Rattle.filing.proofs.Laws.Filing.FilingChildless.{count-in, calls-childless}

@@ -9,7 +9,7 @@ use Rattle.documents.specs.Document.{Event, eventsOf}
 use Rattle.documents.specs.Reading.{readReport}
 use Rattle.filing.specs.Filing.{Outcome, refused, filed, numberGiven, andThen, unless, Machine, eventOrder, endOrder, eventLeaves, fileEvents}
 use Rattle.filing.specs.Code.Filing.{tokensIn, reportTests, fileReport}
-use Rattle.filing.proofs.Laws.Filing.FilingParts.{clash}
+use Rattle.text.proofs.Laws.Tests.{zero-one}
 
 pub data Alike {S T : Type 0} (R : S → T → Type 0) : Outcome S → Outcome T → Type 0 where
   bothRefused : (r : Refusal) → Alike R (refused r) (refused r)
@@ -21,10 +21,10 @@ same-number (bothFiled x) = refl
 
 pub alike-refused : {S T : Type 0} {R : S → T → Type 0} {o : Outcome S} {p : Outcome T} → Alike R o p → (r : Refusal) → o ≡ refused r → p ≡ refused r
 alike-refused (bothRefused q) r e = cc
-alike-refused (bothFiled x) r e = clash (cc)
+alike-refused (bothFiled x) r e = zero-one (cc)
 
 pub alike-filed : {S T : Type 0} {R : S → T → Type 0} {o : Outcome S} {p : Outcome T} → Alike R o p → (s : S) → o ≡ filed s → (t : T) × (p ≡ filed t) × R s t
-alike-filed (bothRefused q) s e = clash (cc)
+alike-filed (bothRefused q) s e = zero-one (cc)
 alike-filed {R = R} (bothFiled {s = q} {t = t} x) s e =
     let same : q ≡ s = cc in
     (t, refl, subst (λ y. R y t) same x)

@@ -27,7 +27,8 @@ use Rattle.filing.specs.Limits.{maxReportBytes}
 use Rattle.filing.specs.Filing.{Outcome, refused, filed, numberGiven, eventOrder, endOrder, eventLeaves, fileEvents, fileEnd, fileTokens, Decided, sharedMachine, Refused}
 use Rattle.filing.specs.FiledReport.{reportNumbers}
 use Rattle.filing.specs.Code.Filing.{fileWith}
-use Rattle.filing.proofs.Laws.Filing.FilingParts.{first-has, unless-refused, either-refused, events-refused}
+use Rattle.text.proofs.Laws.Order.{first-has}
+use Rattle.filing.proofs.Laws.Filing.FilingParts.{unless-refused, either-refused, events-refused}
 use Rattle.filing.proofs.Laws.Filing.FilingOrder.{filing-is}
 use Rattle.filing.proofs.Laws.Filing.FilingRun.{close-names, opened-opens, closed-opens}
 

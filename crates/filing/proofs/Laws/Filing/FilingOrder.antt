@@ -12,8 +12,8 @@ use Rattle.notation.specs.Sets.{FolderSet}
 use Rattle.text.specs.Refusals.{Refusal, syntaxError}
 use Rattle.text.specs.Order.{Condition, gives, refusalOf, FirstOf, first, given}
 use Rattle.model.specs.Calls.{State, fresh}
-use Rattle.text.proofs.Laws.Tests.{clash}
-use Rattle.text.proofs.Laws.Order.{first-is, number-zero}
+use Rattle.text.proofs.Laws.Tests.{clash, zero-one}
+use Rattle.text.proofs.Laws.Order.{first-is, number-zero, unmet, later-unmet, first-then, first-before, first-has}
 use Rattle.stored.specs.RunCalls.{startConditions, startRefusal}
 use Rattle.stored.specs.Demand3.{Left, started}
 use Rattle.filing.specs.Limits.{maxReportBytes}
@@ -25,7 +25,7 @@ use Rattle.documents.proofs.Laws.Read.ReadSound.{found-run, run-found, none-fou
 use Rattle.filing.specs.Filing.{Outcome, refused, filed, andThen, unless, Machine, eventOrder, endOrder, fileEvents, fileTokens, Reason, reason, reportOrder, Decided, OutcomeOf, sharedMachine, FilingGives, FiledWith}
 use Rattle.filing.specs.ReportRefusals.{storedMachine, tested, ReportGives, ofLent}
 use Rattle.filing.specs.Code.Filing.{isNoRun, tokensIn, reportTests, fileReport, fileWith}
-use Rattle.filing.proofs.Laws.Filing.FilingParts.{clash as clash₀, unmet, later-unmet, first-then, first-before, first-has, unless-refused, either-refused, events-refused}
+use Rattle.filing.proofs.Laws.Filing.FilingParts.{unless-refused, either-refused, events-refused}
 
 -- an event, and the end, is refused with the first of its order whose condition holds
 pub refused-first : {S : Type 0} (order : List Condition) (s : S) (r : Refusal) → (unless (first order) s ≡ refused r) ↔ FirstOf order r
@@ -55,7 +55,7 @@ module _ {S : Type 0} (s : S) (k : S → Outcome S) (rest : Outcome S → Type 0
 decided-filed : {S : Type 0} (rest : Outcome S → Type 0) (t : S) (order : List Reason) → Decided order rest (filed t) → rest (filed t)
 unfolding Decided
 decided-filed rest t [] d = d
-decided-filed rest t (reason holds r ∷ order) (inl (y, e)) = clash₀ (cc)
+decided-filed rest t (reason holds r ∷ order) (inl (y, e)) = zero-one (cc)
 decided-filed rest t (reason holds r ∷ order) (inr (n, d)) = decided-filed rest t order d
 
 pub filed-run : (set : FolderSet) (report : List ℕ) (m : State) → FiledWith set report m → (run : RunOfTokens report) × (fileTokens (sharedMachine set) (fresh set) (run .tokens) ≡ filed m)

@@ -23,9 +23,10 @@ use Rattle.documents.specs.Tokens.{blank}
 use Rattle.documents.specs.Document.{Event, opening, closing, textHere, commentHere}
 use Rattle.documents.specs.Code.Events.{balanced, passed}
 use Rattle.filing.specs.Filing.{filed, eventOrder, endOrder, eventLeaves, fileEvent, fileEvents, sharedMachine, callsIn, allAccepted}
-use Rattle.text.proofs.Laws.Tests.{both-true, neither}
+use Rattle.text.proofs.Laws.Tests.{zero-one, both-true, neither}
 use Rattle.documents.proofs.Laws.Trees.Passed.{last-off}
-use Rattle.filing.proofs.Laws.Filing.FilingParts.{clash, unmet, unless-filed, both-filed}
+use Rattle.text.proofs.Laws.Order.{unmet}
+use Rattle.filing.proofs.Laws.Filing.FilingParts.{unless-filed, both-filed}
 
 -- what holds at the end, and of each event if of those after it, holds of all events that are taken
 module _ (set : FolderSet) (P : State → List Event → State → Type 0)
@@ -80,7 +81,7 @@ unfolding balanced
 end-balanced [] opens h =
     let some-open : eqb opens 0 ≡ false = neither (eqb opens 0) false h .0 in
     lt-ltb 0 opens (omega (arith, eqb-false opens 0 some-open))
-end-balanced (l ∷ levels) opens h = clash (let z = neither (eqb opens 0) true h .1 in cc)
+end-balanced (l ∷ levels) opens h = zero-one (let z = neither (eqb opens 0) true h .1 in cc)
 
 open-balanced : (levels : List Level) (opens : ℕ) (e : Name) (es : List Event) → (ltb 0 opens && not (nonEmpty levels)) ≡ false → length levels ≤ opens
     → balanced (e ∷ map nameOf levels) true es ≡ true → balanced (map nameOf levels) (ltb 0 opens) (opening e ∷ es) ≡ true

@@ -11,7 +11,7 @@ use Rattle.filing.specs.Filing.{refused, filed}
 use Rattle.filing.specs.Listing.{refusedLine}
 use Rattle.filing.specs.Printed.{Selecting, noPaths, chosen, left, LinesFor, noFolders, line, noLine, PrintedFor, PrintedOf, itsNumber, itsListing}
 use Rattle.filing.proofs.Laws.Filing.FilingOrder.{filing-only}
-use Rattle.filing.proofs.Laws.Filing.FilingParts.{clash}
+use Rattle.text.proofs.Laws.Tests.{zero-one}
 use Rattle.filing.proofs.Laws.Filing.FilingMoves.{moves-once}
 
 pub selecting-once : {d : Document} {ps qs rs : List Path} → Selecting d ps qs → Selecting d ps rs → qs ≡ rs
@@ -26,8 +26,8 @@ lines-once noFolders noFolders = refl
 lines-once (line a l) (line b r) =
     let same = selecting-once a b in
     rw (same, lines-once l r)
-lines-once (line a l) (noLine b r) = let same = selecting-once a b in clash (cc)
-lines-once (noLine a l) (line b r) = let same = selecting-once a b in clash (cc)
+lines-once (line a l) (noLine b r) = let same = selecting-once a b in zero-one (cc)
+lines-once (noLine a l) (line b r) = let same = selecting-once a b in zero-one (cc)
 lines-once (noLine a l) (noLine b r) = lines-once l r
 
 module _ (s : FolderSet) (report : List ℕ) where
@@ -43,6 +43,6 @@ module _ (s : FolderSet) (report : List ℕ) where
       let e = filing-only s report (refused r) (refused q) h g in
       let same : r ≡ q = cc in
       ap (λ (z : Refusal). refusedLine (numberOf z)) same
-  printed-once x y (itsNumber r h) (itsListing m f p) = let e = filing-only s report (refused r) (filed m) h f in clash (cc)
-  printed-once x y (itsListing m f p) (itsNumber r h) = let e = filing-only s report (filed m) (refused r) f h in clash (cc)
+  printed-once x y (itsNumber r h) (itsListing m f p) = let e = filing-only s report (refused r) (filed m) h f in zero-one (cc)
+  printed-once x y (itsListing m f p) (itsNumber r h) = let e = filing-only s report (filed m) (refused r) f h in zero-one (cc)
   printed-once x y (itsListing m f p) (itsListing n g q) = listing-once x y p q

@@ -9,7 +9,7 @@ use Rattle.notation.proofs.Laws.Refused.Judging.{some-verdict, only-verdict}
 use Rattle.filing.specs.Listing.{refusedLine}
 use Rattle.filing.specs.Printed.{PrintedOf, PrintedText, ofRefusedSet, ofSet}
 use Rattle.filing.specs.Code.Filer.{filerPrints}
-use Rattle.filing.proofs.Laws.Filing.FilingParts.{clash}
+use Rattle.text.proofs.Laws.Tests.{zero-one}
 use Rattle.filing.proofs.Laws.Listing.PrintedOnce.{printed-once}
 use Rattle.filing.proofs.Laws.Listing.PrintedXPath.{report-printed}
 
@@ -30,8 +30,8 @@ module _ (text report : List ℕ) where
       let e = only-verdict text (refuses r) (refuses q) j k in
       let same : r ≡ q = cc in
       ap (λ (z : Refusal). refusedLine (numberOf z)) same
-  printed-text-once x y (ofRefusedSet {r = r} j) (ofSet {s = s} acc p) = let e = only-verdict text (refuses r) (accepts s) j acc in clash (cc)
-  printed-text-once x y (ofSet {s = s} acc p) (ofRefusedSet {r = r} j) = let e = only-verdict text (accepts s) (refuses r) acc j in clash (cc)
+  printed-text-once x y (ofRefusedSet {r = r} j) (ofSet {s = s} acc p) = let e = only-verdict text (refuses r) (accepts s) j acc in zero-one (cc)
+  printed-text-once x y (ofSet {s = s} acc p) (ofRefusedSet {r = r} j) = let e = only-verdict text (accepts s) (refuses r) acc j in zero-one (cc)
   printed-text-once x y (ofSet {s = s} acc p) (ofSet {s = t} bcc q) =
       let e = only-verdict text (accepts s) (accepts t) acc bcc in
       let same : s ≡ t = cc in

@@ -1,7 +1,7 @@
 -- From the bytes of a set and a report to the bytes that are printed, by XPath 1.0.
 use Prim.Native.Nat.{ℕ, suc, _+_, _<_, suc-le-suc}
 use mathlib.Core.Path.{_≡_, refl, ap, _∙_, subst}
-use mathlib.Core.Bool.{Bool, true, false}
+use mathlib.Core.Bool.{Bool, true}
 use mathlib.Core.Logic.{_↔_}
 use mathlib.Core.List.{List, [], _∷_, _++_}
 use lib.ListN.{length, getD, length-append, List·getD-append}
@@ -11,19 +11,16 @@ use native.Mathlib.Omega.{arith}
 use Rattle.notation.specs.Sets.{Path, folder, FolderSet}
 use Rattle.notation.specs.Form.{pathsOf}
 use Rattle.notation.specs.Print.{footer}
-use Rattle.notation.specs.Accepted.{Accepted}
 use Rattle.model.specs.Calls.{State, fresh, run as after}
 use Rattle.text.proofs.Laws.Tests.{cases, clash}
-use Rattle.text.specs.declared.written.Written.{Written}
 use Rattle.documents.specs.Tree.{Document}
 use Rattle.documents.specs.Document.{Event, eventsIn, documentIn}
 use Rattle.filing.specs.Filing.{Outcome, refused, filed, FiledWith, callsIn, allAccepted}
 use Rattle.filing.specs.Code.Filing.{fileWith}
 use Rattle.filing.specs.Demand2.{SelectsElement, OfDocument}
 use Rattle.filing.specs.Listing.{filedHeader, matchedPaths, lineOf, linesFrom, movesLine, listing}
-use Rattle.filing.specs.Filer.{tooSmall, PrintsText, Prints}
 use Rattle.filing.specs.Code.Filer.{printed, filerPrints}
-use Rattle.filing.specs.Printed.{Selecting, noPaths, chosen, left, LinesFor, noFolders, line, noLine, MovesIn, PrintedFor, PrintedOf, itsNumber, itsListing, ofSet}
+use Rattle.filing.specs.Printed.{Selecting, noPaths, chosen, left, LinesFor, noFolders, line, noLine, MovesIn, PrintedFor, PrintedOf, itsNumber, itsListing}
 use Rattle.filing.proofs.Laws.Filing.FilingOrder.{filing-is}
 use Rattle.filing.proofs.Laws.Filing.FilingMoves.{calls-moves}
 use Rattle.filing.proofs.Laws.Filing.Demand2.{of-document}
@@ -88,17 +85,3 @@ report-printed s report = go (fileWith s report) refl
     go : (x : Outcome State) → fileWith s report ≡ x → PrintedOf s report (printed s x)
     go (refused r) e = itsNumber r (filing-is s report (refused r) .1 e)
     go (filed m) e = let f = filing-is s report (filed m) .1 e in itsListing m f (listing-printed s report m f)
-
--- what is printed of an accepted set and any report
-module _ (text report a run out : List ℕ) (answer : Written) (a' run' out' : List ℕ) (p : Prints text report a run out answer a' run' out')
-    (room : tooSmall a run out ≡ false) (s : FolderSet) (acc : Accepted text s) where
-  pub prints-of : (bytes : List ℕ) × PrintedOf s report bytes × PrintsText bytes out answer out'
-  prints-of =
-      let o = report-printed s report in
-      (filerPrints s report, o, p .printed room (filerPrints s report) (ofSet acc o))
-
-  -- and of one that is filed
-  pub prints-xpath : (m : State) → FiledWith s report m → (bytes : List ℕ) × PrintedFor s report bytes × PrintsText bytes out answer out'
-  prints-xpath m f =
-      let l = listing-printed s report m f in
-      (listing s m, l, p .printed room (listing s m) (ofSet acc (itsListing m f l)))

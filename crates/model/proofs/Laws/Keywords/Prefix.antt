@@ -66,10 +66,6 @@ longest-end set (s ∷ w) = cases (begins set (s ∷ w)) yes′ (no′ (longest-
       ];
     })
 
-empty-word : (w : Word) → length w ≤ 0 → w ≡ []
-empty-word [] h = refl
-empty-word (s ∷ w) h = absurd (omega arith)
-
 -- of two ends that begin a keyword or are empty, the first is not longer where the second is as long as any that begins one
 not-longer : (set : FolderSet) (w v : Word) → (Begins set v → length v ≤ length w) → Begins set v ⊎ (v ≡ []) → length v ≤ length w
 not-longer set w v f (inl b) = f b

@@ -80,12 +80,6 @@ module _ (text before : List ℕ) (answer : ℕ) (after : List ℕ) (b : Built t
   pub answer-0 : (answer ≡ 0) ↔ ((automatonSize ≤ length before) × ((s : FolderSet) × Accepted text s))
   answer-0 = accepted-is text (length before) automatonSize answer (λ h. b .short h .0) (λ h v j. b .judged h v j .0)
 
-  -- whose automaton is left
-  pub built-only : answer ≡ 0 → (s : FolderSet) × (Accepted text s × (after ≡ automatonOf s ++ drop automatonSize before))
-  built-only z =
-      let (h, (s, acc)) = answer-0 .0 z in
-      (s, (acc, b .judged h (accepts s) acc .1))
-
 -- what a build that answered 0 left, of an accepted text
 pub built-is : (text before after : List ℕ) (s : FolderSet) → Accepted text s → Built text before 0 after → after ≡ automatonOf s ++ drop automatonSize before
 built-is text before after s acc b = let room = answer-0 text before 0 after b .0 refl .0 in b .judged room (accepts s) acc .1

@@ -21,7 +21,6 @@ use Rattle.model.specs.Words.{name, Word, before, labelWords, begins, document}
 use Rattle.model.specs.Walk.{followedBy}
 use Rattle.stored.specs.Automaton.{masksFrom, masks, allLabels, heads, links, startState, automatonOf, allMasks, Link}
 use Rattle.stored.specs.Shape.{automatonShaped}
-use Rattle.stored.specs.Usable.{Walkable}
 use Rattle.stored.specs.Code.Fails.{Growing}
 use Rattle.model.proofs.Laws.Keywords.Labels.{LabelWord, begins-label}
 use Rattle.stored.proofs.Laws.Bytes.Bits.{bit-small}
@@ -90,10 +89,6 @@ module _ (s : FolderSet) (fit : Fitting s) (few : pathsLong s ≡ false) (rest :
   pub built-grows : Growing (automatonOf s ++ rest)
   unfolding automatonOf
   built-grows = stage-grows s fit (words-short s few) (masks s) (startState s) (masks-length s) rest (links s) (links-right s)
-
-  -- the walk over the automaton of a set ends
-  pub built-walkable : Walkable (automatonOf s ++ rest)
-  built-walkable = built-grows .walkable
 
   -- what the shape test is about
   built-facts : formed s ≡ true → namesLong s ≡ false → Shaped (automatonOf s ++ rest)

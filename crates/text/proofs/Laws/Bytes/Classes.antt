@@ -4,10 +4,10 @@ use mathlib.Core.Path.{_≡_, refl, _∙_, sym, ap}
 use mathlib.Core.Bool.{Bool, true, false, _&&_, and-false}
 use mathlib.Core.List.{List, [], _∷_}
 use native.Mathlib.Omega.{arith}
-use lib.Dec.{leb, ltb, eqb}
+use lib.Dec.{leb, ltb}
 use borrow.Author.Tests.{lt-leb, ltb-true, ltb-false, ne-eqb}
 use Rattle.text.specs.Names.{within, letter, digit, beginsName, inName}
-use Rattle.text.specs.Classes.{Range, range, lookUp, ranges, classOf, startClass, digitClass, dotClass, invalidClass}
+use Rattle.text.specs.Classes.{Range, range, lookUp, ranges, classOf, startClass, dotClass, invalidClass}
 use Rattle.text.proofs.Laws.Tests.{cases, and-left, and-right}
 use Rattle.text.proofs.Laws.Bytes.Table.{values, same-entries}
 
@@ -66,7 +66,3 @@ begins-class b = by-class beginsName (λ k. leb k startClass) refl begins-past r
 pub in-class : (b : ℕ) → inName b ≡ leb (classOf b) dotClass
 unfolding values classOf lookUp ranges inName beginsName letter digit
 in-class b = by-class inName (λ k. leb k dotClass) refl in-past refl b
-
-pub digit-class : (b : ℕ) → digit b ≡ eqb (classOf b) digitClass
-unfolding values classOf lookUp ranges digit
-digit-class b = by-class digit (λ k. eqb k digitClass) refl digit-past refl b
