@@ -65,10 +65,6 @@ unfoldable pub selects : Document → LocationPath → Place → NodeSet
 selects d start x y = y ≡ x
 selects d (initial / s) x z = (y : Place) × selects d initial x y × selectsStep d s y z
 
--- an absolute location path: its steps, from the document node
-abbrev pub selectsFromDocument : Document → LocationPath → NodeSet
-selectsFromDocument d p = selects d p []
-
 -- 2.5 Abbreviated Syntax: a step without an axis is a child step, and `//` stands for `/descendant-or-self::node()/`
 abbrev pub nodeTest : Test → NodeTest
 nodeTest (label n) = named n
@@ -83,6 +79,6 @@ unfoldable pub spelled : LocationPath → Path → LocationPath
 spelled before [] = before
 spelled before (s ∷ p) = spelled (withStep before s) p
 
--- the nodes that a path of the notation selects in a document
+-- the nodes that a path of the notation selects in a document: it is an absolute location path, its steps go from the document node
 abbrev pub selected : Document → Path → NodeSet
-selected d p = selectsFromDocument d (spelled start p)
+selected d p = selects d (spelled start p) []

@@ -108,12 +108,6 @@ closed s = closedFrom (s .levels) s
 abbrev pub nothingOpen : State → Bool
 nothingOpen s = not (nonEmpty (s .levels))
 
-abbrev pub deepest : State → Bool
-deepest s = leb maxDepth (depth s)
-
-abbrev pub opensSpent : State → Bool
-opensSpent s = leb maxOpens (s .opens)
-
 abbrev pub isInnermost : List Level → Name → Bool
 isInnermost [] e = false
 isInnermost (level n w ∷ outer) e = sameName n e
@@ -124,8 +118,8 @@ openOrder s e =
     gives (not (nameForm e)) syntaxError
     ∷ gives (tooLong e) nameTooLong
     ∷ gives (s .rootClosed) notOneRoot
-    ∷ gives (deepest s) tooDeep
-    ∷ gives (opensSpent s) overCapacity
+    ∷ gives (leb maxDepth (depth s)) tooDeep
+    ∷ gives (leb maxOpens (s .opens)) overCapacity
     ∷ []
 
 abbrev pub closeOrder : State → Name → List Condition

@@ -245,17 +245,14 @@ roleAt f [] i = false
 roleAt f (r ∷ rs) zero = f r
 roleAt f (r ∷ rs) (suc i) = roleAt f rs i
 
-abbrev pub mask : (Role → Bool) → FolderSet → List ℕ
-mask f s = bitBytes (roleAt f (roles s)) maskSize
-
 -- the test that mask m holds of each step
 abbrev pub maskTest : ℕ → Role → Bool
 maskTest m = getD (isStarRole ∷ isChildRole ∷ isDescendantRole ∷ isAnywhereRole ∷ isRootRole ∷ isLastRole ∷ []) m (λ r. false)
 
--- so many masks, from mask m on
+-- so many masks, from mask m on: bit i is the mask's test of step i
 unfoldable pub masksFrom : ℕ → ℕ → FolderSet → List ℕ
 masksFrom zero m s = []
-masksFrom (suc left) m s = mask (maskTest m) s ++ masksFrom left (suc m) s
+masksFrom (suc left) m s = bitBytes (roleAt (maskTest m) (roles s)) maskSize ++ masksFrom left (suc m) s
 
 abbrev pub masks : FolderSet → List ℕ
 masks s = masksFrom maskCount starMask s

@@ -1,6 +1,6 @@
 -- What an automaton's tables mean: the laws of the bytes that were built from a set. The calls on a run use these and nothing else of the
 -- build.
-use Prim.Native.Nat.{ℕ, suc, _+_, _*_, _≤_, _<_}
+use Prim.Native.Nat.{ℕ, suc, _*_, _≤_, _<_}
 use mathlib.Core.Path.{_≡_}
 use mathlib.Core.Bool.{true, false, cond}
 use mathlib.Core.List.{List, [], _∷_, _++_}

@@ -11,9 +11,6 @@ use Rattle.stored.specs.Answers.{openedSays}
 use Rattle.stored.specs.RunCalls.{startRefusal, startRun, noCounters, openRefusal, openRun, openWalk, openCounters, closeRefusal, closeRun, closeCounters}
 use Rattle.stored.specs.declared.counters.Counters.{Counters}
 use Rattle.stored.specs.declared.answers.Opened.{Opened}
-use Rattle.stored.specs.declared.answers.Started.{Started}
-use Rattle.stored.specs.declared.answers.OpenedBy.{OpenedBy}
-use Rattle.stored.specs.declared.answers.ClosedBy.{ClosedBy}
 
 pub record Starts (a run : List ℕ) (c : Counters) (answer : ℕ) (run' : List ℕ) (c' : Counters) : Type 0 where
   pub answers : answer ≡ startRefusal a run
@@ -30,13 +27,3 @@ pub record Closes (a run : List ℕ) (c : Counters) (e : Name) (answer : ℕ) (r
   pub answers : answer ≡ closeRefusal a run c e
   pub runAfter : run' ≡ cond (eqb (closeRefusal a run c e) 0) (closeRun run) run
   pub countersAfter : c' ≡ cond (eqb (closeRefusal a run c e) 0) (closeCounters c) c
-
--- the same with counters by value
-abbrev pub StartsBy : List ℕ → List ℕ → Counters → Started → List ℕ → Type 0
-StartsBy a run c r run' = Starts a run c (r .refusal) run' (r .counters)
-
-abbrev pub OpensBy : List ℕ → List ℕ → Counters → Name → OpenedBy → List ℕ → Type 0
-OpensBy a run c e r run' = Opens a run c e (r .answer) run' (r .counters)
-
-abbrev pub ClosesBy : List ℕ → List ℕ → Counters → Name → ClosedBy → List ℕ → Type 0
-ClosesBy a run c e r run' = Closes a run c e (r .refusal) run' (r .counters)

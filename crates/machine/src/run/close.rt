@@ -13,7 +13,7 @@ ghost use mathlib.Core.Path.{_≡_};
 ghost use Prim.Native.Nat.{_≤_, _<_};
 ghost use lib.ListN.{length};
 ghost use Rattle.model.specs.Limits.{maxDepth};
-ghost use Rattle.stored.specs.RunContracts.{Closes, ClosesBy};
+ghost use Rattle.stored.specs.RunContracts.{Closes};
 ghost use Rattle.stored.specs.Usable.{Usable};
 ghost use Rattle.stored.specs.Run.{runSize};
 ghost use Rattle.stored.specs.RunCalls.{depthOf, closeRun};
@@ -34,7 +34,7 @@ fn close_on(run: &mut [u8])
 // The close, for callers that know that automaton, run and counters pass the shape test.
 pub fn close_usable(a: &[u8], run: &mut [u8], counters: Counters, e: &[u8]) -> ClosedBy
     requires { ⌜ Usable (now a) (now run) counters ⌝ }
-    ensures { λ r. ⌜ ClosesBy (now (a .entry)) (now (run .entry)) counters (now (e .entry)) r (now (run .exit)) ⌝ }
+    ensures { λ r. ⌜ Closes (now (a .entry)) (now (run .entry)) counters (now (e .entry)) (r .refusal) (now (run .exit)) (r .counters) ⌝ }
 {
     let refused = refusals::close_others(a, run, e);
     if refused != 0 {
@@ -52,7 +52,7 @@ pub fn close_usable(a: &[u8], run: &mut [u8], counters: Counters, e: &[u8]) -> C
 
 // The close, with the counters by value.
 pub fn close_by(a: &[u8], run: &mut [u8], counters: Counters, e: &[u8]) -> ClosedBy
-    ensures { λ r. ⌜ ClosesBy (now (a .entry)) (now (run .entry)) counters (now (e .entry)) r (now (run .exit)) ⌝ }
+    ensures { λ r. ⌜ Closes (now (a .entry)) (now (run .entry)) counters (now (e .entry)) (r .refusal) (now (run .exit)) (r .counters) ⌝ }
 {
     let refused = lent::refusal(a, run, counters);
     if refused != 0 {

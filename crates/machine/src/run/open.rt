@@ -27,7 +27,7 @@ ghost use Rattle.notation.specs.Limits.{maxSteps};
 ghost use Rattle.text.specs.Bytes.{le16, padded};
 ghost use Rattle.model.specs.Limits.{maxDepth};
 ghost use Rattle.stored.specs.Automaton.{maskSize, hash};
-ghost use Rattle.stored.specs.RunContracts.{Opens, OpensBy};
+ghost use Rattle.stored.specs.RunContracts.{Opens};
 ghost use Rattle.stored.specs.Usable.{Openable, Ready, Usable};
 ghost use Rattle.stored.specs.Run.{runSize};
 ghost use Rattle.stored.specs.RunCalls.{depthOf, withRow, openRun, openWalk};
@@ -84,7 +84,7 @@ fn open_on(a: &[u8], run: &mut [u8], e: &[u8]) -> Walk
 // The open, for callers that know that automaton, run and counters pass the shape test.
 pub fn open_usable(a: &[u8], run: &mut [u8], counters: Counters, e: &[u8]) -> OpenedBy
     requires { ⌜ Usable (now a) (now run) counters ⌝ }
-    ensures { λ r. ⌜ OpensBy (now (a .entry)) (now (run .entry)) counters (now (e .entry)) r (now (run .exit)) ⌝ }
+    ensures { λ r. ⌜ Opens (now (a .entry)) (now (run .entry)) counters (now (e .entry)) (r .answer) (now (run .exit)) (r .counters) ⌝ }
 {
     let refused = refusals::open_others(run, counters, e);
     if refused != 0 {
@@ -103,7 +103,7 @@ pub fn open_usable(a: &[u8], run: &mut [u8], counters: Counters, e: &[u8]) -> Op
 
 // The open, with the counters by value.
 pub fn open_by(a: &[u8], run: &mut [u8], counters: Counters, e: &[u8]) -> OpenedBy
-    ensures { λ r. ⌜ OpensBy (now (a .entry)) (now (run .entry)) counters (now (e .entry)) r (now (run .exit)) ⌝ }
+    ensures { λ r. ⌜ Opens (now (a .entry)) (now (run .entry)) counters (now (e .entry)) (r .answer) (now (run .exit)) (r .counters) ⌝ }
 {
     let refused = lent::refusal(a, run, counters);
     if refused != 0 {

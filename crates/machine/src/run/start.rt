@@ -18,7 +18,7 @@ ghost use Prim.Native.Nat.{_≤_};
 ghost use lib.ListN.{length, drop, replicate};
 ghost use Rattle.stored.specs.Run.{runSize};
 ghost use Rattle.stored.specs.RunCalls.{startRun, startRefusal};
-ghost use Rattle.stored.specs.RunContracts.{Starts, StartsBy};
+ghost use Rattle.stored.specs.RunContracts.{Starts};
 
 fn clear_run(run: &mut [u8])
     requires { ⌜ runSize ≤ length (now run) ⌝ }
@@ -53,7 +53,7 @@ fn start_refusal(a: &[u8], run: &[u8]) -> u8
 
 // The start, with the counters by value.
 pub fn start_by(a: &[u8], run: &mut [u8], counters: Counters) -> Started
-    ensures { λ r. ⌜ StartsBy (now (a .entry)) (now (run .entry)) counters r (now (run .exit)) ⌝ }
+    ensures { λ r. ⌜ Starts (now (a .entry)) (now (run .entry)) counters (r .refusal) (now (run .exit)) (r .counters) ⌝ }
 {
     let refused = start_refusal(a, run);
     if refused != 0 {

@@ -1,6 +1,6 @@
 -- What inner functions find at an offset.
 use Prim.Native.Nat.{ℕ, _+_}
-use mathlib.Core.Bool.{Bool, true, false, cond}
+use mathlib.Core.Bool.{Bool, cond}
 use mathlib.Core.List.{List, []}
 use lib.Dec.{eqb, ltb}
 use lib.ListN.{length, getD, drop}
@@ -41,8 +41,3 @@ nameOfToken (text ps) = []
 abbrev pub tagName : Read Token → Name
 tagName fail = []
 tagName (got t r) = nameOfToken t
-
--- something was read
-abbrev pub isGot : {A : Type 0} → Read A → Bool
-isGot fail = false
-isGot (got a r) = true

@@ -6,7 +6,7 @@ use mathlib.Core.Bool.{Bool, true, false, not, _||_, or-false}
 use mathlib.Core.Logic.{inl, inr}
 use mathlib.Core.Option.{none, some}
 use mathlib.Core.List.{List, [], _∷_, _++_, dropLast, List·Memᴰ}
-use lib.Dec.{eqb}
+use lib.Dec.{leb, eqb}
 use lib.ListN.{length, length-append}
 use borrow.Author.Tests.{lt-leb, eqb-true}
 use native.Mathlib.Omega.{arith}
@@ -16,7 +16,7 @@ use Rattle.text.specs.Refusals.{Refusal, tooLarge, invalidByte, syntaxError, ov
 use Rattle.text.specs.Lists.{every, any}
 use Rattle.model.specs.Limits.{maxOpens}
 use Rattle.text.specs.Order.{Condition, holds, refusalOf, first}
-use Rattle.model.specs.Calls.{State, openNames, opensSpent, fresh, refusal}
+use Rattle.model.specs.Calls.{State, openNames, fresh, refusal}
 use Rattle.text.proofs.Laws.Tests.{clash}
 use Rattle.text.proofs.Laws.Lists.{any-is}
 use Rattle.model.proofs.Laws.Machine.Steps.{close-accepted-is, names-opened}
@@ -77,7 +77,7 @@ module _ (set : FolderSet) where
   order-among : (order : List Condition) (r : Refusal) → every allowed order ≡ true → first order ≡ some r → among (numberOf r) ≡ true
   order-among order r h e = sym (or-false (among (numberOf r))) ∙ first-has allowed order r h e
 
-  event-allowed : (m : State) (e : Event) → opensSpent m ≡ false → every allowed (eventOrder (sharedMachine set) m e) ≡ true
+  event-allowed : (m : State) (e : Event) → leb maxOpens (m .opens) ≡ false → every allowed (eventOrder (sharedMachine set) m e) ≡ true
   unfolding every any
   event-allowed m (opening e) left = rw left
   event-allowed m (closing e) left = refl

@@ -8,10 +8,9 @@ use Rattle.notation.specs.Judged.{Verdict, refuses, accepts, Judged}
 use Rattle.notation.proofs.Laws.Refused.Judging.{some-verdict, only-verdict}
 use Rattle.filing.specs.Listing.{refusedLine}
 use Rattle.filing.specs.Printed.{PrintedOf, PrintedText, ofRefusedSet, ofSet}
-use Rattle.filing.specs.Code.Filer.{filerPrints}
 use Rattle.text.proofs.Laws.Tests.{zero-one}
 use Rattle.filing.proofs.Laws.Listing.PrintedOnce.{printed-once}
-use Rattle.filing.proofs.Laws.Listing.PrintedXPath.{report-printed}
+use Rattle.filing.proofs.Laws.Listing.PrintedXPath.{filerPrints, report-printed}
 
 -- what is printed of an accepted set is what filing the report prints
 pub printed-is : (s : FolderSet) (report bytes : List ℕ) → PrintedOf s report bytes → filerPrints s report ≡ bytes

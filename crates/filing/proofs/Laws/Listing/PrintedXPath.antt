@@ -11,6 +11,7 @@ use native.Mathlib.Omega.{arith}
 use Rattle.notation.specs.Sets.{Path, folder, FolderSet}
 use Rattle.notation.specs.Form.{pathsOf}
 use Rattle.notation.specs.Print.{footer}
+use Rattle.text.specs.Refusals.{numberOf}
 use Rattle.model.specs.Calls.{State, fresh, run as after}
 use Rattle.text.proofs.Laws.Tests.{cases, clash}
 use Rattle.documents.specs.Tree.{Document}
@@ -18,8 +19,7 @@ use Rattle.documents.specs.Document.{Event, eventsIn, documentIn}
 use Rattle.filing.specs.Filing.{Outcome, refused, filed, FiledWith, callsIn, allAccepted}
 use Rattle.filing.specs.Code.Filing.{fileWith}
 use Rattle.filing.specs.Demand2.{SelectsElement, OfDocument}
-use Rattle.filing.specs.Listing.{filedHeader, matchedPaths, lineOf, linesFrom, movesLine, listing}
-use Rattle.filing.specs.Code.Filer.{printed, filerPrints}
+use Rattle.filing.specs.Listing.{filedHeader, matchedPaths, lineOf, linesFrom, movesLine, listing, refusedLine}
 use Rattle.filing.specs.Printed.{Selecting, noPaths, chosen, left, LinesFor, noFolders, line, noLine, MovesIn, PrintedFor, PrintedOf, itsNumber, itsListing}
 use Rattle.filing.proofs.Laws.Filing.FilingOrder.{filing-is}
 use Rattle.filing.proofs.Laws.Filing.FilingMoves.{calls-moves}
@@ -78,6 +78,14 @@ module _ (s : FolderSet) (report : List ℕ) (m : State) (f : FiledWith s report
         most = d .moves;
         printed = ap (λ (n : ℕ). filedHeader ++ (linesFrom (m .matched) 0 s ++ (movesLine n (m .moves) ++ footer))) (d .opens);
       }
+
+-- what filing a report prints, by its outcome
+abbrev pub printed : FolderSet → Outcome State → List ℕ
+printed set (refused r) = refusedLine (numberOf r)
+printed set (filed m) = listing set m
+
+abbrev pub filerPrints : FolderSet → List ℕ → List ℕ
+filerPrints set report = printed set (fileWith set report)
 
 pub report-printed : (s : FolderSet) (report : List ℕ) → PrintedOf s report (filerPrints s report)
 report-printed s report = go (fileWith s report) refl

@@ -34,8 +34,9 @@ use Rattle.filing.specs.Listing.{listing, refusedLine}
 use Rattle.filing.specs.Listed.{ListingWritten, refusedConditions, RefusedWritten}
 use Rattle.filing.specs.Printed.{PrintedText, ofRefusedSet, ofSet}
 use Rattle.filing.specs.Filer.{tooSmall, PrintsText, Prints}
-use Rattle.filing.specs.Code.Filer.{printed, filerPrints, OutcomeWritten, FiledAndListed}
+use Rattle.filing.specs.Code.Filer.{OutcomeWritten, FiledAndListed}
 use Rattle.filing.proofs.Laws.Filing.FromBytes.{answer-is, left-filed, demand2-bytes}
+use Rattle.filing.proofs.Laws.Listing.PrintedXPath.{printed, filerPrints}
 use Rattle.filing.proofs.Laws.Listing.PrintedText.{printed-is, printed-text-some}
 use Rattle.filing.proofs.Laws.Listing.Whole.{listing-fits, not-refused, listing-written}
 use Rattle.filing.proofs.Laws.Listing.Written.{refused-short}

@@ -13,9 +13,13 @@ use Rattle.documents.specs.Tokens.{Token, declaration, comment, startTag, empty
 use Rattle.text.specs.Read.{Read, fail, got, thenRead}
 use Rattle.documents.specs.Reading.{readToken, readReport}
 use Rattle.reports.specs.Seen.{shown, foundOf, foundEnd, declares}
-use Rattle.reports.specs.Code.Seen.{isGot}
 use Rattle.documents.proofs.Laws.Read.ReadSound.{found-run, run-found}
 use Rattle.reports.proofs.Laws.Read.Next.{tokensFrom, token-next, from-end, from-none, from-late, from-next}
+
+-- something was read
+abbrev pub isGot : {A : Type 0} → Read A → Bool
+isGot fail = false
+isGot (got a r) = true
 
 -- the test says whether the bytes are a run of tokens
 pub run-is : (bytes : List ℕ) → (isGot (readReport bytes) ≡ true) ↔ RunOfTokens bytes

@@ -4,8 +4,7 @@ use mathlib.Core.Path.{_≡_, refl, sym, _∙_}
 use native.Mathlib.Omega.{arith}
 use lib.ListN.{length}
 use Rattle.documents.specs.Reading.{readReport}
-use Rattle.reports.specs.Code.Seen.{isGot}
-use Rattle.reports.proofs.Laws.Read.RunAt.{run-said, RunFrom, run-none, run-late, run-next, run-first, run-end}
+use Rattle.reports.proofs.Laws.Read.RunAt.{isGot, run-said, RunFrom, run-none, run-late, run-next, run-first, run-end}
 use borrow.Author.Needs.{needs}
 use Rattle.reports.proofs.tokens.is_run.Statement.{statement}
 use Rattle.reports.proofs.tokens.is_run.Tie as tie
