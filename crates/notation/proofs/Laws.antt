@@ -1,6 +1,8 @@
 pub mod Meaning
-pub mod Form
-pub mod Scan
+pub mod Parts
+pub mod Faults
+pub mod Reading
+pub mod Taking
 pub mod Fill
-pub mod Refused
 pub mod Stored
+pub mod Refused

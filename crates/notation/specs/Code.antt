@@ -1,5 +1,3 @@
 -- Definitions that follow the code. Laws tie each to the plain one; no contract of a public call reaches them.
-pub mod Scan
-pub mod Emit
-pub mod Put
-pub mod Safe
+pub mod Reader
+pub mod Taking

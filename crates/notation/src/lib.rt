@@ -1,10 +1,12 @@
 // The notation: names, folder sets and what a path means.
+mod entries;
 pub mod layout;
 pub mod limits;
-mod put;
 pub mod read;
 pub mod reads;
-mod scan;
+mod steps;
+mod take;
+mod tally;
 pub mod write;
 
 // A path's place: its index among all paths of the set.

@@ -1,5 +1,3 @@
 pub mod Padded
-pub mod Assembled
-pub mod Sized
-pub mod Put
+pub mod Laid
 pub mod Filled

@@ -1,8 +1,8 @@
-pub mod Within
 pub mod WithinLimits
 pub mod Fitting
 pub mod Refusals
 pub mod AcceptedSet
+pub mod Taken
 pub mod Judging
 pub mod Answers
 pub mod ReadAnswer

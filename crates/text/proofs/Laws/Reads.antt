@@ -1,11 +1,13 @@
 -- What holds of all that can be read, and how it is shown; words and names are read back as they were printed, and print to what stood there.
-use Prim.Native.Nat.{ℕ}
-use mathlib.Core.Path.{_≡_, refl, ap}
+use Prim.Native.Nat.{ℕ, _+_, _≤_}
+use native.Mathlib.Omega.{arith}
+use mathlib.Core.Path.{_≡_, refl, sym, ap, _∙_}
 use mathlib.Core.Bool.{Bool, true, false, cond, false≢true}
 use mathlib.Core.List.{List, [], _∷_, _++_}
 use lib.Dec.{eqb}
 use borrow.Author.Tests.{eqb-true, eq-eqb}
-use lib.ListN.{length, drop}
+use lib.ListN.{length, drop, length-append, length-drop}
+use lib.Seq.{drop-append-seam, drop-drop}
 use Rattle.text.specs.Lists.{every}
 use Rattle.text.specs.Names.{beginsName, inName, nameForm}
 use Rattle.text.specs.Read.{Read, fail, got, thenRead, when, startsWith, readWord, nameAhead, readName}
@@ -69,6 +71,15 @@ word-is (b ∷ w) (c ∷ l) = cases (eqb b c) (λ t. rw t (word-is w l)) (λ f. 
 
 pub begins-drop : (w l : List ℕ) → startsWith w l ≡ true → w ++ drop (length w) l ≡ l
 begins-drop w l t = holds-got (rw (word-is w l, t) at (word-sound w l))
+
+-- a word that stands at an offset ends within the bytes
+pub word-fits : (w s : List ℕ) (at : ℕ) → 1 ≤ length w → startsWith w (drop at s) ≡ true → at + length w ≤ length s
+word-fits w s at some t =
+    omega (arith, ap length (begins-drop w (drop at s) t), length-append w (drop (length w) (drop at s)), length-drop at s)
+
+-- what stands behind a piece at an offset
+pub behind : (s p r : List ℕ) (at : ℕ) → p ++ r ≡ drop at s → drop (at + length p) s ≡ r
+behind s p r at e = sym (drop-drop (length p) at s) ∙ ap (drop (length p)) (sym e) ∙ drop-append-seam p r
 
 pub name-back : (n r : List ℕ) → nameForm n ≡ true → stops inName r ≡ true → readName (n ++ r) ≡ got n r
 unfolding nameForm readName

@@ -47,17 +47,11 @@ sets-padded n l vs rest h =
     ∙ ap (λ r. l ++ r) (sets-front (replicate (length vs) 0) (replicate k 0 ++ rest) vs (length-replicate (length vs) 0))
     ∙ simp append-assoc
 
--- and so behind a front
-pub fill : (front : List ℕ) (n : ℕ) (l vs rest : List ℕ) (size at : ℕ) → length front ≡ size → at ≡ size + length l → length l + length vs ≤ n
-    → sets (front ++ (padded n l ++ rest)) at vs ≡ front ++ (padded n (l ++ vs) ++ rest)
-fill front n l vs rest size at e i h =
-    rw (i, ← e) (sets-past front (padded n l ++ rest) (length l) vs ∙ ap (λ r. front ++ r) (sets-padded n l vs rest h))
+pub joined-append : (xs ys : List (List ℕ)) → joined (xs ++ ys) ≡ joined xs ++ joined ys
+unfolding joined
+joined-append [] ys = refl
+joined-append (x ∷ xs) ys = rw (joined-append xs ys) (sym (append-assoc x (joined xs) (joined ys)))
 
 pub joined-snoc : (es : List (List ℕ)) (e : List ℕ) → joined (es ++ (e ∷ [])) ≡ joined es ++ e
 unfolding joined
-joined-snoc [] e = append-nil e
-joined-snoc (x ∷ es) e = rw (joined-snoc es e) (sym (append-assoc x (joined es) e))
-
-pub joined-none : joined [] ≡ []
-unfolding joined
-joined-none = refl
+joined-snoc es e = joined-append es (e ∷ []) ∙ ap (λ r. joined es ++ r) (append-nil e)

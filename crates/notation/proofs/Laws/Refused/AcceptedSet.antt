@@ -1,18 +1,14 @@
--- An accepted text is that of one set, which has no fault and fits the limits. The bytes that reading writes are that set's, and equal only
--- for equal texts.
+-- An accepted text is that of one set, which has no fault and fits the limits. The bytes of its set are equal only for equal texts.
 use Prim.Native.Nat.{ℕ}
 use mathlib.Core.Path.{_≡_, sym, ap, _∙_}
 use mathlib.Core.List.{List, [], _++_}
 use Rattle.notation.specs.Sets.{FolderSet}
-use Rattle.notation.specs.Print.{print}
 use Rattle.notation.specs.Form.{overBytes, faults}
 use Rattle.notation.specs.Accepted.{Accepted}
-use Rattle.notation.specs.Layout.{layout, setPart}
-use Rattle.notation.specs.Code.Emit.{partRead}
+use Rattle.notation.specs.Layout.{setPart}
 use Rattle.notation.specs.Reads.{textOf}
-use Rattle.notation.proofs.Laws.Form.SameSet.{print-same}
-use Rattle.notation.proofs.Laws.Scan.Complete.{tables-complete}
-use Rattle.notation.proofs.Laws.Scan.FaultNumbers.{no-fault}
+use Rattle.notation.proofs.Laws.Reading.Folders.{print-same}
+use Rattle.notation.proofs.Laws.Faults.Numbers.{no-fault}
 use Rattle.notation.proofs.Laws.Refused.Fitting.{Fitting}
 use Rattle.notation.proofs.Laws.Refused.WithinLimits.{fitting}
 use Rattle.notation.proofs.Laws.Stored.Words.{same-text}
@@ -28,12 +24,7 @@ module _ (text : List ℕ) (s : FolderSet) (a : Accepted text s) where
   pub accepted-fits : Fitting s
   accepted-fits = fitting s (a .well) (ap overBytes (a .prints) ∙ a .short) accepted-faultless (a .room)
 
-  -- the bytes that reading the text writes
-  pub part-accepted : partRead text ≡ setPart s
-  unfolding partRead setPart
-  part-accepted = rw (← a .prints) (ap (layout (print s)) (tables-complete s (a .well)))
-
-  -- they give the text back
+  -- the bytes of its set give the text back
   pub text-back : (rest : List ℕ) → textOf (setPart s ++ rest) ≡ text
   text-back rest = text-read s accepted-fits rest ∙ a .prints
 

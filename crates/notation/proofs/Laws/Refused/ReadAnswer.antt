@@ -8,13 +8,11 @@ use lib.ListN.{length, drop}
 use Rattle.text.specs.Refusals.{Refusal, shortBuffer, numberOf}
 use Rattle.notation.specs.Sets.{FolderSet}
 use Rattle.notation.specs.Accepted.{Accepted}
-use Rattle.notation.specs.Layout.{setSize}
+use Rattle.notation.specs.Layout.{setSize, setPart}
 use Rattle.notation.specs.Judged.{RefusedText, Verdict, refuses, accepts, Judged, verdictNumber}
 use Rattle.notation.specs.ReadSet.{ReadSet, readInto}
-use Rattle.notation.specs.Code.Scan.{scanRefusal}
-use Rattle.notation.specs.Code.Emit.{partRead}
+use Rattle.notation.specs.Code.Taking.{textRefusal}
 use Rattle.text.proofs.Laws.Numbers.{some-number}
-use Rattle.notation.proofs.Laws.Refused.AcceptedSet.{part-accepted}
 use Rattle.notation.proofs.Laws.Refused.Judging.{verdict-number}
 use Rattle.notation.proofs.Laws.Refused.Answers.{short-is, refused-is, accepted-is}
 
@@ -24,19 +22,20 @@ module _ (text before : List ℕ) where
   read-short h = record { short = λ _. (refl, refl); judged = λ k. absurd (omega arith) }
 
   module _ (h : setSize ≤ length before) where
-    pub read-refused : (n : ℕ) → n ≡ scanRefusal text → (n ≡ 0 → ⊥) → ReadSet text before n before
+    pub read-refused : (n : ℕ) → n ≡ textRefusal text → (n ≡ 0 → ⊥) → ReadSet text before n before
     read-refused n e some = record { short = λ k. absurd (omega arith); judged = λ _. go }
       where
         go : (v : Verdict) → Judged text v → (n ≡ verdictNumber v) × (before ≡ readInto v before)
         go (refuses r) j = (e ∙ verdict-number text (refuses r) j, refl)
         go (accepts s) a = absurd (some (e ∙ verdict-number text (accepts s) a))
 
-    pub read-filled : (after : List ℕ) → scanRefusal text ≡ 0 → after ≡ partRead text ++ drop setSize before → ReadSet text before 0 after
+    pub read-filled : (after : List ℕ) → textRefusal text ≡ 0
+        → ((s : FolderSet) → Accepted text s → after ≡ setPart s ++ drop setSize before) → ReadSet text before 0 after
     read-filled after z e = record { short = λ k. absurd (omega arith); judged = λ _. go }
       where
         go : (v : Verdict) → Judged text v → (0 ≡ verdictNumber v) × (after ≡ readInto v before)
         go (refuses r) j = absurd (some-number r (sym (verdict-number text (refuses r) j) ∙ z))
-        go (accepts s) a = (refl, e ∙ ap (λ (l : List ℕ). l ++ drop setSize before) (part-accepted text s a))
+        go (accepts s) a = (refl, e s a)
 
   -- each number exactly on its condition
   module _ (answer : ℕ) (after : List ℕ) (t : ReadSet text before answer after) where

@@ -10,7 +10,7 @@ use Rattle.notation.specs.Sets.{FolderSet}
 use Rattle.notation.specs.Form.{OfForm, overBytes, numbersFall, namesLong, pathsLong, overLimits, faults}
 use Rattle.notation.specs.Accepted.{Accepted}
 use Rattle.notation.specs.Judged.{RefusedText, overLong, notOfForm, faulty, overfull, Verdict, refuses, accepts, Judged}
-use Rattle.notation.proofs.Laws.Scan.FaultNumbers.{fault-among, turn-fault, name-fault, path-fault, no-fault}
+use Rattle.notation.proofs.Laws.Faults.Numbers.{fault-among, turn-fault, name-fault, path-fault, no-fault}
 use Rattle.notation.proofs.Laws.Refused.Judging.{some-verdict, only-verdict}
 
 module _ (text : List ℕ) where

@@ -16,7 +16,7 @@ use Rattle.notation.specs.Form.{formedPath, formedFolder, formed, pathsO
 use Rattle.notation.specs.Print.{print}
 use Rattle.text.proofs.Laws.Tests.{and-left, and-right, or-left, or-right}
 use Rattle.notation.proofs.Laws.Stored.FolderTable.{noFolder}
-use Rattle.notation.proofs.Laws.Stored.LabelTable.{steps-append}
+use Rattle.notation.proofs.Laws.Parts.{steps-append}
 use Rattle.notation.proofs.Laws.Refused.Fitting.{Fitting}
 
 -- the parts of an empty list are empty

@@ -9,6 +9,7 @@ use Rattle.notation.specs.Sets.{Axis, child, label, star, Step, step, Pa
 use Rattle.notation.specs.Form.{pathsOf, stepsOf, labelsOf}
 use Rattle.notation.specs.Print.{printAxis, printStep, printPath, printPaths, printFolder, printFolders, print}
 use Rattle.notation.specs.Layout.{labelSize, labelEntry, pathLabels, labelTable, afterNumber, setLabels}
+use Rattle.notation.proofs.Laws.Parts.{steps-append}
 use Rattle.notation.proofs.Laws.Stored.Stands.{Stands, right}
 use Rattle.notation.proofs.Laws.Stored.Entries.{OfWidth, none, more}
 use Rattle.notation.proofs.Laws.Stored.Placed.{step-in, steps-past, path-in, paths-past, line-paths, lines-past, lines-in}
@@ -104,11 +105,6 @@ line-rows at k [] s = empty
 line-rows at k (p ∷ ps) s =
     rows-append (steps-rows (at + 2) k p (path-in at p ps s))
     (line-rows (at + (length (printPath p) + 3)) (k + length p) ps (paths-past at p ps s))
-
-pub steps-append : (ps qs : List Path) → stepsOf (ps ++ qs) ≡ stepsOf ps ++ stepsOf qs
-unfolding stepsOf
-steps-append [] qs = refl
-steps-append (p ∷ ps) qs = ap (λ (l : List Step). p ++ l) (steps-append ps qs) ∙ sym (append-assoc p (stepsOf ps) (stepsOf qs))
 
 lines-rows : {text : List ℕ} (at k : ℕ) (fs : FolderSet) → Stands at (printFolders fs) text → LabelRows text k (stepsOf (pathsOf fs)) (setLabels at k fs)
 unfolding pathsOf stepsOf setLabels

@@ -19,5 +19,4 @@ returns : tie.Need-returns
 returns c = c .before .before .put16 .ensures ∙ rw (c .before .before .before .before .before .before .put-pair2 .ensures, c .before .before .before .before .before .before .before .before .before .before .put-pair .ensures)
 
 pub put-counts-spec : {M : Type 1} → statement M
-put-counts-spec =
-    tie.close (tie.spec put-pair-requires put-pair-requires-2 put16-requires same-length returns)
+put-counts-spec = tie.close (tie.spec put-pair-requires put-pair-requires-2 put16-requires same-length returns)

@@ -7,7 +7,7 @@ use mathlib.Core.List.{List, [], _∷_}
 use lib.ListN.{length, getD, drop, length-drop, drop-of-length-le}
 use lib.Seq.{getD-drop, drop-drop}
 use native.Mathlib.Nat.{add-zero}
-use Rattle.text.proofs.Laws.Reads.{word-is}
+use Rattle.text.proofs.Laws.Reads.{word-is, word-fits}
 use Rattle.reports.specs.declared.tags.Reach.{Reach}
 use Rattle.reports.specs.declared.tags.Reach.the-variants.{No, To}
 use Rattle.reports.specs.declared.tokens.Found.the-variants.{Nothing, Comment}
@@ -16,7 +16,7 @@ use Rattle.text.specs.Read.{startsWith, Read, fail, got, thenRead, when, readWo
 use Rattle.documents.specs.Reading.{readContents, readComment}
 use Rattle.reports.specs.Code.Reaches.{reachOf}
 use Rattle.reports.specs.Seen.{foundOf}
-use Rattle.reports.proofs.Laws.Read.Reaches.{word-fits, never}
+use Rattle.reports.proofs.Laws.Read.Reaches.{never}
 use Rattle.reports.proofs.Laws.Read.Values.{reach-map}
 
 contents-open : (l : List ℕ) → 1 ≤ length l
@@ -43,7 +43,7 @@ module _ (s : List ℕ) (i : ℕ) where
   pub close-to : i < length s → startsWith (45 ∷ 45 ∷ []) (drop i s) ≡ true → startsWith (45 ∷ 45 ∷ 62 ∷ []) (drop i s) ≡ true → To (i + 3) ≡ Contents s i
   close-to h d g =
       rw (open-at h, d, word-is (45 ∷ 45 ∷ 62 ∷ []) (drop i s), g)
-      (ap To (omega (arith, word-fits s i (omega arith) (45 ∷ 45 ∷ 62 ∷ []) g, length-drop 3 (drop i s), length-drop i s)))
+      (ap To (omega (arith, word-fits (45 ∷ 45 ∷ 62 ∷ []) s i (omega arith) g, length-drop 3 (drop i s), length-drop i s)))
 
   pub close-no : i < length s → startsWith (45 ∷ 45 ∷ []) (drop i s) ≡ true → startsWith (45 ∷ 45 ∷ 62 ∷ []) (drop i s) ≡ false → No ≡ Contents s i
   close-no h d g = rw (open-at h, d, word-is (45 ∷ 45 ∷ 62 ∷ []) (drop i s), g)
@@ -55,7 +55,7 @@ module _ (s : List ℕ) (i : ℕ) where
   onwards h d g = ap (reachOf (length s)) (open-at h) ∙ rw (d, g) (reach-map (length s) (readContents (drop (i + 1) s)) (λ c. getD s i 0 ∷ c))
 
   pub close-fits : startsWith (45 ∷ 45 ∷ 62 ∷ []) (drop i s) ≡ true → i ≤ length s → i + 3 ≤ length s
-  close-fits g h = word-fits s i h (45 ∷ 45 ∷ 62 ∷ []) g
+  close-fits g h = word-fits (45 ∷ 45 ∷ 62 ∷ []) s i (omega arith) g
 
   pub unclosed : length s ≤ i → No ≡ Contents s i
   unfolding readContents
@@ -76,7 +76,7 @@ module _ (s : List ℕ) (at : ℕ) (h : at + 2 ≤ length s) where
 
   module _ (t : startsWith (45 ∷ 45 ∷ []) (drop (at + 2) s) ≡ true) where
     pub comment-bound : at + 2 + 2 ≤ length s
-    comment-bound = word-fits s (at + 2) h (45 ∷ 45 ∷ []) t
+    comment-bound = word-fits (45 ∷ 45 ∷ []) s (at + 2) (omega arith) t
 
     opened : readComment (drop (at + 2) s) ≡ thenRead (readContents (drop (at + 2 + 2) s)) (λ c r. got (comment c) r)
     unfolding readComment

@@ -15,8 +15,7 @@ use Rattle.text.specs.Read.{startsWith}
 use Rattle.documents.specs.Reading.{readTag, readEndTag, readComment, readMarkup, readText, readToken}
 use Rattle.reports.specs.Seen.{foundOf}
 use Rattle.reports.specs.Code.Seen.{declarationAt}
-use Rattle.reports.proofs.Laws.Read.Reaches.{word-fits}
-use Rattle.text.proofs.Laws.Reads.{word-is}
+use Rattle.text.proofs.Laws.Reads.{word-is, word-fits}
 
 declaration-length : length declarationBytes ≡ 21
 unfolding declarationBytes
@@ -29,7 +28,7 @@ module _ (s : List ℕ) (at : ℕ) where
   pub declared-to : at ≤ length s → startsWith declarationBytes (drop at s) ≡ true → Declaration (at + 21) ≡ declarationAt s at
   declared-to h t =
       rw (word-is declarationBytes (drop at s), t)
-      (ap Declaration (omega (arith, word-fits s at h declarationBytes t, length-drop (length declarationBytes) (drop at s), length-drop at s, declaration-length)))
+      (ap Declaration (omega (arith, word-fits declarationBytes s at (omega (arith, declaration-length)) t, length-drop (length declarationBytes) (drop at s), length-drop at s, declaration-length)))
 
   pub declared-no : startsWith declarationBytes (drop at s) ≡ false → Nothing ≡ declarationAt s at
   declared-no f = rw (word-is declarationBytes (drop at s), f)

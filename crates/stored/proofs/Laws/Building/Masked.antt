@@ -18,7 +18,8 @@ use Rattle.notation.specs.declared.reads.PathAt.{PathAt}
 use Rattle.notation.specs.declared.reads.StepAt.{StepAt}
 use Rattle.notation.proofs.Laws.Refused.Fitting.{Fitting}
 use Rattle.notation.proofs.Laws.Stored.Reads.{paths-read}
-use Rattle.notation.proofs.Laws.Stored.LabelTable.{noStep, steps-append}
+use Rattle.notation.proofs.Laws.Stored.LabelTable.{noStep}
+use Rattle.notation.proofs.Laws.Parts.{steps-append}
 use Rattle.notation.proofs.Laws.Stored.ReadSteps.{step-read}
 use Rattle.notation.proofs.Laws.Stored.ReadPaths.{path-read}
 use Rattle.stored.specs.Automaton.{maskSize, allSteps, Link, Role, role, rolesFrom, rolesIn, roles, masks, bitBytes, byteOf, assembled, maskCount, allMasks}

@@ -9,7 +9,7 @@ use lib.ListN.{length, getD, length-append}
 use Rattle.text.specs.Names.{Name}
 use Rattle.notation.specs.Sets.{child, descendant, label, star, step, Path, FolderSet}
 use Rattle.notation.specs.Form.{pathsOf, stepsOf, labelsOf}
-use Rattle.notation.proofs.Laws.Scan.TableSizes.{labels-append}
+use Rattle.notation.proofs.Laws.Parts.{labels-append}
 use Rattle.model.specs.Words.{document, name, Word, sameSymbol, before, labelWords, Begins, begins}
 use Rattle.model.specs.Prefix.{IsPrefix}
 use Rattle.model.specs.Walk.{followedBy}
