@@ -7,7 +7,7 @@ use denote.Steps.{only}
 use denote.Struct.Laws as LL
 use denote.Triple.Spec.{tripleOf}
 use denote.Triple.Table.{entered, cited}
-use mir.Syntax.{tyInt, w8}
+use mir.Syntax.{tyInt, w8, imm, mut}
 use mir.Val.{vint}
 use denote.Plain.{uint-makes, uint-lawful}
 use denote.Builtin.{u8}
@@ -29,9 +29,10 @@ unfolding code.routine tablesOf
 close-spec 𝓤 H 𝓜 𝓖 𝓡 =
     entered 𝓤 H (tripleOf 𝓤 H (𝓖 .A) own.signature (own.spec 𝓤 H (𝓖 .A) (𝓜 .mem) (𝓡 .run)))
     (tables 𝓤 H 𝓜 𝓡 code.env .C) (tables 𝓤 H 𝓜 𝓡 code.env .Λ) #own code.function (code.unfolded 𝓤 H 𝓜 𝓡)
-    (lent-meets u8 S.the-row (tyInt w8) (S.struct .name) #callee (λ r. r .refusal) (λ r. r .counters) (λ r. vint w8 (r .refusal)) Closes
-    (λ r v is. uint-lawful 𝓤 H (𝓖 .A) (givenOf 𝓤 H 𝓜 𝓖) w8 .typed r (v ∷ []) is .0)
-    (λ r v is. LL.lawful S.the-type S′.the-laws 𝓤 H (𝓖 .A) (givenOf 𝓤 H 𝓜 𝓖) .typed r (v ∷ []) is .0)
+    (lent-meets (imm ∷ mut ∷ []) (imm ∷ []) u8 S.the-row (tyInt w8) (S.struct .name) #callee (λ r. r .refusal) (λ r. r .counters) (λ r. vint w8 (r .refusal))
+    (λ a r z. Closes (a .0 .now) (a .1 .0 .now) (a .1 .1 .0) (a .1 .1 .1 .0 .now) r (z .1 .0 .now) (z .1 .1 .0))
+    (λ r v is. uint-lawful 𝓤 H (𝓖 .A) (givenOf 𝓤 H 𝓜 𝓖) w8 .typed r (v ∷ []) is)
+    (λ r v is. LL.lawful S.the-type S′.the-laws 𝓤 H (𝓖 .A) (givenOf 𝓤 H 𝓜 𝓖) .typed r (v ∷ []) is)
     (λ r v is. ap only (LL.tells S.the-type S′.the-laws r (v ∷ []) is))
     (λ r v is. LL.owed S.the-type S′.the-laws r (v ∷ []) is .0)
     (λ r v is. LL.owed S.the-type S′.the-laws r (v ∷ []) is .1 .0)

@@ -8,6 +8,7 @@ use denote.Struct.Laws as LL
 use denote.Triple.Spec.{tripleOf}
 use denote.Triple.Table.{entered, cited}
 use denote.Enum.Laws as EL
+use mir.Syntax.{imm, mut}
 use Rattle.stored.proofs.answers.Opened as O
 use Rattle.stored.proofs.answers.Opened.Laws as O′
 use Rattle.stored.specs.RunContracts.{Opens}
@@ -28,9 +29,10 @@ unfolding code.routine tablesOf
 open-spec 𝓤 H 𝓜 𝓖 𝓡 =
     entered 𝓤 H (tripleOf 𝓤 H (𝓖 .A) own.signature (own.spec 𝓤 H (𝓖 .A) (𝓜 .mem) (𝓡 .run)))
     (tables 𝓤 H 𝓜 𝓡 code.env .C) (tables 𝓤 H 𝓜 𝓡 code.env .Λ) #own code.function (code.unfolded 𝓤 H 𝓜 𝓡)
-    (lent-meets O.the-row S.the-row O′.mir (S.struct .name) #callee (λ r. r .answer) (λ r. r .counters) (λ r. only (EL.vals O.the-type O′.the-laws (r .answer))) Opens
-    (λ r v is. EL.lawful O.the-type O′.the-laws 𝓤 H (𝓖 .A) (givenOf 𝓤 H 𝓜 𝓖) tt .typed r (v ∷ []) is .0)
-    (λ r v is. LL.lawful S.the-type S′.the-laws 𝓤 H (𝓖 .A) (givenOf 𝓤 H 𝓜 𝓖) .typed r (v ∷ []) is .0)
+    (lent-meets (imm ∷ mut ∷ []) (imm ∷ []) O.the-row S.the-row O′.mir (S.struct .name) #callee (λ r. r .answer) (λ r. r .counters) (λ r. only (EL.vals O.the-type O′.the-laws (r .answer)))
+    (λ a r z. Opens (a .0 .now) (a .1 .0 .now) (a .1 .1 .0) (a .1 .1 .1 .0 .now) r (z .1 .0 .now) (z .1 .1 .0))
+    (λ r v is. EL.lawful O.the-type O′.the-laws 𝓤 H (𝓖 .A) (givenOf 𝓤 H 𝓜 𝓖) tt .typed r (v ∷ []) is)
+    (λ r v is. LL.lawful S.the-type S′.the-laws 𝓤 H (𝓖 .A) (givenOf 𝓤 H 𝓜 𝓖) .typed r (v ∷ []) is)
     (λ r v is. ap only (LL.tells S.the-type S′.the-laws r (v ∷ []) is))
     (λ r v is. LL.owed S.the-type S′.the-laws r (v ∷ []) is .0)
     (λ r v is. LL.owed S.the-type S′.the-laws r (v ∷ []) is .1 .0)
