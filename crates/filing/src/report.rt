@@ -18,6 +18,8 @@ use text::refusals::NOT_ONE_ROOT;
 use text::refusals::SYNTAX_ERROR;
 use text::refusals::TOO_LARGE;
 ghost use mathlib.Core.Path.{_≡_};
+ghost use mathlib.Core.Bool.{true};
+ghost use Rattle.text.specs.Names.{nameForm};
 ghost use mathlib.Core.List.{[]};
 ghost use Prim.Native.Nat.{_≤_, _<_};
 ghost use lib.ListN.{length, drop};
@@ -33,7 +35,7 @@ ghost use Rattle.reports.specs.Code.Seen.{tagName};
 ghost use Rattle.filing.specs.Filing.{Outcome, filed, andThen};
 ghost use Rattle.filing.specs.ReportRefusals.{storedMachine, Files};
 ghost use Rattle.filing.specs.Code.Filing.{fileReport};
-ghost use Rattle.filing.specs.Code.Taking.{Answered, Taking, Leaves, fileOpen, fileClose, fileText, fileFound, fileLast, noTokenAt, runFrom};
+ghost use Rattle.filing.specs.Code.Taking.{Named, Answered, Taking, Leaves, fileOpen, fileClose, fileText, fileFound, fileLast, noTokenAt, runFrom};
 
 // What calls answer: the refusal, 0 for none, and the counters after them.
 pub struct Taken {
@@ -66,7 +68,7 @@ fn of_open(answer: Opened, c: Counters) -> Taken
 }
 
 fn take_open(a: &[u8], run: &mut [u8], c: Counters, e: &[u8]) -> Taken
-    requires { ⌜ Usable (now a) (now run) c ⌝ }
+    requires { ⌜ (Usable (now a) (now run) c) × (nameForm (now e) ≡ true) ⌝ }
     ensures { λ r. ⌜ Taking (now (a .entry)) (now (run .entry)) (fileOpen (now (a .entry)) (record { bytes = now (run .entry); counters = c }) (now (e .entry))) (r .refusal) (now (run .exit)) (r .counters) ⌝ }
 {
     let done = open_usable(a, run, c, e);
@@ -76,7 +78,7 @@ fn take_open(a: &[u8], run: &mut [u8], c: Counters, e: &[u8]) -> Taken
 }
 
 fn take_close(a: &[u8], run: &mut [u8], c: Counters, e: &[u8]) -> Taken
-    requires { ⌜ Usable (now a) (now run) c ⌝ }
+    requires { ⌜ (Usable (now a) (now run) c) × (nameForm (now e) ≡ true) ⌝ }
     ensures { λ r. ⌜ Taking (now (a .entry)) (now (run .entry)) (fileClose (now (a .entry)) (record { bytes = now (run .entry); counters = c }) (now (e .entry))) (r .refusal) (now (run .exit)) (r .counters) ⌝ }
 {
     let done = close_usable(a, run, c, e);
@@ -89,7 +91,7 @@ fn take_close(a: &[u8], run: &mut [u8], c: Counters, e: &[u8]) -> Taken
 
 // An empty-element tag: an open and a close.
 fn take_empty(a: &[u8], run: &mut [u8], c: Counters, e: &[u8]) -> Taken
-    requires { ⌜ Usable (now a) (now run) c ⌝ }
+    requires { ⌜ (Usable (now a) (now run) c) × (nameForm (now e) ≡ true) ⌝ }
     ensures { λ r. ⌜ Taking (now (a .entry)) (now (run .entry)) (andThen (fileOpen (now (a .entry)) (record { bytes = now (run .entry); counters = c }) (now (e .entry))) (λ t. fileClose (now (a .entry)) t (now (e .entry)))) (r .refusal) (now (run .exit)) (r .counters) ⌝ }
 {
     let opened = take_open(a, run, c, e);
@@ -121,7 +123,7 @@ fn take_text(run: &[u8], c: Counters, all: bool) -> Taken
 
 // One token, by what it is; e is its tag's name.
 fn take_token(a: &[u8], run: &mut [u8], c: Counters, f: Found, e: &[u8]) -> Taken
-    requires { ⌜ Usable (now a) (now run) c ⌝ }
+    requires { ⌜ (Usable (now a) (now run) c) × (Named f (now e)) ⌝ }
     ensures { λ r. ⌜ Taking (now (a .entry)) (now (run .entry)) (fileFound (now (a .entry)) (record { bytes = now (run .entry); counters = c }) f (now (e .entry))) (r .refusal) (now (run .exit)) (r .counters) ⌝ }
 {
     match f {
@@ -158,7 +160,7 @@ fn take_token(a: &[u8], run: &mut [u8], c: Counters, f: Found, e: &[u8]) -> Take
 
 // Nothing more is taken once a token was refused.
 fn take_next(a: &[u8], run: &mut [u8], before: Taken, f: Found, e: &[u8]) -> Taken
-    requires { ⌜ (before .refusal ≡ 0 → Usable (now a) (now run) (before .counters)) ⌝ }
+    requires { ⌜ (before .refusal ≡ 0 → Usable (now a) (now run) (before .counters)) × (Named f (now e)) ⌝ }
     ensures { λ r. ⌜ ((o : Outcome Left) → Answered o (before .refusal) (now (run .entry)) (before .counters) → Taking (now (a .entry)) (now (run .entry)) (andThen o (λ t. fileFound (now (a .entry)) t f (now (e .entry)))) (r .refusal) (now (run .exit)) (r .counters)) ⌝ }
 {
     if before.refusal != 0 {

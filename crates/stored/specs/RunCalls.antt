@@ -116,9 +116,9 @@ noCounters = record { opens = 0; closes = 0; moves = 0 }
 
 -- what an accepted open leaves
 
--- bytes of a row of bits that the automaton's steps use
+-- bytes of a row of bits that the automaton's steps use, in whole blocks of sixteen
 abbrev pub usedBytes : List ℕ → ℕ
-usedBytes a = (stepCount a + 7) / 8
+usedBytes a = 16 * ((stepCount a + 127) / 128)
 
 -- step i takes e: it is `*`, or one of the labels of that name
 unfoldable pub candidate : List ℕ → Name → ℕ → Bool

@@ -5,6 +5,7 @@ pub mod FilingAdded
 pub mod FilingChildless
 pub mod FilingMoves
 pub mod Demand2
+pub mod Named
 pub mod Taking
 pub mod FilingStored
 pub mod FilingAlike

@@ -1,10 +1,10 @@
 -- What the calls of a report's tokens answer, by what the code says of each token (follows the code; laws tie it to the tokens' events).
 use Prim.Native.Nat.{ℕ}
 use mathlib.Core.Path.{_≡_}
-use mathlib.Core.Bool.{Bool, not, _&&_, _||_}
+use mathlib.Core.Bool.{Bool, true, not, _&&_, _||_}
 use mathlib.Core.List.{List, [], _∷_}
 use lib.Dec.{eqb, leb}
-use Rattle.text.specs.Names.{Name}
+use Rattle.text.specs.Names.{Name, nameForm}
 use Rattle.text.specs.Refusals.{syntaxError, notOneRoot, numberOf}
 use Rattle.text.specs.Order.{gives, first}
 use Rattle.stored.specs.RunCalls.{depthOf, startRun}
@@ -50,6 +50,16 @@ abbrev pub fileText : Left → Bool → Outcome Left
 fileText t all = unless (first (gives (eqb (depthOf (t .bytes)) 0 && not all) notOneRoot ∷ [])) t
 
 -- the calls of one token, with its tag's name
+-- a tag's name has name form
+abbrev pub Named : Found → Name → Type 0
+Named Nothing e = Unit {0}
+Named (Declaration end) e = Unit {0}
+Named (Comment end) e = Unit {0}
+Named (Start from to end) e = nameForm e ≡ true
+Named (Empty from to end) e = nameForm e ≡ true
+Named (End from to end) e = nameForm e ≡ true
+Named (Text end all) e = Unit {0}
+
 abbrev pub fileFound : List ℕ → Left → Found → Name → Outcome Left
 fileFound a t Nothing e = filed t
 fileFound a t (Declaration end) e = filed t

@@ -8,10 +8,14 @@ use crate::run::rows;
 use crate::run::shape;
 use stored::answers::ClosedBy;
 use stored::counters::Counters;
+use text::names::name_form;
+use text::refusals::SYNTAX_ERROR;
 use text::store::put16;
 ghost use mathlib.Core.Path.{_≡_};
 ghost use Prim.Native.Nat.{_≤_, _<_};
 ghost use lib.ListN.{length};
+ghost use mathlib.Core.Bool.{true};
+ghost use Rattle.text.specs.Names.{nameForm};
 ghost use Rattle.model.specs.Limits.{maxDepth};
 ghost use Rattle.stored.specs.RunContracts.{Closes};
 ghost use Rattle.stored.specs.Usable.{Usable};
@@ -31,9 +35,9 @@ fn close_on(run: &mut [u8])
     put16(run, DEPTH_AT, d - 1);
 }
 
-// The close, for callers that know that automaton, run and counters pass the shape test.
+// The close, for callers that know that automaton, run and counters pass the shape test, and that the name has name form.
 pub fn close_usable(a: &[u8], run: &mut [u8], counters: Counters, e: &[u8]) -> ClosedBy
-    requires { ⌜ Usable (now a) (now run) counters ⌝ }
+    requires { ⌜ (Usable (now a) (now run) counters) × (nameForm (now e) ≡ true) ⌝ }
     ensures { λ r. ⌜ Closes (now (a .entry)) (now (run .entry)) counters (now (e .entry)) (r .refusal) (now (run .exit)) (r .counters) ⌝ }
 {
     let refused = refusals::close_others(a, run, e);
@@ -58,6 +62,12 @@ pub fn close_by(a: &[u8], run: &mut [u8], counters: Counters, e: &[u8]) -> Close
     if refused != 0 {
         return ClosedBy {
             refusal: refused,
+            counters: counters,
+        };
+    }
+    if !name_form(e) {
+        return ClosedBy {
+            refusal: SYNTAX_ERROR,
             counters: counters,
         };
     }

@@ -16,13 +16,16 @@ use stored::answers::Opened;
 use stored::answers::OpenedBy;
 use stored::counters::Counters;
 use stored::walk::Walk;
+use text::names::name_form;
+use text::refusals::SYNTAX_ERROR;
 use text::store::copy;
 use text::store::put16;
 ghost use mathlib.Core.Path.{_≡_};
 ghost use Prim.Native.Nat.{suc, _≤_, _<_};
 ghost use mathlib.Core.List.{_∷_, _++_};
 ghost use lib.ListN.{length};
-ghost use Rattle.text.specs.Names.{maxName};
+ghost use mathlib.Core.Bool.{true};
+ghost use Rattle.text.specs.Names.{maxName, nameForm};
 ghost use Rattle.notation.specs.Limits.{maxSteps};
 ghost use Rattle.text.specs.Bytes.{le16, padded};
 ghost use Rattle.model.specs.Limits.{maxDepth};
@@ -81,9 +84,9 @@ fn open_on(a: &[u8], run: &mut [u8], e: &[u8]) -> Walk
     walked
 }
 
-// The open, for callers that know that automaton, run and counters pass the shape test.
+// The open, for callers that know that automaton, run and counters pass the shape test, and that the name has name form.
 pub fn open_usable(a: &[u8], run: &mut [u8], counters: Counters, e: &[u8]) -> OpenedBy
-    requires { ⌜ Usable (now a) (now run) counters ⌝ }
+    requires { ⌜ (Usable (now a) (now run) counters) × (nameForm (now e) ≡ true) ⌝ }
     ensures { λ r. ⌜ Opens (now (a .entry)) (now (run .entry)) counters (now (e .entry)) (r .answer) (now (run .exit)) (r .counters) ⌝ }
 {
     let refused = refusals::open_others(run, counters, e);
@@ -109,6 +112,12 @@ pub fn open_by(a: &[u8], run: &mut [u8], counters: Counters, e: &[u8]) -> Opened
     if refused != 0 {
         return OpenedBy {
             answer: Opened::Refused(refused),
+            counters: counters,
+        };
+    }
+    if !name_form(e) {
+        return OpenedBy {
+            answer: Opened::Refused(SYNTAX_ERROR),
             counters: counters,
         };
     }

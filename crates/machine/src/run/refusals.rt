@@ -16,10 +16,11 @@ use text::refusals::NOT_FOUND;
 use text::refusals::NOT_ONE_ROOT;
 use text::refusals::OVER_CAPACITY;
 use text::refusals::SHORT_BUFFER;
-use text::refusals::SYNTAX_ERROR;
 use text::refusals::TOO_DEEP;
 ghost use mathlib.Core.Path.{_≡_};
 ghost use Prim.Native.Nat.{_≤_};
+ghost use mathlib.Core.Bool.{true};
+ghost use Rattle.text.specs.Names.{nameForm};
 ghost use Rattle.text.specs.Order.{given};
 ghost use Rattle.stored.specs.RunCalls.{depthOf, rootClosed, nameConditions, openOthers, closeOthers};
 ghost use Rattle.stored.specs.Asking.{askRefusal, RowName};
@@ -35,13 +36,11 @@ pub fn stored_name<'a, 'r>(a: &'a [u8], run: &'r [u8], d: usize) -> &'r [u8]
     &run[from..to]
 }
 
-// 9, 5, which are next.
-fn form_refusal(e: &[u8]) -> u8
+// 5, which is next of a name of name form.
+fn length_refusal(e: &[u8]) -> u8
+    requires { ⌜ nameForm (now e) ≡ true ⌝ }
     ensures { λ r. ⌜ r ≡ given (nameConditions (now (e .entry))) ⌝ }
 {
-    if !names::name_form(e) {
-        return SYNTAX_ERROR;
-    }
     if names::too_long(e) {
         return NAME_TOO_LONG;
     }
@@ -58,11 +57,12 @@ fn root_closed(run: &[u8], c: Counters) -> bool
     shape::depth(run) == 0
 }
 
-// An open's others: 9, 5, 10, 11, 7.
+// An open's others, of a name of name form: 5, 10, 11, 7.
 pub fn open_others(run: &[u8], c: Counters, e: &[u8]) -> u8
+    requires { ⌜ nameForm (now e) ≡ true ⌝ }
     ensures { λ r. ⌜ r ≡ given (openOthers (now (run .entry)) c (now (e .entry))) ⌝ }
 {
-    let first = form_refusal(e);
+    let first = length_refusal(e);
     if first != 0 {
         return first;
     }
@@ -78,12 +78,12 @@ pub fn open_others(run: &[u8], c: Counters, e: &[u8]) -> u8
     0
 }
 
-// A close's others: 9, 5, 10, 12.
+// A close's others, of a name of name form: 5, 10, 12.
 pub fn close_others(a: &[u8], run: &[u8], e: &[u8]) -> u8
-    requires { ⌜ Ready (now a) (now run) ⌝ }
+    requires { ⌜ (Ready (now a) (now run)) × (nameForm (now e) ≡ true) ⌝ }
     ensures { λ r. ⌜ r ≡ given (closeOthers (now (run .entry)) (now (e .entry))) ⌝ }
 {
-    let first = form_refusal(e);
+    let first = length_refusal(e);
     if first != 0 {
         return first;
     }

@@ -26,11 +26,11 @@ ghost use Rattle.stored.specs.Run.{runSize};
 ghost use Rattle.stored.specs.RunCalls.{maskBit, shifted, permitted, seenAt, matchedAt, usedBytes};
 ghost use Rattle.stored.specs.Code.OpenSteps.{takenActive, takenSeen, takenMatched};
 
-// Bytes of a row of bits that the automaton's steps use.
+// Bytes of a row of bits that the automaton's steps use, in whole blocks of sixteen: a loop over them has no odd end.
 pub fn used_bytes(a: &[u8]) -> usize
     ensures { λ r. ⌜ r ≡ usedBytes (now (a .entry)) ⌝ }
 {
-    (reads::steps(a) + 7) / 8
+    16 * ((reads::steps(a) + 127) / 128)
 }
 
 fn narrow(b: usize) -> u8

@@ -21,6 +21,10 @@ module _ (ok : ℕ → Bool) (s : List ℕ) (i : ℕ) where
   unfolding every
   every-yes h e = ap (every ok) (drop-cons s i 0 h) ∙ ap (λ (t : Bool). t && every ok (drop (suc i) s)) e
 
+  pub every-at : i < length s → every ok (drop i s) ≡ (ok (getD s i 0) && every ok (drop (suc i) s))
+  unfolding every
+  every-at h = ap (every ok) (drop-cons s i 0 h)
+
   pub every-end : length s ≤ i → every ok (drop i s) ≡ true
   unfolding every
   every-end h = ap (every ok) (drop-of-length-le s h)

@@ -1,3 +1,4 @@
+use Rattle.filing.proofs.Laws.Filing.Named.{named-token}
 use Rattle.reports.proofs.Laws.Read.TagName.{spans}
 use borrow.Author.Needs.{needs}
 use Rattle.filing.proofs.report.take_at.Statement.{statement}
@@ -22,7 +23,11 @@ part-take-next-end c =
     spans (args .s .now) (args .at) _ _ (args .f) (c .before .before .before .before .before .pre .0) (c .before .name-span .ensures .0) (c .before .name-span .ensures .1) .cut .high
 
 take-next-requires : tie.Need-take-next-requires
-take-next-requires c κs = c .before .before .before .before .before .before .pre .1
+take-next-requires c κs =
+    let p = c .before .before .before .before .before .before in
+    let args = p .args in
+    let cut = spans (args .s .now) (args .at) _ _ (args .f) (p .pre .0) (c .before .before .name-span .ensures .0) (c .before .before .name-span .ensures .1) .cut in
+    (p .pre .1, rw (cut .part) (named-token (args .s .now) (args .at) (args .f) (p .pre .0)))
 
 same-length : tie.Need-same-length
 same-length c = search needs

@@ -10,7 +10,7 @@ same-length : tie.Need-same-length
 same-length c = search needs
 
 returns : tie.Need-returns
-returns c = close-taken _ _ _ _ (c .before .before .before .before .before .before .before .before .pre) _ _ _ (c .before .before .before .close-usable .ensures)
+returns c = close-taken _ _ _ _ (c .before .before .before .before .before .before .before .before .pre .0) _ _ _ (c .before .before .before .close-usable .ensures)
 
 pub take-close-spec : {M : Type 1} → statement M
 take-close-spec = tie.close (tie.spec close-usable-requires same-length returns)

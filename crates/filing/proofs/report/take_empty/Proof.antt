@@ -13,7 +13,9 @@ returns : tie.Need-returns
 returns c = taken-stops _ _ _ _ _ _ _ (c .before .before .before .before .take-open .ensures) (c .if1 .taken)
 
 take-close-requires : tie.Need-take-close-requires
-take-close-requires c κs = opened-usable _ _ _ _ _ _ _ (c .before .before .before .before .before .before .take-open .ensures) (c .before .before .before .before .before .before .before .before .before .before .before .pre) (c .before .before .if1 .left)
+take-close-requires c κs =
+    let p = c .before .before .before .before .before .before .before .before .before .before .before in
+    (opened-usable _ _ _ _ _ _ _ (c .before .before .before .before .before .before .take-open .ensures) (p .pre .0) (c .before .before .if1 .left), p .pre .1)
 
 same-length-2 : tie.Need-same-length-2
 same-length-2 c = search needs

@@ -7,7 +7,7 @@ returns : tie.Need-returns
 returns c = λ o t. taken-here _ _ _ _ _ (stops o _ _ _ t _ (c .if1 .taken))
 
 take-token-requires : tie.Need-take-token-requires
-take-token-requires c κs = c .before .before .before .before .before .before .before .pre (c .before .before .if1 .left)
+take-token-requires c κs = (c .before .before .before .before .before .before .before .pre .0 (c .before .before .if1 .left), c .before .before .before .before .before .before .before .pre .1)
 
 same-length : tie.Need-same-length
 same-length c = search needs

@@ -15,7 +15,7 @@ same-length c = search needs
 returns : tie.Need-returns
 returns c =
     let o = c .of-open .ensures in
-    rw (o .1) (open-taken _ _ _ _ (c .before .before .before .before .before .before .before .before .before .pre) _ _ _ _ (o .0) (c .before .before .before .before .open-usable .ensures))
+    rw (o .1) (open-taken _ _ _ _ (c .before .before .before .before .before .before .before .before .before .pre .0) _ _ _ _ (o .0) (c .before .before .before .before .open-usable .ensures))
 
 pub take-open-spec : {M : Type 1} → statement M
 take-open-spec = tie.close (tie.spec open-usable-requires of-open-requires same-length returns)

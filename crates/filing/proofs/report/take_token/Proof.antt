@@ -8,19 +8,19 @@ enum-told : tie.Need-enum-told
 enum-told c = search needs
 
 take-open-requires : tie.Need-take-open-requires
-take-open-requires c κs = c .before .before .before .before .before .before .pre
+take-open-requires c κs = let p = c .before .before .before .before .before .before in (p .pre .0, rw (c .before .enum-told .given .1) at (p .pre .1))
 
 enum-told-2 : tie.Need-enum-told-2
 enum-told-2 c = search needs
 
 take-empty-requires : tie.Need-take-empty-requires
-take-empty-requires c κs = c .before .before .before .before .before .before .pre
+take-empty-requires c κs = let p = c .before .before .before .before .before .before in (p .pre .0, rw (c .before .enum-told2 .given .1) at (p .pre .1))
 
 enum-told-3 : tie.Need-enum-told-3
 enum-told-3 c = search needs
 
 take-close-requires : tie.Need-take-close-requires
-take-close-requires c κs = c .before .before .before .before .before .before .pre
+take-close-requires c κs = let p = c .before .before .before .before .before .before in (p .pre .0, rw (c .before .enum-told3 .given .1) at (p .pre .1))
 
 enum-known-f : tie.Need-enum-known-f
 enum-known-f c = search needs

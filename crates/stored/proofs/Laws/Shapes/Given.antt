@@ -11,7 +11,7 @@ use borrow.Author.Tests.{le-ltb, ltb-false, not-false, leb-false}
 use Rattle.text.specs.Names.{Name, nameForm, tooLong, maxName, sameName}
 use Rattle.text.specs.Bytes.{le16}
 use Rattle.notation.specs.Layout.{wordSize}
-use Rattle.text.specs.Refusals.{shortBuffer, nameTooLong, overCapacity, syntaxError, notOneRoot, tooDeep, mismatchedClose, notFound, badShape}
+use Rattle.text.specs.Refusals.{shortBuffer, nameTooLong, overCapacity, syntaxError, notOneRoot, tooDeep, mismatchedClose, notFound, badShape, numberOf}
 use Rattle.model.specs.Limits.{maxDepth, maxOpens}
 use Rattle.text.specs.Order.{gives, given, first}
 use Rattle.stored.specs.Automaton.{automatonSize}
@@ -137,6 +137,15 @@ module _ (a run : List ℕ) (c : Counters) (e : Name) where
   pub close-others : Usable a run c → closeRefusal a run c e ≡ given (closeOthers run e)
   unfolding closeRefusal
   close-others u = given-then (lentConditions a run c) (closeOthers run e) (usable-lent a run c u)
+
+  -- and the first of them is 9
+  pub open-unformed : Usable a run c → nameForm e ≡ false → openRefusal a run c e ≡ numberOf syntaxError
+  unfolding given first
+  open-unformed u f = open-others u ∙ rw f
+
+  pub close-unformed : Usable a run c → nameForm e ≡ false → closeRefusal a run c e ≡ numberOf syntaxError
+  unfolding given first
+  close-unformed u f = close-others u ∙ rw f
 
 module _ (run : List ℕ) (c : Counters) (e : Name) where
   pub open-name : (given (nameConditions e) ≡ 0 → ⊥) → given (openOthers run c e) ≡ given (nameConditions e)

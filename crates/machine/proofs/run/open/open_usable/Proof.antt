@@ -17,7 +17,7 @@ use Rattle.machine.proofs.run.open.open_usable.Statement.{statement}
 use Rattle.machine.proofs.run.open.open_usable.Tie as tie
 
 open-others-requires : tie.Need-open-others-requires
-open-others-requires c κs = search needs
+open-others-requires c κs = c .before .before .before .before .pre .1
 
 same-length : tie.Need-same-length
 same-length c = search needs
@@ -26,7 +26,7 @@ returns : tie.Need-returns
 returns c = let p = c .before .before .before .before .before .before in
     let b = p .args in
     let R = openRefusal (b .a .now) (b .run .now) (b .counters) (b .e .now) in
-    let s : c .before .open-others .result ≡ openRefusal (b .a .now) (b .run .now) (b .counters) (b .e .now) = c .before .open-others .ensures ∙ sym (open-others (b .a .now) (b .run .now) (b .counters) (b .e .now) (p .pre)) in
+    let s : c .before .open-others .result ≡ openRefusal (b .a .now) (b .run .now) (b .counters) (b .e .now) = c .before .open-others .ensures ∙ sym (open-others (b .a .now) (b .run .now) (b .counters) (b .e .now) (p .pre .0)) in
     let y : R ≡ 0 → ⊥ = λ z. c .if1 .taken (s ∙ z) in
     let n : eqb (openRefusal (b .a .now) (b .run .now) (b .counters) (b .e .now)) 0 ≡ false = ne-eqb _ _ y in
     record { answers = ap (λ (r : ℕ). refused r) s ∙ sym (said-refused (openRefusal (b .a .now) (b .run .now) (b .counters) (b .e .now)) _ y); runAfter = rw n; countersAfter = rw n }
@@ -34,7 +34,7 @@ returns c = let p = c .before .before .before .before .before .before in
 open-on-requires : tie.Need-open-on-requires
 open-on-requires c κs = let p = c .before .before .before .before .before .before .before in
     let b = p .args in
-    let z = open-others (b .a .now) (b .run .now) (b .counters) (b .e .now) (p .pre) ∙ sym (c .before .before .open-others .ensures) ∙ c .before .if1 .left in
+    let z = open-others (b .a .now) (b .run .now) (b .counters) (b .e .now) (p .pre .0) ∙ sym (c .before .before .open-others .ensures) ∙ c .before .if1 .left in
     let m = may-open (b .a .now) (b .run .now) (b .counters) (b .e .now) z in
     (m .ready, (m .depth, m .name))
 
@@ -42,8 +42,8 @@ after-open-requires : tie.Need-after-open-requires
 unfolding maxSteps maxDepth
 after-open-requires c κs = let p = c .before .before .before .before .before .before .before .before .before .before in
     let m = p .args in
-    let z = open-others (m .a .now) (m .run .now) (m .counters) (m .e .now) (p .pre) ∙ sym (c .before .before .before .before .before .open-others .ensures) ∙ c .before .before .before .before .if1 .left in
-    (omega (arith, may-open (m .a .now) (m .run .now) (m .counters) (m .e .now) z .opens), (moves-fit (m .run .now) (m .counters) (p .pre .counts), omega (arith, c .before .before .open-on .ensures .1 .0)))
+    let z = open-others (m .a .now) (m .run .now) (m .counters) (m .e .now) (p .pre .0) ∙ sym (c .before .before .before .before .before .open-others .ensures) ∙ c .before .before .before .before .if1 .left in
+    (omega (arith, may-open (m .a .now) (m .run .now) (m .counters) (m .e .now) z .opens), (moves-fit (m .run .now) (m .counters) (p .pre .0 .counts), omega (arith, c .before .before .open-on .ensures .1 .0)))
 
 same-length-2 : tie.Need-same-length-2
 same-length-2 c = search needs
@@ -52,7 +52,7 @@ returns-2 : tie.Need-returns-2
 unfolding openCounters
 returns-2 c = let p = c .before .before .before .before .before .before .before .before .before .before .before in
     let b = p .args in
-    let z : openRefusal (b .a .now) (b .run .now) (b .counters) (b .e .now) ≡ 0 = open-others (b .a .now) (b .run .now) (b .counters) (b .e .now) (p .pre) ∙ sym (c .before .before .before .before .before .before .open-others .ensures) ∙ c .before .before .before .before .before .if1 .left in
+    let z : openRefusal (b .a .now) (b .run .now) (b .counters) (b .e .now) ≡ 0 = open-others (b .a .now) (b .run .now) (b .counters) (b .e .now) (p .pre .0) ∙ sym (c .before .before .before .before .before .before .open-others .ensures) ∙ c .before .before .before .before .before .if1 .left in
     let n : eqb (openRefusal (b .a .now) (b .run .now) (b .counters) (b .e .now)) 0 ≡ true = eq-eqb _ _ z in
     let w = c .before .before .before .open-on in
     let e = w .ensures .0 in

@@ -1,0 +1,32 @@
+-- The name of a tag that was read has name form, so that the machine's calls need not test it again.
+use Prim.Native.Nat.{ℕ}
+use mathlib.Core.Path.{_≡_}
+use mathlib.Core.Bool.{true}
+use mathlib.Core.List.{List}
+use lib.ListN.{length, drop}
+use Rattle.text.specs.Read.{Read, fail, got}
+use Rattle.text.proofs.Laws.Tests.{and-left}
+use Rattle.text.proofs.Laws.Reads.{WhenRead, holds-got}
+use Rattle.documents.specs.Tokens.{Token, declaration, comment, startTag, emptyTag, endTag, text, formedTag, formedToken}
+use Rattle.documents.specs.Reading.{readToken}
+use Rattle.documents.proofs.Laws.Read.ReadSound.{Good, token-sound}
+use Rattle.reports.specs.declared.tokens.Found.{Found}
+use Rattle.reports.specs.Seen.{shown, foundOf}
+use Rattle.reports.specs.Code.Seen.{tagName, nameOfToken}
+use Rattle.filing.specs.Code.Taking.{Named}
+
+named : (t : Token) (at end : ℕ) → formedToken t ≡ true → Named (shown t at end) (nameOfToken t)
+unfolding formedToken formedTag
+named declaration at end h = tt
+named (comment c) at end h = tt
+named (startTag n l b) at end h = and-left _ _ h
+named (emptyTag n l b) at end h = and-left _ _ h
+named (endTag n b) at end h = and-left _ _ h
+named (text ps) at end h = tt
+
+pub named-token : (s : List ℕ) (at : ℕ) (f : Found) → f ≡ foundOf (length s) at (readToken (drop at s)) → Named f (tagName (readToken (drop at s)))
+named-token s at f is = rw is (go (readToken (drop at s)) (token-sound (drop at s)))
+  where
+    go : (m : Read Token) → WhenRead (Good (drop at s)) m → Named (foundOf (length s) at m) (tagName m)
+    go fail h = tt
+    go (got t r) h = named t at _ (holds-got h .0)
