@@ -1,0 +1,2 @@
+-- What the contracts of the exported calls cite, beside those of the calls below.
+pub mod Told
