@@ -23,7 +23,7 @@ struct competitor {
     void (*prepare)(const struct job *);
     // One report.
     void (*run)(const struct job *);
-    // What the last run found. Paths are left out where it only parses, and all where it reads no report.
+    // What the last run found: elements alone where it only parses, nothing where it reads no report.
     void (*tell)(const struct job *, struct found *);
     enum { NOTHING, ELEMENTS, PATHS } tells;
 };

@@ -13,18 +13,18 @@ def element(rng, depth):
     name = rng.choice(NAMES[1:])
     own = "".join(' %s="%d"' % (a, rng.randrange(1000)) for a in rng.sample(["id", "at"], rng.choice([0, 0, 0, 0, 1, 2])))
     inside = "".join(element(rng, depth - 1) for _ in range(rng.choice([0, 1, 2, 3]) if depth > 1 else 0))
-    inside = inside or rng.choice(["", "%d" % rng.randrange(100000), "2031-04-05 06:%02d" % rng.randrange(60), "no fault", "x &amp; y"])
+    inside = inside or rng.choice(["", "%d" % rng.randrange(100000), "2031-04-05 06:%02d" % rng.randrange(60), "no fault was found", "x &amp; y"])
     return "<%s%s>%s</%s>\n" % (name, own, inside, name) if inside else "<%s%s/>\n" % (name, own)
 
 
 def usual_report(rng, size, depth=8):
-    parts, left = ["<?xml version=\"1.0\"?>\n<visit>\n"], size - len("<?xml version=\"1.0\"?>\n<visit>\n</visit>\n")
-    while left > 60:
+    """Elements in a root, up to some bytes; none takes over a quarter of them."""
+    report, end = '<?xml version="1.0"?>\n<visit>\n', "</visit>\n"
+    while len(report) + len(end) < size - 60:
         part = element(rng, depth - 1)
-        if len(part) <= min(left, size // 4):
-            parts.append(part)
-            left -= len(part)
-    return "".join(parts) + "</visit>\n"
+        if len(part) <= min(size - len(report) - len(end), size // 4):
+            report += part
+    return report + end
 
 
 def usual_path(rng):
@@ -47,10 +47,10 @@ def folder_set(paths, size):
     return "(folders\n%s)\n" % "".join(lines)
 
 
-def equal_labels():
-    """128 paths of 8 steps, all named visit: each choice of `/` and `//` behind the first. A report of as many elements as there is room for."""
+def equal_labels(depth, leaves):
+    """128 paths of 8 steps, all named visit: each choice of `/` and `//` behind the first. A report of that name alone, too."""
     paths = ["/visit" + "".join("/visit" if i >> k & 1 else "//visit" for k in range(7)) for i in range(128)]
-    return folder_set(paths, 4), "<visit>" + "<visit/>" * 8190 + "</visit>"
+    return folder_set(paths, 4), "<visit>" * depth + "<visit/>" * leaves + "</visit>" * depth
 
 
 def different_labels(rng):
@@ -76,8 +76,9 @@ def main(folder):
     sets = {count: usual_set(rng, count) for count in (60, 118)}
     cases = {"1.3kB_%d_paths" % count: (text, small) for count, text in sets.items()}
     cases.update({"64kB_%d_paths" % count: (text, large) for count, text in sets.items()})
-    cases["equal_labels"] = equal_labels()
     cases["different_labels"] = different_labels(rng)
+    cases["equal_labels"] = equal_labels(1, 8190)
+    cases["equal_labels_nested"] = equal_labels(8, 1000)
     for name, (text, report) in cases.items():
         assert len(text) <= MAX_SET and len(report) <= MAX_REPORT, name
         os.makedirs(os.path.join(folder, name), exist_ok=True)
