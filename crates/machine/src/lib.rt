@@ -6,6 +6,6 @@ mod labels;
 pub mod layout;
 pub mod run;
 pub mod set;
-pub mod shape;
+mod shape;
 mod walk;
 pub mod write;

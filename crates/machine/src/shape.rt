@@ -1,9 +1,15 @@
-// The shape test of an automaton: each stored number in its range (paper 01: the shape test). Any bytes are tested.
+// The shape test of an automaton: each stored number in its range (paper 01: the shape test). Any bytes of an automaton's size are tested.
 ghost use mathlib.Core.Path.{_≡_};
-ghost use Prim.Native.Nat.{_<_};
-ghost use Rattle.notation.specs.Reads.{folderCount, pathCount, stepCount, labelCount};
-ghost use Rattle.stored.specs.Automaton.{hashes};
-ghost use Rattle.stored.specs.Shape.{allBelow, countsShaped, folderShaped, pathShaped, stepShaped, labelShaped, headShaped, linkShaped, automatonShaped};
+ghost use mathlib.Core.Bool.{true};
+ghost use Prim.Native.Nat.{suc, _≤_, _<_, max};
+ghost use lib.ListN.{length};
+ghost use Rattle.notation.specs.Limits.{maxPaths, maxLabels};
+ghost use Rattle.notation.specs.Reads.{textLen, folderCount, pathCount, stepCount, labelCount};
+ghost use Rattle.stored.specs.Automaton.{hashes, automatonSize};
+ghost use Rattle.stored.specs.Tables.{sizeOf};
+ghost use Rattle.stored.specs.Shape.{allBelow, countsShaped, folderShaped, pathShaped, stepShaped, labelShaped, headShaped, chainShaped, failShaped, linkShaped, automatonShaped};
+use crate::bits::wide;
+use crate::labels::word;
 use crate::layout::FAIL_IN;
 use crate::layout::HASHES;
 use crate::layout::HEADS_AT;
@@ -12,131 +18,153 @@ use crate::layout::LINKS_AT;
 use crate::layout::PARENT_IN;
 use crate::layout::SIZE_IN;
 use crate::layout::START_AT;
-use crate::walk::link_field;
-use crate::walk::size_of;
+use notation::layout::FOLDER_COUNT_AT;
 use notation::layout::FOLDER_FIRST_IN;
 use notation::layout::FOLDER_SIZE;
 use notation::layout::FOLDERS_AT;
+use notation::layout::LABEL_COUNT_AT;
 use notation::layout::LABEL_LENGTH_IN;
 use notation::layout::LABEL_SIZE;
 use notation::layout::LABEL_STEP_IN;
 use notation::layout::LABELS_AT;
 use notation::layout::MAX_ALL_STEPS;
 use notation::layout::PATH_BEGIN_IN;
+use notation::layout::PATH_COUNT_AT;
 use notation::layout::PATH_LENGTH_IN;
 use notation::layout::PATH_SIZE;
 use notation::layout::PATH_STEPS_IN;
 use notation::layout::PATHS_AT;
+use notation::layout::STEP_COUNT_AT;
 use notation::layout::STEP_KINDS;
 use notation::layout::STEPS_AT;
+use notation::layout::TEXT_LEN_AT;
 use notation::layout::WORD_SIZE;
 use notation::limits::MAX_LABELS;
 use notation::limits::MAX_NUMBER;
 use notation::limits::MAX_PATHS;
 use notation::limits::MAX_SET_BYTES;
 use notation::limits::MAX_STEPS;
-use notation::reads::byte_at;
-use notation::reads::folders;
-use notation::reads::labels;
-use notation::reads::paths;
-use notation::reads::steps;
-use notation::reads::text_len;
-use notation::reads::word_at;
 use text::names::MAX_NAME;
 use text::truth::between;
 use text::truth::both;
-use text::truth::either;
 
 fn counts_shaped(a: &[u8]) -> bool
+    requires { ⌜ automatonSize ≤ length (now a) ⌝ }
     ensures { λ r. ⌜ r ≡ countsShaped (now (a .entry)) ⌝ }
 {
     let tables = both(
-        steps(a) <= MAX_ALL_STEPS,
-        both(labels(a) <= MAX_LABELS, word_at(a, START_AT) <= 1),
+        word(a, STEP_COUNT_AT) <= MAX_ALL_STEPS,
+        both(
+            word(a, LABEL_COUNT_AT) <= MAX_LABELS,
+            word(a, START_AT) <= 1,
+        ),
     );
     both(
-        text_len(a) <= MAX_SET_BYTES,
-        both(folders(a) <= MAX_PATHS, both(paths(a) <= MAX_PATHS, tables)),
-    )
-}
-
-fn folder_shaped(a: &[u8], i: usize) -> bool
-    requires { ⌜ i < 65536 ⌝ }
-    ensures { λ r. ⌜ r ≡ folderShaped (now (a .entry)) i ⌝ }
-{
-    let at = FOLDERS_AT + FOLDER_SIZE * i;
-    both(
-        between(1, MAX_NUMBER, word_at(a, at)),
-        word_at(a, at + FOLDER_FIRST_IN) <= paths(a),
-    )
-}
-
-fn path_shaped(a: &[u8], i: usize) -> bool
-    requires { ⌜ i < 65536 ⌝ }
-    ensures { λ r. ⌜ r ≡ pathShaped (now (a .entry)) i ⌝ }
-{
-    let at = PATHS_AT + PATH_SIZE * i;
-    let count = word_at(a, at + PATH_STEPS_IN);
-    let inside = word_at(a, at + PATH_BEGIN_IN) + word_at(a, at + PATH_LENGTH_IN) <= text_len(a);
-    both(
-        between(1, MAX_STEPS, count),
-        both(word_at(a, at) + count <= steps(a), inside),
-    )
-}
-
-fn step_shaped(a: &[u8], i: usize) -> bool
-    requires { ⌜ i < 65536 ⌝ }
-    ensures { λ r. ⌜ r ≡ stepShaped (now (a .entry)) i ⌝ }
-{
-    byte_at(a, STEPS_AT + i) < STEP_KINDS
-}
-
-fn label_shaped(a: &[u8], i: usize) -> bool
-    requires { ⌜ i < 65536 ⌝ }
-    ensures { λ r. ⌜ r ≡ labelShaped (now (a .entry)) i ⌝ }
-{
-    let at = LABELS_AT + LABEL_SIZE * i;
-    let size = word_at(a, at + LABEL_LENGTH_IN);
-    let inside = word_at(a, at) + size <= text_len(a);
-    both(
-        inside,
-        both(size <= MAX_NAME, word_at(a, at + LABEL_STEP_IN) < steps(a)),
-    )
-}
-
-fn head_shaped(a: &[u8], h: usize) -> bool
-    requires { ⌜ h < hashes ⌝ }
-    ensures { λ r. ⌜ r ≡ headShaped (now (a .entry)) h ⌝ }
-{
-    word_at(a, HEADS_AT + WORD_SIZE * h) <= labels(a)
-}
-
-fn link_shaped(a: &[u8], l: usize) -> bool
-    requires { ⌜ l < 65536 ⌝ }
-    ensures { λ r. ⌜ r ≡ linkShaped (now (a .entry)) l ⌝ }
-{
-    let top = labels(a);
-    let next = word_at(a, LINKS_AT + LINK_SIZE * l);
-    let fail = link_field(a, l, FAIL_IN);
-    let size = link_field(a, l, SIZE_IN);
-    let onward = either(next == 0, both(l + 1 < next, next <= top));
-    let short = both(size <= MAX_STEPS + 1, size_of(a, fail) < size);
-    both(
-        onward,
+        word(a, TEXT_LEN_AT) <= MAX_SET_BYTES,
         both(
-            link_field(a, l, PARENT_IN) <= top + 1,
-            both(fail <= top + 1, short),
+            word(a, FOLDER_COUNT_AT) <= MAX_PATHS,
+            both(word(a, PATH_COUNT_AT) <= MAX_PATHS, tables),
         ),
     )
 }
 
+fn folder_shaped(a: &[u8], i: usize, paths: usize) -> bool
+    requires { ⌜ (automatonSize ≤ length (now a)) × ((i < maxPaths) × (paths ≡ pathCount (now a))) ⌝ }
+    ensures { λ r. ⌜ r ≡ folderShaped (now (a .entry)) i ⌝ }
+{
+    let at = FOLDERS_AT + FOLDER_SIZE * i;
+    both(
+        between(1, MAX_NUMBER, word(a, at)),
+        word(a, at + FOLDER_FIRST_IN) <= paths,
+    )
+}
+
+fn path_shaped(a: &[u8], i: usize, steps: usize, text: usize) -> bool
+    requires { ⌜ (automatonSize ≤ length (now a)) × ((i < maxPaths) × ((steps ≡ stepCount (now a)) × (text ≡ textLen (now a)))) ⌝ }
+    ensures { λ r. ⌜ r ≡ pathShaped (now (a .entry)) i ⌝ }
+{
+    let at = PATHS_AT + PATH_SIZE * i;
+    let count = word(a, at + PATH_STEPS_IN);
+    let inside = word(a, at + PATH_BEGIN_IN) + word(a, at + PATH_LENGTH_IN) <= text;
+    both(
+        between(1, MAX_STEPS, count),
+        both(word(a, at) + count <= steps, inside),
+    )
+}
+
+fn label_shaped(a: &[u8], i: usize, steps: usize, text: usize) -> bool
+    requires { ⌜ (automatonSize ≤ length (now a)) × ((i < maxLabels) × ((steps ≡ stepCount (now a)) × (text ≡ textLen (now a)))) ⌝ }
+    ensures { λ r. ⌜ r ≡ labelShaped (now (a .entry)) i ⌝ }
+{
+    let at = LABELS_AT + LABEL_SIZE * i;
+    let size = word(a, at + LABEL_LENGTH_IN);
+    both(
+        word(a, at) + size <= text,
+        both(size <= MAX_NAME, word(a, at + LABEL_STEP_IN) < steps),
+    )
+}
+
+fn chain_shaped(a: &[u8], l: usize, top: usize) -> bool
+    requires { ⌜ (automatonSize ≤ length (now a)) × ((l < maxLabels) × (top ≡ labelCount (now a))) ⌝ }
+    ensures { λ r. ⌜ r ≡ chainShaped (now (a .entry)) l ⌝ }
+{
+    let next = word(a, LINKS_AT + LINK_SIZE * l);
+    if next == 0 {
+        return true;
+    }
+    both(l + 1 < next, next <= top)
+}
+
+// The length of the word of a state: of a label's, of `#` or of the empty word.
+fn length_of(a: &[u8], q: usize) -> usize
+    requires { ⌜ (automatonSize ≤ length (now a)) × (q ≤ suc maxLabels) ⌝ }
+    ensures { λ r. ⌜ r ≡ sizeOf (now (a .entry)) q ⌝ }
+{
+    if q < 2 {
+        return q;
+    }
+    word(a, LINKS_AT + LINK_SIZE * (q - 2) + SIZE_IN)
+}
+
+fn fail_shaped(a: &[u8], l: usize, top: usize) -> bool
+    requires { ⌜ (automatonSize ≤ length (now a)) × ((l < maxLabels) × ((top ≤ maxLabels) × (top ≡ labelCount (now a)))) ⌝ }
+    ensures { λ r. ⌜ r ≡ failShaped (now (a .entry)) l ⌝ }
+{
+    let at = LINKS_AT + LINK_SIZE * l;
+    let fail = word(a, at + FAIL_IN);
+    if top + 1 < fail {
+        return false;
+    }
+    length_of(a, fail) < word(a, at + SIZE_IN)
+}
+
+fn link_shaped(a: &[u8], l: usize, top: usize) -> bool
+    requires { ⌜ (automatonSize ≤ length (now a)) × ((l < maxLabels) × ((top ≤ maxLabels) × (top ≡ labelCount (now a)))) ⌝ }
+    ensures { λ r. ⌜ r ≡ linkShaped (now (a .entry)) l ⌝ }
+{
+    let at = LINKS_AT + LINK_SIZE * l;
+    if !chain_shaped(a, l, top) {
+        return false;
+    }
+    if top + 1 < word(a, at + PARENT_IN) {
+        return false;
+    }
+    if MAX_STEPS + 1 < word(a, at + SIZE_IN) {
+        return false;
+    }
+    fail_shaped(a, l, top)
+}
+
+// The tests of the tables. The counts passed theirs, so that every entry lies within the buffer.
 fn folders_shaped(a: &[u8]) -> bool
+    requires { ⌜ (automatonSize ≤ length (now a)) × (countsShaped (now a) ≡ true) ⌝ }
     ensures { λ r. ⌜ r ≡ allBelow (folderCount (now (a .entry))) (folderShaped (now (a .entry))) ⌝ }
 {
-    let n = folders(a);
+    let n = word(a, FOLDER_COUNT_AT);
+    let paths = word(a, PATH_COUNT_AT);
     let mut i = 0;
     while i < n {
-        if !folder_shaped(a, i) {
+        if !folder_shaped(a, i, paths) {
             return false;
         }
         i += 1;
@@ -145,12 +173,15 @@ fn folders_shaped(a: &[u8]) -> bool
 }
 
 fn paths_shaped(a: &[u8]) -> bool
+    requires { ⌜ (automatonSize ≤ length (now a)) × (countsShaped (now a) ≡ true) ⌝ }
     ensures { λ r. ⌜ r ≡ allBelow (pathCount (now (a .entry))) (pathShaped (now (a .entry))) ⌝ }
 {
-    let n = paths(a);
+    let n = word(a, PATH_COUNT_AT);
+    let steps = word(a, STEP_COUNT_AT);
+    let text = word(a, TEXT_LEN_AT);
     let mut i = 0;
     while i < n {
-        if !path_shaped(a, i) {
+        if !path_shaped(a, i, steps, text) {
             return false;
         }
         i += 1;
@@ -158,27 +189,31 @@ fn paths_shaped(a: &[u8]) -> bool
     true
 }
 
+// Without an exit many steps are tested at once: a bit above those of the kinds stays.
 fn steps_shaped(a: &[u8]) -> bool
+    requires { ⌜ (automatonSize ≤ length (now a)) × (countsShaped (now a) ≡ true) ⌝ }
     ensures { λ r. ⌜ r ≡ allBelow (stepCount (now (a .entry))) (stepShaped (now (a .entry))) ⌝ }
 {
-    let n = steps(a);
+    let n = word(a, STEP_COUNT_AT);
+    let mut bits = 0u8;
     let mut i = 0;
     while i < n {
-        if !step_shaped(a, i) {
-            return false;
-        }
+        bits = bits | a[STEPS_AT + i];
         i += 1;
     }
-    true
+    wide(bits) < STEP_KINDS
 }
 
 fn labels_shaped(a: &[u8]) -> bool
+    requires { ⌜ (automatonSize ≤ length (now a)) × (countsShaped (now a) ≡ true) ⌝ }
     ensures { λ r. ⌜ r ≡ allBelow (labelCount (now (a .entry))) (labelShaped (now (a .entry))) ⌝ }
 {
-    let n = labels(a);
+    let n = word(a, LABEL_COUNT_AT);
+    let steps = word(a, STEP_COUNT_AT);
+    let text = word(a, TEXT_LEN_AT);
     let mut i = 0;
     while i < n {
-        if !label_shaped(a, i) {
+        if !label_shaped(a, i, steps, text) {
             return false;
         }
         i += 1;
@@ -186,26 +221,35 @@ fn labels_shaped(a: &[u8]) -> bool
     true
 }
 
+fn larger(x: u16, y: u16) -> u16
+    ensures { λ r. ⌜ r ≡ max x y ⌝ }
+{
+    if x < y { y } else { x }
+}
+
+// Without an exit, too: the largest head is tested, kept in two bytes so that many fit a register.
 fn heads_shaped(a: &[u8]) -> bool
+    requires { ⌜ automatonSize ≤ length (now a) ⌝ }
     ensures { λ r. ⌜ r ≡ allBelow hashes (headShaped (now (a .entry))) ⌝ }
 {
-    let mut i = 0;
-    while i < HASHES {
-        if !head_shaped(a, i) {
-            return false;
-        }
-        i += 1;
+    let top = word(a, LABEL_COUNT_AT);
+    let mut most = 0u16;
+    let mut h = 0;
+    while h < HASHES {
+        most = larger(most, word(a, HEADS_AT + WORD_SIZE * h) as u16);
+        h += 1;
     }
-    true
+    most <= top as u16
 }
 
 fn links_shaped(a: &[u8]) -> bool
+    requires { ⌜ (automatonSize ≤ length (now a)) × (countsShaped (now a) ≡ true) ⌝ }
     ensures { λ r. ⌜ r ≡ allBelow (labelCount (now (a .entry))) (linkShaped (now (a .entry))) ⌝ }
 {
-    let n = labels(a);
+    let n = word(a, LABEL_COUNT_AT);
     let mut i = 0;
     while i < n {
-        if !link_shaped(a, i) {
+        if !link_shaped(a, i, n) {
             return false;
         }
         i += 1;
@@ -213,16 +257,28 @@ fn links_shaped(a: &[u8]) -> bool
     true
 }
 
-// The shape test.
+// The shape test. It ends with the first table that fails.
 pub fn automaton_shaped(a: &[u8]) -> bool
+    requires { ⌜ automatonSize ≤ length (now a) ⌝ }
     ensures { λ r. ⌜ r ≡ automatonShaped (now (a .entry)) ⌝ }
 {
-    let tables = both(labels_shaped(a), both(heads_shaped(a), links_shaped(a)));
-    both(
-        counts_shaped(a),
-        both(
-            folders_shaped(a),
-            both(paths_shaped(a), both(steps_shaped(a), tables)),
-        ),
-    )
+    if !counts_shaped(a) {
+        return false;
+    }
+    if !folders_shaped(a) {
+        return false;
+    }
+    if !paths_shaped(a) {
+        return false;
+    }
+    if !steps_shaped(a) {
+        return false;
+    }
+    if !labels_shaped(a) {
+        return false;
+    }
+    if !heads_shaped(a) {
+        return false;
+    }
+    links_shaped(a)
 }

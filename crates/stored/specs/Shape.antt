@@ -41,13 +41,17 @@ labelShaped a i =
 abbrev pub headShaped : List ℕ → ℕ → Bool
 headShaped a h = leb (headAt a h) (labelCount a)
 
--- a chain goes on to a later label or ends; states are those of labels; a failure link leads to a shorter word; a word has at most a
--- path's steps and `#`
+-- a chain goes on to a later label or ends
+abbrev pub chainShaped : List ℕ → ℕ → Bool
+chainShaped a l = eqb (nextAt a l) 0 || (ltb (suc l) (nextAt a l) && leb (nextAt a l) (labelCount a))
+
+-- a failure link leads to a state, and to a shorter word
+abbrev pub failShaped : List ℕ → ℕ → Bool
+failShaped a l = leb (failAt a l) (suc (labelCount a)) && ltb (sizeOf a (failAt a l)) (sizeAt a l)
+
+-- states are those of labels; a word has at most a path's steps and `#`
 abbrev pub linkShaped : List ℕ → ℕ → Bool
-linkShaped a l =
-    (eqb (nextAt a l) 0 || (ltb (suc l) (nextAt a l) && leb (nextAt a l) (labelCount a)))
-    && (leb (parentAt a l) (suc (labelCount a)) && (leb (failAt a l) (suc (labelCount a))
-    && (leb (sizeAt a l) (suc maxSteps) && ltb (sizeOf a (failAt a l)) (sizeAt a l))))
+linkShaped a l = chainShaped a l && (leb (parentAt a l) (suc (labelCount a)) && (leb (sizeAt a l) (suc maxSteps) && failShaped a l))
 
 unfoldable pub automatonShaped : List ℕ → Bool
 automatonShaped a =

@@ -1,29 +1,21 @@
 // What a call on a run is lent: whether it is large enough, and passes the shape test.
 use crate::layout::AUTOMATON_SIZE;
 use crate::run::layout::RUN_SIZE;
+use crate::run::refusals::both_shaped;
 use crate::run::shape;
-use crate::shape::automaton_shaped;
 use stored::counters::Counters;
 use text::refusals::BAD_SHAPE;
 use text::refusals::SHORT_BUFFER;
 ghost use mathlib.Core.Path.{_≡_};
-ghost use mathlib.Core.Bool.{_&&_};
+ghost use Prim.Native.Nat.{_≤_};
+ghost use lib.ListN.{length};
 ghost use Rattle.text.specs.Order.{given};
-ghost use Rattle.stored.specs.Shape.{automatonShaped};
-ghost use Rattle.stored.specs.RunCalls.{runShaped, shaped, lentConditions};
+ghost use Rattle.stored.specs.Automaton.{automatonSize};
+ghost use Rattle.stored.specs.RunCalls.{shaped, lentConditions};
 
-// Automaton and run pass the shape test.
-pub fn both_shaped(a: &[u8], run: &[u8]) -> bool
-    ensures { λ r. ⌜ r ≡ (automatonShaped (now (a .entry)) && runShaped (now (a .entry)) (now (run .entry))) ⌝ }
-{
-    if automaton_shaped(a) {
-        return shape::run_shaped(a, run);
-    }
-    false
-}
-
-// Automaton, run and counters do.
+// Automaton, run and counters pass the shape test.
 fn all_shaped(a: &[u8], run: &[u8], c: Counters) -> bool
+    requires { ⌜ automatonSize ≤ length (now a) ⌝ }
     ensures { λ r. ⌜ r ≡ shaped (now (a .entry)) (now (run .entry)) c ⌝ }
 {
     if both_shaped(a, run) {

@@ -4,9 +4,9 @@ use crate::run::layout::MAX_DEPTH;
 use crate::run::layout::MAX_OPENS;
 use crate::run::layout::NAME_IN;
 use crate::run::layout::RUN_SIZE;
-use crate::run::lent;
 use crate::run::rows;
 use crate::run::shape;
+use crate::shape::automaton_shaped;
 use stored::counters::Counters;
 use text::names;
 use text::refusals::BAD_SHAPE;
@@ -18,11 +18,14 @@ use text::refusals::OVER_CAPACITY;
 use text::refusals::SHORT_BUFFER;
 use text::refusals::TOO_DEEP;
 ghost use mathlib.Core.Path.{_≡_};
+ghost use mathlib.Core.Bool.{true, _&&_};
 ghost use Prim.Native.Nat.{_≤_};
-ghost use mathlib.Core.Bool.{true};
+ghost use lib.ListN.{length};
 ghost use Rattle.text.specs.Names.{nameForm};
 ghost use Rattle.text.specs.Order.{given};
-ghost use Rattle.stored.specs.RunCalls.{depthOf, rootClosed, nameConditions, openOthers, closeOthers};
+ghost use Rattle.stored.specs.Automaton.{automatonSize};
+ghost use Rattle.stored.specs.Shape.{automatonShaped};
+ghost use Rattle.stored.specs.RunCalls.{depthOf, runShaped, rootClosed, nameConditions, openOthers, closeOthers};
 ghost use Rattle.stored.specs.Asking.{askRefusal, RowName};
 ghost use Rattle.stored.specs.Usable.{Ready};
 
@@ -97,6 +100,17 @@ pub fn close_others(a: &[u8], run: &[u8], e: &[u8]) -> u8
     0
 }
 
+// Automaton and run pass the shape test.
+pub fn both_shaped(a: &[u8], run: &[u8]) -> bool
+    requires { ⌜ automatonSize ≤ length (now a) ⌝ }
+    ensures { λ r. ⌜ r ≡ (automatonShaped (now (a .entry)) && runShaped (now (a .entry)) (now (run .entry))) ⌝ }
+{
+    if automaton_shaped(a) {
+        return shape::run_shaped(a, run);
+    }
+    false
+}
+
 // An asking call's: 1, 14 (automaton and run), 13 where what is asked of is not there.
 pub fn ask_refusal(a: &[u8], run: &[u8], there: bool) -> u8
     ensures { λ r. ⌜ r ≡ askRefusal (now (a .entry)) (now (run .entry)) there ⌝ }
@@ -107,7 +121,7 @@ pub fn ask_refusal(a: &[u8], run: &[u8], there: bool) -> u8
     if run.len() < RUN_SIZE {
         return SHORT_BUFFER;
     }
-    if !lent::both_shaped(a, run) {
+    if !both_shaped(a, run) {
         return BAD_SHAPE;
     }
     if there {

@@ -1,31 +1,35 @@
 -- `shape::folder_shaped`: the numbers of a folder.
-use Rattle.notation.specs.Limits.{maxNumber}
+use native.Mathlib.Omega.{arith}
+use Rattle.notation.specs.Limits.{maxNumber, maxPaths}
 use Rattle.notation.specs.Layout.{folderSize, foldersAt}
+use Rattle.stored.specs.Automaton.{automatonSize}
 use borrow.Author.Needs.{needs}
 use Rattle.stored.proofs.Laws.Shapes.Tested.{and-by, leb-by, within-by}
 use Rattle.machine.proofs.shape.folder_shaped.Statement.{statement}
 use Rattle.machine.proofs.shape.folder_shaped.Tie as tie
 
 mul-at : tie.Need-mul-at
-mul-at c = search needs
+unfolding maxPaths
+mul-at c = omega arith
 
 add-at : tie.Need-add-at
-add-at c = search needs
+unfolding maxPaths
+add-at c = omega arith
 
-word-at-requires : tie.Need-word-at-requires
-word-at-requires c κs = search needs
+word-requires : tie.Need-word-requires
+unfolding automatonSize maxPaths
+word-requires c κs = omega arith
 
 between-requires : tie.Need-between-requires
 between-requires c κs = search needs
 
-add-word-at : tie.Need-add-word-at
-add-word-at c = search needs
+add-word : tie.Need-add-word
+unfolding maxPaths
+add-word c = omega arith
 
-word-at-requires-2 : tie.Need-word-at-requires-2
-word-at-requires-2 c κs = search needs
-
-paths-requires : tie.Need-paths-requires
-paths-requires c κs = search needs
+word-requires-2 : tie.Need-word-requires-2
+unfolding automatonSize maxPaths
+word-requires-2 c κs = omega arith
 
 both-requires : tie.Need-both-requires
 both-requires c κs = search needs
@@ -33,7 +37,7 @@ both-requires c κs = search needs
 returns : tie.Need-returns
 unfolding foldersAt folderSize maxNumber
 returns c =
-    and-by (c .both .ensures) (within-by 1 maxNumber (c .before .before .before .between .ensures) (c .before .before .before .before .word-at .ensures .0)) (leb-by (c .before .before .word-at2 .ensures .0) (c .before .paths .ensures .0))
+    and-by (c .both .ensures) (within-by 1 maxNumber (c .before .before .between .ensures) (c .before .before .before .word .ensures .0)) (leb-by (c .before .word2 .ensures .0) (c .before .before .before .before .before .pre .1 .1))
 
 pub folder-shaped-spec : {M : Type 1} → statement M
 folder-shaped-spec =
@@ -41,10 +45,9 @@ folder-shaped-spec =
     (tie.spec
     mul-at
     add-at
-    word-at-requires
+    word-requires
     between-requires
-    add-word-at
-    word-at-requires-2
-    paths-requires
+    add-word
+    word-requires-2
     both-requires
     returns)

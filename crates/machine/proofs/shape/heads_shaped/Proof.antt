@@ -1,51 +1,69 @@
--- `shape::heads_shaped`: what was tested so far passed.
-use borrow.Author.Tests.{not-true, not-false}
-use Rattle.stored.specs.Automaton.{hashes}
-use Rattle.stored.proofs.Laws.Bytes.AllBelow.{all-none, all-more, all-fails}
-use Rattle.stored.specs.Shape.{allBelow, headShaped}
+-- `shape::heads_shaped`: the largest head so far is within its range exactly if each so far is.
 use native.Mathlib.Omega.{arith}
-use mathlib.Core.Bool.{true}
-use mathlib.Core.Path.{_≡_, sym, _∙_}
+use mathlib.Core.Path.{_≡_, refl, _∙_}
 use Prim.Native.Nat.{_-_, _≤_}
+use lib.Dec.{leb}
+use borrow.Author.Tests.{le-leb}
+use Rattle.stored.specs.Automaton.{automatonSize, hashes, headsAt}
+use Rattle.stored.specs.Shape.{allBelow, headShaped}
+use borrow.Author.Needs.{needs}
+use Rattle.stored.proofs.Laws.Bytes.AllBelow.{all-none, all-next, all-end}
+use Rattle.stored.proofs.Laws.Shapes.Tested.{leb-by, max-within}
 use Rattle.machine.proofs.shape.heads_shaped.Statement.{statement}
 use Rattle.machine.proofs.shape.heads_shaped.Tie as tie
 
 abbrev Inv-loop : tie.InvT-loop
-Inv-loop a i₀ i = (i ≤ hashes) × (allBelow i (headShaped a) ≡ true)
+Inv-loop a top most₀ h₀ most h = (h ≤ hashes) × (leb most top ≡ allBelow h (headShaped a))
 
 abbrev μ-loop : tie.MeasureT-loop
-μ-loop a i₀ i = hashes - i
+μ-loop a top most₀ h₀ most h = hashes - h
+
+word-requires : tie.Need-word-requires Inv-loop μ-loop
+unfolding automatonSize
+word-requires c κs = omega arith
 
 loop-holds : tie.Need-loop-holds Inv-loop μ-loop
 unfolding hashes
-loop-holds c = (omega arith, all-none (headShaped (c .before .args .a .now)))
+loop-holds c = (omega arith, le-leb 0 (c .word .result) (omega arith) ∙ all-none (headShaped (c .before .before .args .a .now)))
 
-head-shaped-requires : tie.Need-head-shaped-requires Inv-loop μ-loop
+mul-word : tie.Need-mul-word Inv-loop μ-loop
 unfolding hashes
-head-shaped-requires c κs = omega arith
+mul-word c = omega arith
 
-returns : tie.Need-returns Inv-loop μ-loop
+add-word : tie.Need-add-word Inv-loop μ-loop
 unfolding hashes
-returns c = sym (all-fails hashes (headShaped (c .before .before .before .before .before .args .a .now)) (c .before .before .before .loop .i) (omega arith) (sym (c .before .head-shaped .ensures) ∙ not-true (c .before .head-shaped .result) (c .if1 .taken)))
+add-word c = omega arith
 
-add-i : tie.Need-add-i Inv-loop μ-loop
+word-requires-2 : tie.Need-word-requires-2 Inv-loop μ-loop
+unfolding hashes automatonSize
+word-requires-2 c κs = omega arith
+
+cast-larger : tie.Need-cast-larger Inv-loop μ-loop
+cast-larger c = omega (arith, c .word2 .ensures .1)
+
+larger-requires : tie.Need-larger-requires Inv-loop μ-loop
+larger-requires c κs = search needs
+
+add-h : tie.Need-add-h Inv-loop μ-loop
 unfolding hashes
-add-i c = omega arith
+add-h c = omega arith
 
 loop-less : tie.Need-loop-less Inv-loop μ-loop
 unfolding hashes
 loop-less c = omega arith
 
 loop-again : tie.Need-loop-again Inv-loop μ-loop
-unfolding hashes
+unfolding hashes headsAt
 loop-again c =
     let turn = c .before .before .before .loop in
-    (omega arith, all-more (turn .i) (headShaped (c .before .before .before .before .before .args .a .now)) (turn .inv .1) (sym (c .before .head-shaped .ensures) ∙ not-false (c .before .head-shaped .result) (c .if1 .left)))
+    (omega arith, all-next (turn .h) (headShaped (c .before .before .before .before .before .before .args .a .now)) (leb-by (c .larger .ensures) refl ∙ max-within (turn .most) (c .before .word2 .result) (c .before .before .before .before .word .result)) (turn .inv .1) (leb-by (c .before .word2 .ensures .0) (c .before .before .before .before .word .ensures .0)))
 
-returns-2 : tie.Need-returns-2 Inv-loop μ-loop
+cast-result : tie.Need-cast-result Inv-loop μ-loop
+cast-result c = omega (arith, c .before .before .word .ensures .1)
+
+returns : tie.Need-returns Inv-loop μ-loop
 unfolding hashes
-returns-2 c = let e : c .before .loop .i ≡ hashes = omega arith in
-    sym (rw e at (c .before .loop .inv .1))
+returns c = all-end hashes (headShaped (c .before .before .before .before .args .a .now)) (c .before .loop .inv .1) (omega arith)
 
 pub heads-shaped-spec : {M : Type 1} → statement M
 heads-shaped-spec =
@@ -53,10 +71,15 @@ heads-shaped-spec =
     (tie.spec
     Inv-loop
     μ-loop
+    word-requires
     loop-holds
-    head-shaped-requires
-    returns
-    add-i
+    mul-word
+    add-word
+    word-requires-2
+    cast-larger
+    larger-requires
+    add-h
     loop-less
     loop-again
-    returns-2)
+    cast-result
+    returns)

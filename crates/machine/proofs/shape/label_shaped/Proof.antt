@@ -1,41 +1,45 @@
 -- `shape::label_shaped`: the numbers of a label.
+use native.Mathlib.Omega.{arith}
 use mathlib.Core.Path.{refl}
 use Rattle.text.specs.Names.{maxName}
+use Rattle.notation.specs.Limits.{maxLabels}
 use Rattle.notation.specs.Layout.{labelSize, labelsAt}
+use Rattle.stored.specs.Automaton.{automatonSize}
 use borrow.Author.Needs.{needs}
 use Rattle.stored.proofs.Laws.Shapes.Tested.{and-by, leb-by, ltb-by, sum-by}
 use Rattle.machine.proofs.shape.label_shaped.Statement.{statement}
 use Rattle.machine.proofs.shape.label_shaped.Tie as tie
 
 mul-at : tie.Need-mul-at
-mul-at c = search needs
+unfolding maxLabels
+mul-at c = omega arith
 
 add-at : tie.Need-add-at
-add-at c = search needs
+unfolding maxLabels
+add-at c = omega arith
 
-add-word-at : tie.Need-add-word-at
-add-word-at c = search needs
+add-word : tie.Need-add-word
+unfolding maxLabels
+add-word c = omega arith
 
-word-at-requires : tie.Need-word-at-requires
-word-at-requires c κs = search needs
+word-requires : tie.Need-word-requires
+unfolding automatonSize maxLabels
+word-requires c κs = omega arith
 
-word-at-requires-2 : tie.Need-word-at-requires-2
-word-at-requires-2 c κs = search needs
+word-requires-2 : tie.Need-word-requires-2
+unfolding automatonSize maxLabels
+word-requires-2 c κs = omega arith
 
-add-inside : tie.Need-add-inside
-add-inside c = search needs
+add-both : tie.Need-add-both
+add-both c = search needs
 
-text-len-requires : tie.Need-text-len-requires
-text-len-requires c κs = search needs
+add-word-2 : tie.Need-add-word-2
+unfolding maxLabels
+add-word-2 c = omega arith
 
-add-word-at-2 : tie.Need-add-word-at-2
-add-word-at-2 c = search needs
-
-word-at-requires-3 : tie.Need-word-at-requires-3
-word-at-requires-3 c κs = search needs
-
-steps-requires : tie.Need-steps-requires
-steps-requires c κs = search needs
+word-requires-3 : tie.Need-word-requires-3
+unfolding automatonSize maxLabels
+word-requires-3 c κs = omega arith
 
 both-requires : tie.Need-both-requires
 both-requires c κs = search needs
@@ -46,8 +50,9 @@ both-requires-2 c κs = search needs
 returns : tie.Need-returns
 unfolding labelsAt labelSize maxName
 returns c =
-    and-by (c .both2 .ensures) (leb-by (sum-by (c .before .before .before .before .before .word-at2 .ensures .0) (c .before .before .before .before .before .before .word-at .ensures .0)) (c .before .before .before .before .text-len .ensures .0))
-    (and-by (c .before .both .ensures) (leb-by (c .before .before .before .before .before .before .word-at .ensures .0) refl) (ltb-by (c .before .before .before .word-at3 .ensures .0) (c .before .before .steps .ensures .0)))
+    let known = c .before .before .before .before .before .before .pre .1 .1 in
+    and-by (c .both2 .ensures) (leb-by (sum-by (c .before .before .before .word2 .ensures .0) (c .before .before .before .before .word .ensures .0)) (known .1))
+    (and-by (c .before .both .ensures) (leb-by (c .before .before .before .before .word .ensures .0) refl) (ltb-by (c .before .before .word3 .ensures .0) (known .0)))
 
 pub label-shaped-spec : {M : Type 1} → statement M
 label-shaped-spec =
@@ -55,14 +60,12 @@ label-shaped-spec =
     (tie.spec
     mul-at
     add-at
-    add-word-at
-    word-at-requires
-    word-at-requires-2
-    add-inside
-    text-len-requires
-    add-word-at-2
-    word-at-requires-3
-    steps-requires
+    add-word
+    word-requires
+    word-requires-2
+    add-both
+    add-word-2
+    word-requires-3
     both-requires
     both-requires-2
     returns)

@@ -1,35 +1,46 @@
 -- `shape::labels_shaped`: what was tested so far passed.
-use borrow.Author.Tests.{not-true, not-false}
-use Rattle.notation.specs.Reads.{labelCount}
-use Rattle.stored.proofs.Laws.Bytes.AllBelow.{all-none, all-more, all-fails}
-use Rattle.stored.specs.Shape.{allBelow, labelShaped}
 use native.Mathlib.Omega.{arith}
+use mathlib.Core.Path.{_≡_}
 use mathlib.Core.Bool.{true}
-use mathlib.Core.Path.{_≡_, sym, _∙_}
 use Prim.Native.Nat.{_-_, _≤_}
-use borrow.Author.Needs.{needs}
+use Rattle.notation.specs.Reads.{labelCount}
+use Rattle.stored.specs.Automaton.{automatonSize}
+use Rattle.stored.specs.Shape.{allBelow, labelShaped}
+use Rattle.stored.proofs.Laws.Bytes.AllBelow.{all-none, all-goes, all-stops, all-end}
+use Rattle.stored.proofs.Laws.Shapes.Shaped.{counts-is}
 use Rattle.machine.proofs.shape.labels_shaped.Statement.{statement}
 use Rattle.machine.proofs.shape.labels_shaped.Tie as tie
 
 abbrev Inv-loop : tie.InvT-loop
-Inv-loop a n i₀ i = (i ≤ n) × (allBelow i (labelShaped a) ≡ true)
+Inv-loop a n steps text i₀ i = (i ≤ n) × (true ≡ allBelow i (labelShaped a))
 
 abbrev μ-loop : tie.MeasureT-loop
-μ-loop a n i₀ i = n - i
+μ-loop a n steps text i₀ i = n - i
 
-labels-requires : tie.Need-labels-requires Inv-loop μ-loop
-labels-requires c κs = search needs
+word-requires : tie.Need-word-requires Inv-loop μ-loop
+unfolding automatonSize
+word-requires c κs = omega arith
+
+word-requires-2 : tie.Need-word-requires-2 Inv-loop μ-loop
+unfolding automatonSize
+word-requires-2 c κs = omega arith
+
+word-requires-3 : tie.Need-word-requires-3 Inv-loop μ-loop
+unfolding automatonSize
+word-requires-3 c κs = omega arith
 
 loop-holds : tie.Need-loop-holds Inv-loop μ-loop
-loop-holds c = (omega arith, all-none (labelShaped (c .before .before .args .a .now)))
+loop-holds c = (omega arith, all-none (labelShaped (c .before .before .before .before .args .a .now)))
 
 label-shaped-requires : tie.Need-label-shaped-requires Inv-loop μ-loop
-label-shaped-requires c κs = omega arith
+label-shaped-requires c κs =
+    let start = c .before .before .before .before .before .before in
+    (start .pre .0, (omega (arith, counts-is (start .args .a .now) (start .pre .1) .labels, c .before .before .before .before .word .ensures .0), (c .before .before .before .word2 .ensures .0, c .before .before .word3 .ensures .0)))
 
 returns : tie.Need-returns Inv-loop μ-loop
 returns c =
-    let args = c .before .before .before .before .before .before .args in
-    sym (all-fails (labelCount (args .a .now)) (labelShaped (args .a .now)) (c .before .before .before .loop .i) (omega (arith, (c .before .before .before .before .labels .ensures .0))) (sym (c .before .label-shaped .ensures) ∙ not-true (c .before .label-shaped .result) (c .if1 .taken)))
+    let a = c .before .before .before .before .before .before .before .before .args .a .now in
+    all-stops (labelCount a) (labelShaped a) (c .before .before .before .loop .i) (omega (arith, c .before .before .before .before .before .before .word .ensures .0)) (c .before .label-shaped .ensures) (c .if1 .taken)
 
 add-i : tie.Need-add-i Inv-loop μ-loop
 add-i c = omega arith
@@ -40,11 +51,11 @@ loop-less c = omega arith
 loop-again : tie.Need-loop-again Inv-loop μ-loop
 loop-again c =
     let turn = c .before .before .before .loop in
-    (omega arith, all-more (turn .i) (labelShaped (c .before .before .before .before .before .before .args .a .now)) (turn .inv .1) (sym (c .before .label-shaped .ensures) ∙ not-false (c .before .label-shaped .result) (c .if1 .left)))
+    (omega arith, all-goes (turn .i) (labelShaped (c .before .before .before .before .before .before .before .before .args .a .now)) (turn .inv .1) (c .before .label-shaped .ensures) (c .if1 .left))
 
 returns-2 : tie.Need-returns-2 Inv-loop μ-loop
-returns-2 c = let e : c .before .loop .i ≡ labelCount (c .before .before .before .before .args .a .now) = omega (arith, c .before .before .labels .ensures .0) in
-    sym (rw e at (c .before .loop .inv .1))
+returns-2 c = let a = c .before .before .before .before .before .before .args .a .now in
+    all-end (labelCount a) (labelShaped a) (c .before .loop .inv .1) (omega (arith, c .before .before .before .before .word .ensures .0))
 
 pub labels-shaped-spec : {M : Type 1} → statement M
 labels-shaped-spec =
@@ -52,7 +63,9 @@ labels-shaped-spec =
     (tie.spec
     Inv-loop
     μ-loop
-    labels-requires
+    word-requires
+    word-requires-2
+    word-requires-3
     loop-holds
     label-shaped-requires
     returns

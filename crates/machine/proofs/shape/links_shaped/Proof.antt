@@ -1,35 +1,38 @@
 -- `shape::links_shaped`: what was tested so far passed.
-use borrow.Author.Tests.{not-true, not-false}
-use Rattle.notation.specs.Reads.{labelCount}
-use Rattle.stored.proofs.Laws.Bytes.AllBelow.{all-none, all-more, all-fails}
-use Rattle.stored.specs.Shape.{allBelow, linkShaped}
 use native.Mathlib.Omega.{arith}
+use mathlib.Core.Path.{_≡_}
 use mathlib.Core.Bool.{true}
-use mathlib.Core.Path.{_≡_, sym, _∙_}
 use Prim.Native.Nat.{_-_, _≤_}
-use borrow.Author.Needs.{needs}
+use Rattle.notation.specs.Reads.{labelCount}
+use Rattle.stored.specs.Automaton.{automatonSize}
+use Rattle.stored.specs.Shape.{allBelow, linkShaped}
+use Rattle.stored.proofs.Laws.Bytes.AllBelow.{all-none, all-goes, all-stops, all-end}
+use Rattle.stored.proofs.Laws.Shapes.Shaped.{counts-is}
 use Rattle.machine.proofs.shape.links_shaped.Statement.{statement}
 use Rattle.machine.proofs.shape.links_shaped.Tie as tie
 
 abbrev Inv-loop : tie.InvT-loop
-Inv-loop a n i₀ i = (i ≤ n) × (allBelow i (linkShaped a) ≡ true)
+Inv-loop a n i₀ i = (i ≤ n) × (true ≡ allBelow i (linkShaped a))
 
 abbrev μ-loop : tie.MeasureT-loop
 μ-loop a n i₀ i = n - i
 
-labels-requires : tie.Need-labels-requires Inv-loop μ-loop
-labels-requires c κs = search needs
+word-requires : tie.Need-word-requires Inv-loop μ-loop
+unfolding automatonSize
+word-requires c κs = omega arith
 
 loop-holds : tie.Need-loop-holds Inv-loop μ-loop
 loop-holds c = (omega arith, all-none (linkShaped (c .before .before .args .a .now)))
 
 link-shaped-requires : tie.Need-link-shaped-requires Inv-loop μ-loop
-link-shaped-requires c κs = omega arith
+link-shaped-requires c κs =
+    let start = c .before .before .before .before in
+    (start .pre .0, (omega (arith, counts-is (start .args .a .now) (start .pre .1) .labels, c .before .before .word .ensures .0), (omega (arith, counts-is (start .args .a .now) (start .pre .1) .labels, c .before .before .word .ensures .0), c .before .before .word .ensures .0)))
 
 returns : tie.Need-returns Inv-loop μ-loop
 returns c =
-    let args = c .before .before .before .before .before .before .args in
-    sym (all-fails (labelCount (args .a .now)) (linkShaped (args .a .now)) (c .before .before .before .loop .i) (omega (arith, (c .before .before .before .before .labels .ensures .0))) (sym (c .before .link-shaped .ensures) ∙ not-true (c .before .link-shaped .result) (c .if1 .taken)))
+    let a = c .before .before .before .before .before .before .args .a .now in
+    all-stops (labelCount a) (linkShaped a) (c .before .before .before .loop .i) (omega (arith, c .before .before .before .before .word .ensures .0)) (c .before .link-shaped .ensures) (c .if1 .taken)
 
 add-i : tie.Need-add-i Inv-loop μ-loop
 add-i c = omega arith
@@ -40,11 +43,11 @@ loop-less c = omega arith
 loop-again : tie.Need-loop-again Inv-loop μ-loop
 loop-again c =
     let turn = c .before .before .before .loop in
-    (omega arith, all-more (turn .i) (linkShaped (c .before .before .before .before .before .before .args .a .now)) (turn .inv .1) (sym (c .before .link-shaped .ensures) ∙ not-false (c .before .link-shaped .result) (c .if1 .left)))
+    (omega arith, all-goes (turn .i) (linkShaped (c .before .before .before .before .before .before .args .a .now)) (turn .inv .1) (c .before .link-shaped .ensures) (c .if1 .left))
 
 returns-2 : tie.Need-returns-2 Inv-loop μ-loop
-returns-2 c = let e : c .before .loop .i ≡ labelCount (c .before .before .before .before .args .a .now) = omega (arith, c .before .before .labels .ensures .0) in
-    sym (rw e at (c .before .loop .inv .1))
+returns-2 c = let a = c .before .before .before .before .args .a .now in
+    all-end (labelCount a) (linkShaped a) (c .before .loop .inv .1) (omega (arith, c .before .before .word .ensures .0))
 
 pub links-shaped-spec : {M : Type 1} → statement M
 links-shaped-spec =
@@ -52,7 +55,7 @@ links-shaped-spec =
     (tie.spec
     Inv-loop
     μ-loop
-    labels-requires
+    word-requires
     loop-holds
     link-shaped-requires
     returns

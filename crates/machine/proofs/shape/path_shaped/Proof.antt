@@ -1,52 +1,57 @@
 -- `shape::path_shaped`: the numbers of a path.
-use Rattle.notation.specs.Limits.{maxSteps}
+use native.Mathlib.Omega.{arith}
+use Rattle.notation.specs.Limits.{maxPaths, maxSteps}
 use Rattle.notation.specs.Layout.{pathSize, pathsAt}
+use Rattle.stored.specs.Automaton.{automatonSize}
 use borrow.Author.Needs.{needs}
 use Rattle.stored.proofs.Laws.Shapes.Tested.{and-by, leb-by, sum-by, within-by}
 use Rattle.machine.proofs.shape.path_shaped.Statement.{statement}
 use Rattle.machine.proofs.shape.path_shaped.Tie as tie
 
 mul-at : tie.Need-mul-at
-mul-at c = search needs
+unfolding maxPaths
+mul-at c = omega arith
 
 add-at : tie.Need-add-at
-add-at c = search needs
+unfolding maxPaths
+add-at c = omega arith
 
-add-word-at : tie.Need-add-word-at
-add-word-at c = search needs
+add-word : tie.Need-add-word
+unfolding maxPaths
+add-word c = omega arith
 
-word-at-requires : tie.Need-word-at-requires
-word-at-requires c κs = search needs
+word-requires : tie.Need-word-requires
+unfolding automatonSize maxPaths
+word-requires c κs = omega arith
 
-add-word-at-2 : tie.Need-add-word-at-2
-add-word-at-2 c = search needs
+add-word-2 : tie.Need-add-word-2
+unfolding maxPaths
+add-word-2 c = omega arith
 
-word-at-requires-2 : tie.Need-word-at-requires-2
-word-at-requires-2 c κs = search needs
+word-requires-2 : tie.Need-word-requires-2
+unfolding automatonSize maxPaths
+word-requires-2 c κs = omega arith
 
-add-word-at-3 : tie.Need-add-word-at-3
-add-word-at-3 c = search needs
+add-word-3 : tie.Need-add-word-3
+unfolding maxPaths
+add-word-3 c = omega arith
 
-word-at-requires-3 : tie.Need-word-at-requires-3
-word-at-requires-3 c κs = search needs
+word-requires-3 : tie.Need-word-requires-3
+unfolding automatonSize maxPaths
+word-requires-3 c κs = omega arith
 
 add-inside : tie.Need-add-inside
 add-inside c = search needs
 
-text-len-requires : tie.Need-text-len-requires
-text-len-requires c κs = search needs
-
 between-requires : tie.Need-between-requires
 between-requires c κs = search needs
 
-word-at-requires-4 : tie.Need-word-at-requires-4
-word-at-requires-4 c κs = search needs
+word-requires-4 : tie.Need-word-requires-4
+unfolding automatonSize maxPaths
+word-requires-4 c κs = omega arith
 
 add-both : tie.Need-add-both
 add-both c = search needs
-
-steps-requires : tie.Need-steps-requires
-steps-requires c κs = search needs
 
 both-requires : tie.Need-both-requires
 both-requires c κs = search needs
@@ -57,9 +62,10 @@ both-requires-2 c κs = search needs
 returns : tie.Need-returns
 unfolding pathsAt pathSize maxSteps
 returns c =
-    and-by (c .both2 .ensures) (within-by 1 maxSteps (c .before .before .before .before .between .ensures) (c .before .before .before .before .before .before .before .before .word-at .ensures .0))
-    (and-by (c .before .both .ensures) (leb-by (sum-by (c .before .before .before .word-at4 .ensures .0) (c .before .before .before .before .before .before .before .before .word-at .ensures .0)) (c .before .before .steps .ensures .0))
-    (leb-by (sum-by (c .before .before .before .before .before .before .before .word-at2 .ensures .0) (c .before .before .before .before .before .before .word-at3 .ensures .0)) (c .before .before .before .before .before .text-len .ensures .0)))
+    let known = c .before .before .before .before .before .before .before .before .pre .1 .1 in
+    and-by (c .both2 .ensures) (within-by 1 maxSteps (c .before .before .before .between .ensures) (c .before .before .before .before .before .before .word .ensures .0))
+    (and-by (c .before .both .ensures) (leb-by (sum-by (c .before .before .word4 .ensures .0) (c .before .before .before .before .before .before .word .ensures .0)) (known .0))
+    (leb-by (sum-by (c .before .before .before .before .before .word2 .ensures .0) (c .before .before .before .before .word3 .ensures .0)) (known .1)))
 
 pub path-shaped-spec : {M : Type 1} → statement M
 path-shaped-spec =
@@ -67,18 +73,16 @@ path-shaped-spec =
     (tie.spec
     mul-at
     add-at
-    add-word-at
-    word-at-requires
-    add-word-at-2
-    word-at-requires-2
-    add-word-at-3
-    word-at-requires-3
+    add-word
+    word-requires
+    add-word-2
+    word-requires-2
+    add-word-3
+    word-requires-3
     add-inside
-    text-len-requires
     between-requires
-    word-at-requires-4
+    word-requires-4
     add-both
-    steps-requires
     both-requires
     both-requires-2
     returns)

@@ -1,35 +1,40 @@
--- `shape::steps_shaped`: what was tested so far passed.
-use borrow.Author.Tests.{not-true, not-false}
-use Rattle.notation.specs.Reads.{stepCount}
-use Rattle.stored.proofs.Laws.Bytes.AllBelow.{all-none, all-more, all-fails}
-use Rattle.stored.specs.Shape.{allBelow, stepShaped}
+-- `shape::steps_shaped`: the bits so far are those of kinds exactly if each step so far is a kind.
 use native.Mathlib.Omega.{arith}
-use mathlib.Core.Bool.{true}
-use mathlib.Core.Path.{_≡_, sym, _∙_}
-use Prim.Native.Nat.{_-_, _≤_}
+use mathlib.Core.Path.{_≡_, refl, _∙_}
+use Prim.Native.Nat.{_+_, _-_, _≤_}
+use lib.Dec.{ltb}
+use lib.ListN.{getD}
+use Rattle.notation.specs.Limits.{maxPaths, maxSteps}
+use Rattle.notation.specs.Layout.{stepKinds, stepsAt}
+use Rattle.notation.specs.Reads.{stepCount}
+use Rattle.stored.specs.Automaton.{automatonSize}
+use Rattle.stored.specs.Shape.{allBelow, stepShaped}
 use borrow.Author.Needs.{needs}
+use Rattle.stored.proofs.Laws.Bytes.AllBelow.{all-none, all-next, all-end}
+use Rattle.stored.proofs.Laws.Shapes.Shaped.{counts-is}
+use Rattle.stored.proofs.Laws.Shapes.Tested.{ltb-by, or-below}
 use Rattle.machine.proofs.shape.steps_shaped.Statement.{statement}
 use Rattle.machine.proofs.shape.steps_shaped.Tie as tie
 
 abbrev Inv-loop : tie.InvT-loop
-Inv-loop a n i₀ i = (i ≤ n) × (allBelow i (stepShaped a) ≡ true)
+Inv-loop a n bits₀ i₀ bits i = (i ≤ n) × (ltb bits stepKinds ≡ allBelow i (stepShaped a))
 
 abbrev μ-loop : tie.MeasureT-loop
-μ-loop a n i₀ i = n - i
+μ-loop a n bits₀ i₀ bits i = n - i
 
-steps-requires : tie.Need-steps-requires Inv-loop μ-loop
-steps-requires c κs = search needs
+word-requires : tie.Need-word-requires Inv-loop μ-loop
+unfolding automatonSize
+word-requires c κs = omega arith
 
 loop-holds : tie.Need-loop-holds Inv-loop μ-loop
 loop-holds c = (omega arith, all-none (stepShaped (c .before .before .args .a .now)))
 
-step-shaped-requires : tie.Need-step-shaped-requires Inv-loop μ-loop
-step-shaped-requires c κs = omega arith
+add-bits : tie.Need-add-bits Inv-loop μ-loop
+add-bits c = omega arith
 
-returns : tie.Need-returns Inv-loop μ-loop
-returns c =
-    let args = c .before .before .before .before .before .before .args in
-    sym (all-fails (stepCount (args .a .now)) (stepShaped (args .a .now)) (c .before .before .before .loop .i) (omega (arith, (c .before .before .before .before .steps .ensures .0))) (sym (c .before .step-shaped .ensures) ∙ not-true (c .before .step-shaped .result) (c .if1 .taken)))
+shared-slice-read-bits : tie.Need-shared-slice-read-bits Inv-loop μ-loop
+unfolding automatonSize maxPaths maxSteps
+shared-slice-read-bits c = let start = c .before .before .before .before .before in omega (arith, start .pre .0, counts-is (start .args .a .now) (start .pre .1) .steps, c .before .before .before .word .ensures .0)
 
 add-i : tie.Need-add-i Inv-loop μ-loop
 add-i c = omega arith
@@ -38,13 +43,18 @@ loop-less : tie.Need-loop-less Inv-loop μ-loop
 loop-less c = omega arith
 
 loop-again : tie.Need-loop-again Inv-loop μ-loop
+unfolding stepsAt
 loop-again c =
-    let turn = c .before .before .before .loop in
-    (omega arith, all-more (turn .i) (stepShaped (c .before .before .before .before .before .before .args .a .now)) (turn .inv .1) (sym (c .before .step-shaped .ensures) ∙ not-false (c .before .step-shaped .result) (c .if1 .left)))
+    let turn = c .before .before .loop in
+    let a = c .before .before .before .before .before .args .a .now in
+    (omega arith, all-next (turn .i) (stepShaped a) (or-below 2 (turn .bits) (getD a (stepsAt + turn .i) 0)) (turn .inv .1) refl)
 
-returns-2 : tie.Need-returns-2 Inv-loop μ-loop
-returns-2 c = let e : c .before .loop .i ≡ stepCount (c .before .before .before .before .args .a .now) = omega (arith, c .before .before .steps .ensures .0) in
-    sym (rw e at (c .before .loop .inv .1))
+wide-requires : tie.Need-wide-requires Inv-loop μ-loop
+wide-requires c κs = search needs
+
+returns : tie.Need-returns Inv-loop μ-loop
+returns c = let a = c .before .before .before .before .before .args .a .now in
+    all-end (stepCount a) (stepShaped a) (ltb-by (c .wide .ensures .0) refl ∙ c .before .before .loop .inv .1) (omega (arith, c .before .before .before .word .ensures .0))
 
 pub steps-shaped-spec : {M : Type 1} → statement M
 steps-shaped-spec =
@@ -52,11 +62,12 @@ steps-shaped-spec =
     (tie.spec
     Inv-loop
     μ-loop
-    steps-requires
+    word-requires
     loop-holds
-    step-shaped-requires
-    returns
+    add-bits
+    shared-slice-read-bits
     add-i
     loop-less
     loop-again
-    returns-2)
+    wide-requires
+    returns)

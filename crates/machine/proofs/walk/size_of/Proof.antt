@@ -1,36 +1,23 @@
 -- `walk::size_of`: the length of a label's word; the empty word has 0, `#` 1.
-use Rattle.stored.specs.Tables.{sizeAt, sizeOf}
 use native.Mathlib.Omega.{arith}
-use mathlib.Core.List.{List}
-use mathlib.Core.Path.{_≡_, refl, sym, _∙_}
-use Prim.Native.Nat.{ℕ, zero, suc, _-_, _≤_, _<_}
+use mathlib.Core.Path.{_∙_}
+use Rattle.stored.specs.Tables.{sizeOf}
+use Rattle.stored.proofs.Laws.Shapes.Tested.{size-small, size-label}
 use borrow.Author.Needs.{needs}
 use Rattle.machine.proofs.walk.size_of.Statement.{statement}
 use Rattle.machine.proofs.walk.size_of.Tie as tie
-
-small : (a : List ℕ) (q : ℕ) → q < 2 → q ≡ sizeOf a q
-unfolding sizeOf
-small a zero h = refl
-small a (suc zero) h = refl
-small a (suc (suc l)) h = absurd (omega arith)
-
-of-label : (a : List ℕ) (q : ℕ) → 2 ≤ q → sizeOf a q ≡ sizeAt a (q - 2)
-unfolding sizeOf
-of-label a zero h = absurd (omega arith)
-of-label a (suc zero) h = absurd (omega arith)
-of-label a (suc (suc l)) h = let s : suc (suc l) - 2 ≡ l = omega arith in rw s
 
 link-field-requires : tie.Need-link-field-requires
 link-field-requires c κs = search needs
 
 returns : tie.Need-returns
 unfolding sizeOf
-returns c = (small (c .before .before .args .a .now) (c .before .before .args .q) (c .if1 .taken), omega arith)
+returns c = (size-small (c .before .before .args .a .now) (c .before .before .args .q) (c .if1 .taken), omega arith)
 
 returns-2 : tie.Need-returns-2
 returns-2 c =
     let args = c .before .before .before .args in
-    (c .link-field .ensures .0 ∙ sym (of-label (args .a .now) (args .q) (c .before .if1 .left)), c .link-field .ensures .1)
+    (c .link-field .ensures .0 ∙ size-label (args .a .now) (args .q) (c .before .if1 .left), c .link-field .ensures .1)
 
 pub size-of-spec : {M : Type 1} → statement M
 size-of-spec =

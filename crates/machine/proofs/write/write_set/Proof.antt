@@ -53,6 +53,7 @@ unfolding automatonSize maxSetBytes
 returns-2 c = short-out _ _ (c .before .if1 .left) (c .if2 .taken)
 
 automaton-shaped-requires : tie.Need-automaton-shaped-requires
+unfolding automatonSize
 automaton-shaped-requires c κs = search needs
 
 text-requires : tie.Need-text-requires

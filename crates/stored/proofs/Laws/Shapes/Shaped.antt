@@ -90,7 +90,7 @@ is-onward n l (suc m) h f =
     either-right (eqb (suc m) 0) (both-true (lt-ltb (suc l) (suc m) (omega arith)) (le-leb (suc m) n h))
 
 module _ (a : List ℕ) where
-  counts-is : countsShaped a ≡ true → Counts a
+  pub counts-is : countsShaped a ≡ true → Counts a
   counts-is h =
       let b1 = both _ _ h in
       let b2 = both _ _ (b1 .1) in
@@ -142,7 +142,7 @@ module _ (a : List ℕ) where
   is-link : (l : ℕ) → LinkFacts a l → linkShaped a l ≡ true
   is-link l f =
       both-true (is-onward (labelCount a) l (nextAt a l) (f .next) (f .later))
-      (both-true (le-leb _ _ (f .parent)) (both-true (le-leb _ _ (f .fail)) (both-true (le-leb _ _ (f .size)) (lt-ltb _ _ (f .shorter)))))
+      (both-true (le-leb _ _ (f .parent)) (both-true (le-leb _ _ (f .size)) (both-true (le-leb _ _ (f .fail)) (lt-ltb _ _ (f .shorter)))))
 
   link-is : (l : ℕ) → linkShaped a l ≡ true → LinkFacts a l
   link-is l h =
@@ -154,8 +154,8 @@ module _ (a : List ℕ) where
         next = onward-within (labelCount a) l (nextAt a l) (b1 .0);
         later = λ m. onward-later (labelCount a) l (nextAt a l) m (b1 .0);
         parent = leb-true _ _ (b2 .0);
-        fail = leb-true _ _ (b3 .0);
-        size = leb-true _ _ (b4 .0);
+        size = leb-true _ _ (b3 .0);
+        fail = leb-true _ _ (b4 .0);
         shorter = ltb-true _ _ (b4 .1);
       }
 

@@ -16,6 +16,7 @@ unfolding given first automatonSize runSize
 returns-2 c = rw (le-ltb _ _ (c .before .if1 .left), lt-ltb _ _ (c .if2 .taken))
 
 all-shaped-requires : tie.Need-all-shaped-requires
+unfolding automatonSize
 all-shaped-requires c κs = search needs
 
 returns-3 : tie.Need-returns-3

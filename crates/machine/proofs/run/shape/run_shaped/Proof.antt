@@ -1,19 +1,19 @@
 use native.Mathlib.Omega.{arith}
-use mathlib.Core.Path.{_≡_, sym, _∙_}
+use mathlib.Core.Path.{_≡_, sym}
 use mathlib.Core.Bool.{true}
 use Prim.Native.Nat.{_+_, _-_, _≤_}
-use borrow.Author.Tests.{not-true, not-false}
 use borrow.Author.Needs.{needs}
 use Rattle.model.specs.Limits.{maxDepth}
 use Rattle.stored.specs.Shape.{allBelow}
 use Rattle.stored.specs.RunCalls.{depthOf, rowShaped}
-use Rattle.stored.proofs.Laws.Bytes.AllBelow.{all-none, all-more}
+use Rattle.stored.proofs.Laws.Bytes.AllBelow.{all-none, all-goes}
 use Rattle.stored.proofs.Laws.Shapes.RunShape.{too-deep, bad-row, all-rows}
+use Rattle.stored.proofs.Laws.Shapes.Tested.{fails-by}
 use Rattle.machine.proofs.run.shape.run_shaped.Statement.{statement}
 use Rattle.machine.proofs.run.shape.run_shaped.Tie as tie
 
 abbrev Inv-loop : tie.InvT-loop
-Inv-loop a run deepest d₀ d = (d ≤ deepest + 1) × (allBelow d (rowShaped a run) ≡ true)
+Inv-loop a run deepest d₀ d = (d ≤ deepest + 1) × (true ≡ allBelow d (rowShaped a run))
 
 abbrev μ-loop : tie.MeasureT-loop
 μ-loop a run deepest d₀ d = deepest + 1 - d
@@ -36,7 +36,7 @@ row-shaped-requires c κs = omega arith
 returns-2 : tie.Need-returns-2 Inv-loop μ-loop
 unfolding maxDepth
 returns-2 c = let a = c .before .before .before .before .before .before .before .before .args in
-    sym (bad-row (a .a .now) (a .run .now) (c .before .before .before .loop .d) (omega arith) (omega arith) (sym (c .before .row-shaped .ensures) ∙ not-true _ (c .if2 .taken)))
+    sym (bad-row (a .a .now) (a .run .now) (c .before .before .before .loop .d) (omega arith) (omega arith) (fails-by (c .before .row-shaped .ensures) (c .if2 .taken)))
 
 add-d : tie.Need-add-d Inv-loop μ-loop
 unfolding maxDepth
@@ -49,13 +49,13 @@ loop-again : tie.Need-loop-again Inv-loop μ-loop
 loop-again c =
     let turn = c .before .before .before .loop in
     let a = c .before .before .before .before .before .before .before .before .args in
-    (omega arith, all-more (turn .d) (rowShaped (a .a .now) (a .run .now)) (turn .inv .1) (sym (c .before .row-shaped .ensures) ∙ not-false _ (c .if2 .left)))
+    (omega arith, all-goes (turn .d) (rowShaped (a .a .now) (a .run .now)) (turn .inv .1) (c .before .row-shaped .ensures) (c .if2 .left))
 
 returns-3 : tie.Need-returns-3 Inv-loop μ-loop
 unfolding maxDepth
 returns-3 c = let a = c .before .before .before .before .before .before .args in
     let e : depthOf (a .run .now) + 1 ≡ c .before .loop .d = omega arith in
-    sym (all-rows (a .a .now) (a .run .now) (omega arith) (rw e (c .before .loop .inv .1)))
+    sym (all-rows (a .a .now) (a .run .now) (omega arith) (rw e (sym (c .before .loop .inv .1))))
 
 pub run-shaped-spec : {M : Type 1} → statement M
 run-shaped-spec =

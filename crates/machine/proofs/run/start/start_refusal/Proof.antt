@@ -17,6 +17,7 @@ unfolding startRefusal given first automatonSize runSize
 returns-2 c = rw (le-ltb _ _ (c .before .if1 .left), lt-ltb _ _ (c .if2 .taken))
 
 automaton-shaped-requires : tie.Need-automaton-shaped-requires
+unfolding automatonSize
 automaton-shaped-requires c κs = search needs
 
 returns-3 : tie.Need-returns-3

@@ -1,7 +1,7 @@
 use mathlib.Core.Path.{sym, _∙_}
 use borrow.Author.Needs.{needs}
-use Rattle.machine.proofs.run.lent.both_shaped.Statement.{statement}
-use Rattle.machine.proofs.run.lent.both_shaped.Tie as tie
+use Rattle.machine.proofs.run.refusals.both_shaped.Statement.{statement}
+use Rattle.machine.proofs.run.refusals.both_shaped.Tie as tie
 
 automaton-shaped-requires : tie.Need-automaton-shaped-requires
 automaton-shaped-requires c κs = search needs
