@@ -1,13 +1,13 @@
 // The shape test of an automaton: each stored number in its range (paper 01: the shape test). Any bytes of an automaton's size are tested.
 ghost use mathlib.Core.Path.{_≡_};
 ghost use mathlib.Core.Bool.{true};
-ghost use Prim.Native.Nat.{suc, _≤_, _<_, max};
+ghost use Prim.Native.Nat.{suc, _*_, _≤_, _<_, max};
 ghost use lib.ListN.{length};
-ghost use Rattle.notation.specs.Limits.{maxPaths, maxLabels};
+ghost use Rattle.notation.specs.Limits.{maxPaths, maxSteps, maxLabels};
 ghost use Rattle.notation.specs.Reads.{textLen, folderCount, pathCount, stepCount, labelCount};
 ghost use Rattle.stored.specs.Automaton.{hashes, automatonSize};
 ghost use Rattle.stored.specs.Tables.{sizeOf};
-ghost use Rattle.stored.specs.Shape.{allBelow, countsShaped, folderShaped, pathShaped, stepShaped, labelShaped, headShaped, chainShaped, failShaped, linkShaped, automatonShaped};
+ghost use Rattle.stored.specs.Shape.{allBelow, countsShaped, folderShaped, pathShaped, stepShaped, labelShaped, headShaped, chainShaped, failShaped, linkShaped, setShaped, automatonShaped};
 use crate::bits::wide;
 use crate::labels::word;
 use crate::layout::FAIL_IN;
@@ -155,13 +155,11 @@ fn link_shaped(a: &[u8], l: usize, top: usize) -> bool
     fail_shaped(a, l, top)
 }
 
-// The tests of the tables. The counts passed theirs, so that every entry lies within the buffer.
-fn folders_shaped(a: &[u8]) -> bool
-    requires { ⌜ (automatonSize ≤ length (now a)) × (countsShaped (now a) ≡ true) ⌝ }
+// The tests of the tables, of counts that passed theirs: every entry lies within the buffer.
+fn folders_shaped(a: &[u8], n: usize, paths: usize) -> bool
+    requires { ⌜ (automatonSize ≤ length (now a)) × ((n ≤ maxPaths) × ((n ≡ folderCount (now a)) × (paths ≡ pathCount (now a)))) ⌝ }
     ensures { λ r. ⌜ r ≡ allBelow (folderCount (now (a .entry))) (folderShaped (now (a .entry))) ⌝ }
 {
-    let n = word(a, FOLDER_COUNT_AT);
-    let paths = word(a, PATH_COUNT_AT);
     let mut i = 0;
     while i < n {
         if !folder_shaped(a, i, paths) {
@@ -172,13 +170,10 @@ fn folders_shaped(a: &[u8]) -> bool
     true
 }
 
-fn paths_shaped(a: &[u8]) -> bool
-    requires { ⌜ (automatonSize ≤ length (now a)) × (countsShaped (now a) ≡ true) ⌝ }
+fn paths_shaped(a: &[u8], n: usize, steps: usize, text: usize) -> bool
+    requires { ⌜ (automatonSize ≤ length (now a)) × ((n ≤ maxPaths) × ((n ≡ pathCount (now a)) × ((steps ≡ stepCount (now a)) × (text ≡ textLen (now a))))) ⌝ }
     ensures { λ r. ⌜ r ≡ allBelow (pathCount (now (a .entry))) (pathShaped (now (a .entry))) ⌝ }
 {
-    let n = word(a, PATH_COUNT_AT);
-    let steps = word(a, STEP_COUNT_AT);
-    let text = word(a, TEXT_LEN_AT);
     let mut i = 0;
     while i < n {
         if !path_shaped(a, i, steps, text) {
@@ -190,11 +185,10 @@ fn paths_shaped(a: &[u8]) -> bool
 }
 
 // Without an exit many steps are tested at once: a bit above those of the kinds stays.
-fn steps_shaped(a: &[u8]) -> bool
-    requires { ⌜ (automatonSize ≤ length (now a)) × (countsShaped (now a) ≡ true) ⌝ }
+fn steps_shaped(a: &[u8], n: usize) -> bool
+    requires { ⌜ (automatonSize ≤ length (now a)) × ((n ≤ maxPaths * maxSteps) × (n ≡ stepCount (now a))) ⌝ }
     ensures { λ r. ⌜ r ≡ allBelow (stepCount (now (a .entry))) (stepShaped (now (a .entry))) ⌝ }
 {
-    let n = word(a, STEP_COUNT_AT);
     let mut bits = 0u8;
     let mut i = 0;
     while i < n {
@@ -204,13 +198,10 @@ fn steps_shaped(a: &[u8]) -> bool
     wide(bits) < STEP_KINDS
 }
 
-fn labels_shaped(a: &[u8]) -> bool
-    requires { ⌜ (automatonSize ≤ length (now a)) × (countsShaped (now a) ≡ true) ⌝ }
+fn labels_shaped(a: &[u8], n: usize, steps: usize, text: usize) -> bool
+    requires { ⌜ (automatonSize ≤ length (now a)) × ((n ≤ maxLabels) × ((n ≡ labelCount (now a)) × ((steps ≡ stepCount (now a)) × (text ≡ textLen (now a))))) ⌝ }
     ensures { λ r. ⌜ r ≡ allBelow (labelCount (now (a .entry))) (labelShaped (now (a .entry))) ⌝ }
 {
-    let n = word(a, LABEL_COUNT_AT);
-    let steps = word(a, STEP_COUNT_AT);
-    let text = word(a, TEXT_LEN_AT);
     let mut i = 0;
     while i < n {
         if !label_shaped(a, i, steps, text) {
@@ -228,11 +219,10 @@ fn larger(x: u16, y: u16) -> u16
 }
 
 // Without an exit, too: the largest head is tested, kept in two bytes so that many fit a register.
-fn heads_shaped(a: &[u8]) -> bool
-    requires { ⌜ automatonSize ≤ length (now a) ⌝ }
+fn heads_shaped(a: &[u8], top: usize) -> bool
+    requires { ⌜ (automatonSize ≤ length (now a)) × ((top ≤ maxLabels) × (top ≡ labelCount (now a))) ⌝ }
     ensures { λ r. ⌜ r ≡ allBelow hashes (headShaped (now (a .entry))) ⌝ }
 {
-    let top = word(a, LABEL_COUNT_AT);
     let mut most = 0u16;
     let mut h = 0;
     while h < HASHES {
@@ -242,11 +232,10 @@ fn heads_shaped(a: &[u8]) -> bool
     most <= top as u16
 }
 
-fn links_shaped(a: &[u8]) -> bool
-    requires { ⌜ (automatonSize ≤ length (now a)) × (countsShaped (now a) ≡ true) ⌝ }
+fn links_shaped(a: &[u8], n: usize) -> bool
+    requires { ⌜ (automatonSize ≤ length (now a)) × ((n ≤ maxLabels) × (n ≡ labelCount (now a))) ⌝ }
     ensures { λ r. ⌜ r ≡ allBelow (labelCount (now (a .entry))) (linkShaped (now (a .entry))) ⌝ }
 {
-    let n = word(a, LABEL_COUNT_AT);
     let mut i = 0;
     while i < n {
         if !link_shaped(a, i, n) {
@@ -257,6 +246,26 @@ fn links_shaped(a: &[u8]) -> bool
     true
 }
 
+// The set's tables.
+fn set_shaped(a: &[u8]) -> bool
+    requires { ⌜ (automatonSize ≤ length (now a)) × (countsShaped (now a) ≡ true) ⌝ }
+    ensures { λ r. ⌜ r ≡ setShaped (now (a .entry)) ⌝ }
+{
+    let text = word(a, TEXT_LEN_AT);
+    let paths = word(a, PATH_COUNT_AT);
+    let steps = word(a, STEP_COUNT_AT);
+    if !folders_shaped(a, word(a, FOLDER_COUNT_AT), paths) {
+        return false;
+    }
+    if !paths_shaped(a, paths, steps, text) {
+        return false;
+    }
+    if !steps_shaped(a, steps) {
+        return false;
+    }
+    labels_shaped(a, word(a, LABEL_COUNT_AT), steps, text)
+}
+
 // The shape test. It ends with the first table that fails.
 pub fn automaton_shaped(a: &[u8]) -> bool
     requires { ⌜ automatonSize ≤ length (now a) ⌝ }
@@ -265,20 +274,12 @@ pub fn automaton_shaped(a: &[u8]) -> bool
     if !counts_shaped(a) {
         return false;
     }
-    if !folders_shaped(a) {
+    if !set_shaped(a) {
         return false;
     }
-    if !paths_shaped(a) {
+    let top = word(a, LABEL_COUNT_AT);
+    if !heads_shaped(a, top) {
         return false;
     }
-    if !steps_shaped(a) {
-        return false;
-    }
-    if !labels_shaped(a) {
-        return false;
-    }
-    if !heads_shaped(a) {
-        return false;
-    }
-    links_shaped(a)
+    links_shaped(a, top)
 }

@@ -53,8 +53,11 @@ failShaped a l = leb (failAt a l) (suc (labelCount a)) && ltb (sizeOf a (failAt 
 abbrev pub linkShaped : List ℕ → ℕ → Bool
 linkShaped a l = chainShaped a l && (leb (parentAt a l) (suc (labelCount a)) && (leb (sizeAt a l) (suc maxSteps) && failShaped a l))
 
+-- the set's tables
+abbrev pub setShaped : List ℕ → Bool
+setShaped a =
+    allBelow (folderCount a) (folderShaped a) && (allBelow (pathCount a) (pathShaped a)
+    && (allBelow (stepCount a) (stepShaped a) && allBelow (labelCount a) (labelShaped a)))
+
 unfoldable pub automatonShaped : List ℕ → Bool
-automatonShaped a =
-    countsShaped a && (allBelow (folderCount a) (folderShaped a) && (allBelow (pathCount a) (pathShaped a)
-    && (allBelow (stepCount a) (stepShaped a) && (allBelow (labelCount a) (labelShaped a)
-    && (allBelow hashes (headShaped a) && allBelow (labelCount a) (linkShaped a))))))
+automatonShaped a = countsShaped a && (setShaped a && (allBelow hashes (headShaped a) && allBelow (labelCount a) (linkShaped a)))

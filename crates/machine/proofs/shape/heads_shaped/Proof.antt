@@ -4,6 +4,7 @@ use mathlib.Core.Path.{_≡_, refl, _∙_}
 use Prim.Native.Nat.{_-_, _≤_}
 use lib.Dec.{leb}
 use borrow.Author.Tests.{le-leb}
+use Rattle.notation.specs.Limits.{maxLabels}
 use Rattle.stored.specs.Automaton.{automatonSize, hashes, headsAt}
 use Rattle.stored.specs.Shape.{allBelow, headShaped}
 use borrow.Author.Needs.{needs}
@@ -18,13 +19,10 @@ Inv-loop a top most₀ h₀ most h = (h ≤ hashes) × (leb most top ≡ allBelo
 abbrev μ-loop : tie.MeasureT-loop
 μ-loop a top most₀ h₀ most h = hashes - h
 
-word-requires : tie.Need-word-requires Inv-loop μ-loop
-unfolding automatonSize
-word-requires c κs = omega arith
-
 loop-holds : tie.Need-loop-holds Inv-loop μ-loop
 unfolding hashes
-loop-holds c = (omega arith, le-leb 0 (c .word .result) (omega arith) ∙ all-none (headShaped (c .before .before .args .a .now)))
+loop-holds c = let args = c .before .args in
+    (omega arith, le-leb 0 (args .top) (omega arith) ∙ all-none (headShaped (args .a .now)))
 
 mul-word : tie.Need-mul-word Inv-loop μ-loop
 unfolding hashes
@@ -34,12 +32,12 @@ add-word : tie.Need-add-word Inv-loop μ-loop
 unfolding hashes
 add-word c = omega arith
 
-word-requires-2 : tie.Need-word-requires-2 Inv-loop μ-loop
+word-requires : tie.Need-word-requires Inv-loop μ-loop
 unfolding hashes automatonSize
-word-requires-2 c κs = omega arith
+word-requires c κs = omega arith
 
 cast-larger : tie.Need-cast-larger Inv-loop μ-loop
-cast-larger c = omega (arith, c .word2 .ensures .1)
+cast-larger c = omega (arith, c .word .ensures .1)
 
 larger-requires : tie.Need-larger-requires Inv-loop μ-loop
 larger-requires c κs = search needs
@@ -56,14 +54,16 @@ loop-again : tie.Need-loop-again Inv-loop μ-loop
 unfolding hashes headsAt
 loop-again c =
     let turn = c .before .before .before .loop in
-    (omega arith, all-next (turn .h) (headShaped (c .before .before .before .before .before .before .args .a .now)) (leb-by (c .larger .ensures) refl ∙ max-within (turn .most) (c .before .word2 .result) (c .before .before .before .before .word .result)) (turn .inv .1) (leb-by (c .before .word2 .ensures .0) (c .before .before .before .before .word .ensures .0)))
+    let start = c .before .before .before .before .before in
+    (omega arith, all-next (turn .h) (headShaped (start .args .a .now)) (leb-by (c .larger .ensures) refl ∙ max-within (turn .most) (c .before .word .result) (start .args .top)) (turn .inv .1) (leb-by (c .before .word .ensures .0) (start .pre .1 .1)))
 
 cast-result : tie.Need-cast-result Inv-loop μ-loop
-cast-result c = omega (arith, c .before .before .word .ensures .1)
+unfolding maxLabels
+cast-result c = omega arith
 
 returns : tie.Need-returns Inv-loop μ-loop
 unfolding hashes
-returns c = all-end hashes (headShaped (c .before .before .before .before .args .a .now)) (c .before .loop .inv .1) (omega arith)
+returns c = all-end hashes (headShaped (c .before .before .before .args .a .now)) (c .before .loop .inv .1) (omega arith)
 
 pub heads-shaped-spec : {M : Type 1} → statement M
 heads-shaped-spec =
@@ -71,11 +71,10 @@ heads-shaped-spec =
     (tie.spec
     Inv-loop
     μ-loop
-    word-requires
     loop-holds
     mul-word
     add-word
-    word-requires-2
+    word-requires
     cast-larger
     larger-requires
     add-h

@@ -4,10 +4,9 @@ use mathlib.Core.Path.{_≡_}
 use mathlib.Core.Bool.{true}
 use Prim.Native.Nat.{_-_, _≤_}
 use Rattle.notation.specs.Reads.{pathCount}
-use Rattle.stored.specs.Automaton.{automatonSize}
 use Rattle.stored.specs.Shape.{allBelow, pathShaped}
+use borrow.Author.Needs.{needs}
 use Rattle.stored.proofs.Laws.Bytes.AllBelow.{all-none, all-goes, all-stops, all-end}
-use Rattle.stored.proofs.Laws.Shapes.Shaped.{counts-is}
 use Rattle.machine.proofs.shape.paths_shaped.Statement.{statement}
 use Rattle.machine.proofs.shape.paths_shaped.Tie as tie
 
@@ -17,30 +16,15 @@ Inv-loop a n steps text i₀ i = (i ≤ n) × (true ≡ allBelow i (pathShaped a
 abbrev μ-loop : tie.MeasureT-loop
 μ-loop a n steps text i₀ i = n - i
 
-word-requires : tie.Need-word-requires Inv-loop μ-loop
-unfolding automatonSize
-word-requires c κs = omega arith
-
-word-requires-2 : tie.Need-word-requires-2 Inv-loop μ-loop
-unfolding automatonSize
-word-requires-2 c κs = omega arith
-
-word-requires-3 : tie.Need-word-requires-3 Inv-loop μ-loop
-unfolding automatonSize
-word-requires-3 c κs = omega arith
-
 loop-holds : tie.Need-loop-holds Inv-loop μ-loop
-loop-holds c = (omega arith, all-none (pathShaped (c .before .before .before .before .args .a .now)))
+loop-holds c = (omega arith, all-none (pathShaped (c .before .args .a .now)))
 
 path-shaped-requires : tie.Need-path-shaped-requires Inv-loop μ-loop
-path-shaped-requires c κs =
-    let start = c .before .before .before .before .before .before in
-    (start .pre .0, (omega (arith, counts-is (start .args .a .now) (start .pre .1) .paths, c .before .before .before .before .word .ensures .0), (c .before .before .before .word2 .ensures .0, c .before .before .word3 .ensures .0)))
+path-shaped-requires c κs = search needs
 
 returns : tie.Need-returns Inv-loop μ-loop
-returns c =
-    let a = c .before .before .before .before .before .before .before .before .args .a .now in
-    all-stops (pathCount a) (pathShaped a) (c .before .before .before .loop .i) (omega (arith, c .before .before .before .before .before .before .word .ensures .0)) (c .before .path-shaped .ensures) (c .if1 .taken)
+returns c = let a = c .before .before .before .before .before .args .a .now in
+    all-stops (pathCount a) (pathShaped a) (c .before .before .before .loop .i) (omega arith) (c .before .path-shaped .ensures) (c .if1 .taken)
 
 add-i : tie.Need-add-i Inv-loop μ-loop
 add-i c = omega arith
@@ -49,13 +33,12 @@ loop-less : tie.Need-loop-less Inv-loop μ-loop
 loop-less c = omega arith
 
 loop-again : tie.Need-loop-again Inv-loop μ-loop
-loop-again c =
-    let turn = c .before .before .before .loop in
-    (omega arith, all-goes (turn .i) (pathShaped (c .before .before .before .before .before .before .before .before .args .a .now)) (turn .inv .1) (c .before .path-shaped .ensures) (c .if1 .left))
+loop-again c = let turn = c .before .before .before .loop in
+    (omega arith, all-goes (turn .i) (pathShaped (c .before .before .before .before .before .args .a .now)) (turn .inv .1) (c .before .path-shaped .ensures) (c .if1 .left))
 
 returns-2 : tie.Need-returns-2 Inv-loop μ-loop
-returns-2 c = let a = c .before .before .before .before .before .before .args .a .now in
-    all-end (pathCount a) (pathShaped a) (c .before .loop .inv .1) (omega (arith, c .before .before .before .before .word .ensures .0))
+returns-2 c = let a = c .before .before .before .args .a .now in
+    all-end (pathCount a) (pathShaped a) (c .before .loop .inv .1) (omega arith)
 
 pub paths-shaped-spec : {M : Type 1} → statement M
 paths-shaped-spec =
@@ -63,9 +46,6 @@ paths-shaped-spec =
     (tie.spec
     Inv-loop
     μ-loop
-    word-requires
-    word-requires-2
-    word-requires-3
     loop-holds
     path-shaped-requires
     returns

@@ -11,7 +11,6 @@ use Rattle.stored.specs.Automaton.{automatonSize}
 use Rattle.stored.specs.Shape.{allBelow, stepShaped}
 use borrow.Author.Needs.{needs}
 use Rattle.stored.proofs.Laws.Bytes.AllBelow.{all-none, all-next, all-end}
-use Rattle.stored.proofs.Laws.Shapes.Shaped.{counts-is}
 use Rattle.stored.proofs.Laws.Shapes.Tested.{ltb-by, or-below}
 use Rattle.machine.proofs.shape.steps_shaped.Statement.{statement}
 use Rattle.machine.proofs.shape.steps_shaped.Tie as tie
@@ -22,19 +21,16 @@ Inv-loop a n bits₀ i₀ bits i = (i ≤ n) × (ltb bits stepKinds ≡ allBelow
 abbrev μ-loop : tie.MeasureT-loop
 μ-loop a n bits₀ i₀ bits i = n - i
 
-word-requires : tie.Need-word-requires Inv-loop μ-loop
-unfolding automatonSize
-word-requires c κs = omega arith
-
 loop-holds : tie.Need-loop-holds Inv-loop μ-loop
-loop-holds c = (omega arith, all-none (stepShaped (c .before .before .args .a .now)))
+loop-holds c = (omega arith, all-none (stepShaped (c .before .args .a .now)))
 
 add-bits : tie.Need-add-bits Inv-loop μ-loop
+unfolding maxPaths maxSteps
 add-bits c = omega arith
 
 shared-slice-read-bits : tie.Need-shared-slice-read-bits Inv-loop μ-loop
 unfolding automatonSize maxPaths maxSteps
-shared-slice-read-bits c = let start = c .before .before .before .before .before in omega (arith, start .pre .0, counts-is (start .args .a .now) (start .pre .1) .steps, c .before .before .before .word .ensures .0)
+shared-slice-read-bits c = omega arith
 
 add-i : tie.Need-add-i Inv-loop μ-loop
 add-i c = omega arith
@@ -46,15 +42,15 @@ loop-again : tie.Need-loop-again Inv-loop μ-loop
 unfolding stepsAt
 loop-again c =
     let turn = c .before .before .loop in
-    let a = c .before .before .before .before .before .args .a .now in
+    let a = c .before .before .before .before .args .a .now in
     (omega arith, all-next (turn .i) (stepShaped a) (or-below 2 (turn .bits) (getD a (stepsAt + turn .i) 0)) (turn .inv .1) refl)
 
 wide-requires : tie.Need-wide-requires Inv-loop μ-loop
 wide-requires c κs = search needs
 
 returns : tie.Need-returns Inv-loop μ-loop
-returns c = let a = c .before .before .before .before .before .args .a .now in
-    all-end (stepCount a) (stepShaped a) (ltb-by (c .wide .ensures .0) refl ∙ c .before .before .loop .inv .1) (omega (arith, c .before .before .before .word .ensures .0))
+returns c = let a = c .before .before .before .before .args .a .now in
+    all-end (stepCount a) (stepShaped a) (ltb-by (c .wide .ensures .0) refl ∙ c .before .before .loop .inv .1) (omega arith)
 
 pub steps-shaped-spec : {M : Type 1} → statement M
 steps-shaped-spec =
@@ -62,7 +58,6 @@ steps-shaped-spec =
     (tie.spec
     Inv-loop
     μ-loop
-    word-requires
     loop-holds
     add-bits
     shared-slice-read-bits

@@ -14,7 +14,7 @@ use Rattle.notation.specs.Layout.{stepsAt, stepKinds}
 use Rattle.notation.specs.Reads.{textLen, folderCount, pathCount, stepCount, labelCount, storedNumber, storedFirst, labelStep, labelBegin, labelLength, pathFirst, pathSteps, pathBegin, pathLength}
 use Rattle.stored.specs.Automaton.{hashes}
 use Rattle.stored.specs.Tables.{headAt, nextAt, parentAt, failAt, sizeAt, startOf, sizeOf}
-use Rattle.stored.specs.Shape.{allBelow, countsShaped, folderShaped, pathShaped, stepShaped, labelShaped, headShaped, linkShaped, automatonShaped}
+use Rattle.stored.specs.Shape.{allBelow, countsShaped, folderShaped, pathShaped, stepShaped, labelShaped, headShaped, linkShaped, setShaped, automatonShaped}
 use Rattle.stored.specs.Usable.{Walkable}
 use Rattle.text.proofs.Laws.Tests.{both, both-true, either, either-right}
 use Rattle.stored.proofs.Laws.Bytes.AllBelow.{all-at, is-all}
@@ -164,17 +164,17 @@ module _ (a : List ℕ) where
   unfolding automatonShaped
   shaped-is h =
       let b1 = both (countsShaped a) _ h in
-      let b2 = both (allBelow (folderCount a) (folderShaped a)) _ (b1 .1) in
-      let b3 = both (allBelow (pathCount a) (pathShaped a)) _ (b2 .1) in
-      let b4 = both (allBelow (stepCount a) (stepShaped a)) _ (b3 .1) in
-      let b5 = both (allBelow (labelCount a) (labelShaped a)) _ (b4 .1) in
-      let b6 = both (allBelow hashes (headShaped a)) (allBelow (labelCount a) (linkShaped a)) (b5 .1) in
+      let b2 = both (setShaped a) _ (b1 .1) in
+      let b3 = both (allBelow (folderCount a) (folderShaped a)) _ (b2 .0) in
+      let b4 = both (allBelow (pathCount a) (pathShaped a)) _ (b3 .1) in
+      let b5 = both (allBelow (stepCount a) (stepShaped a)) (allBelow (labelCount a) (labelShaped a)) (b4 .1) in
+      let b6 = both (allBelow hashes (headShaped a)) (allBelow (labelCount a) (linkShaped a)) (b2 .1) in
       record {
         counts = counts-is (b1 .0);
-        folder = λ i l. folder-is i (all-at (folderCount a) (folderShaped a) (b2 .0) i l);
-        path = λ i l. path-is i (all-at (pathCount a) (pathShaped a) (b3 .0) i l);
-        step = λ i l. ltb-true (getD a (stepsAt + i) 0) stepKinds (all-at (stepCount a) (stepShaped a) (b4 .0) i l);
-        label = λ i l. label-is i (all-at (labelCount a) (labelShaped a) (b5 .0) i l);
+        folder = λ i l. folder-is i (all-at (folderCount a) (folderShaped a) (b3 .0) i l);
+        path = λ i l. path-is i (all-at (pathCount a) (pathShaped a) (b4 .0) i l);
+        step = λ i l. ltb-true (getD a (stepsAt + i) 0) stepKinds (all-at (stepCount a) (stepShaped a) (b5 .0) i l);
+        label = λ i l. label-is i (all-at (labelCount a) (labelShaped a) (b5 .1) i l);
         head = λ i l. leb-true (headAt a i) (labelCount a) (all-at hashes (headShaped a) (b6 .0) i l);
         link = λ i l. link-is i (all-at (labelCount a) (linkShaped a) (b6 .1) i l);
       }
@@ -183,12 +183,13 @@ module _ (a : List ℕ) where
   unfolding automatonShaped
   is-shaped s =
       both-true (is-counts (s .counts))
+      (both-true
       (both-true (is-all (folderCount a) (folderShaped a) (λ i l. is-folder i (s .folder i l)))
       (both-true (is-all (pathCount a) (pathShaped a) (λ i l. is-path i (s .path i l)))
       (both-true (is-all (stepCount a) (stepShaped a) (λ i l. lt-ltb (getD a (stepsAt + i) 0) stepKinds (s .step i l)))
-      (both-true (is-all (labelCount a) (labelShaped a) (λ i l. is-label i (s .label i l)))
+      (is-all (labelCount a) (labelShaped a) (λ i l. is-label i (s .label i l))))))
       (both-true (is-all hashes (headShaped a) (λ h l. le-leb (headAt a h) (labelCount a) (s .head h l)))
-      (is-all (labelCount a) (linkShaped a) (λ i l. is-link i (s .link i l))))))))
+      (is-all (labelCount a) (linkShaped a) (λ i l. is-link i (s .link i l)))))
 
   -- so its tables can be walked
   pub shaped-walkable : automatonShaped a ≡ true → Walkable a
