@@ -4,7 +4,7 @@
  * Each call returns 0, or the number of a refusal (below); what it finds it puts behind its last pointer. A refusal leaves all as it was,
  * but for a report refused for its own contents or size (rannvoul_file). Any bytes, sizes and numbers are answered.
  *
- * What the caller owes: no pointer is null, each buffer has at least the size passed with it, and what a call writes overlaps none of its
+ * What the caller owes: no pointer is null, even where its size is 0, each buffer has at least the size passed with it, and what a call writes overlaps none of its
  * other arguments. Calls keep nothing between them, so they may run at the same time if none writes what another uses.
  *
  * Contracts: crates/exports/src/lib.rt. Build: rt staticlib exports; link target/staticlib/libexports.a (x86-64).
@@ -39,11 +39,11 @@ enum {
     RANNVOUL_OVER_CAPACITY = 7,     /* the set has over 128 paths or 1,024 labels */
     RANNVOUL_INVALID_BYTE = 8,      /* a byte that a report may not have */
     RANNVOUL_SYNTAX_ERROR = 9,      /* the report is not a run of declaration, comments, tags and text */
-    RANNVOUL_NOT_ONE_ROOT = 10,     /* something stands outside the root, the root is missing or it is not closed */
+    RANNVOUL_NOT_ONE_ROOT = 10,     /* a tag or text that is not blank outside the root, or the root is missing or not closed */
     RANNVOUL_TOO_DEEP = 11,         /* over 64 nested elements */
     RANNVOUL_MISMATCHED_CLOSE = 12, /* an end tag that is not that of the innermost element */
     RANNVOUL_NOT_FOUND = 13,        /* the set has no such path or folder */
-    RANNVOUL_BAD_SHAPE = 14         /* stored numbers out of range: no automaton, run or counters of these calls */
+    RANNVOUL_BAD_SHAPE = 14         /* stored numbers out of range, or not those of this automaton or run */
 };
 
 /* What a run counts. Start with zeros; filing sets them, and the listing reads them. */
@@ -53,12 +53,13 @@ typedef struct {
     size_t moves;  /* failure moves of the automaton */
 } rannvoul_counters;
 
-/* Builds the automaton of a set's text. Refuses with 1, then 2 to 7, and changes nothing then. */
+/* Builds the automaton of a set's text. Refuses with 1, 2, 3, the first in the text of 4, 5 and 6, then 7, and changes nothing then. */
 uint8_t rannvoul_build(const uint8_t *text, size_t text_size, uint8_t *automaton, size_t automaton_size);
 
 /*
  * Files a report: the run then says which paths and folders are matched. Whatever the run held is forgotten, so that one buffer serves
- * report after report. Refuses with 1 and 14, which change nothing, and with 2, 5 and 8 to 12, after which run and counters are fresh.
+ * report after report. Refuses with 1 and 14, which change nothing; then with 2, 8, 9, the first tag or text
+ * refused (5, 10, 11, 12), and 10 at the end, after which run and counters are fresh.
  */
 uint8_t rannvoul_file(const uint8_t *automaton, size_t automaton_size, uint8_t *run, size_t run_size, const uint8_t *report,
                       size_t report_size, rannvoul_counters *counters);
@@ -76,14 +77,15 @@ uint8_t rannvoul_folder_matched(const uint8_t *automaton, size_t automaton_size,
 
 /*
  * Writes the listing of a run to the first bytes of out and its length behind length; no zero byte ends it. The counters are those that
- * filing set. Refuses with 1 and 14, and writes nothing then.
+ * filing set. Refuses with 1 and 14, and writes nothing then. RANNVOUL_LISTING_SIZE is enough for every automaton that was built.
  */
 uint8_t rannvoul_list(const uint8_t *automaton, size_t automaton_size, const uint8_t *run, size_t run_size,
                       const rannvoul_counters *counters, uint8_t *out, size_t out_size, size_t *length);
 
 /*
  * Builds, files and lists in one call: writes what the filing program prints to the first bytes of out, and its length behind length. If
- * the set or the report is refused, that is the line "(refused N)". Refuses with 1 alone, and changes nothing then.
+ * the set or the report is refused, that is the line "(refused N)". Refuses with 1 alone, and changes nothing then. After a refused set
+ * automaton and run are as they were; else they are as rannvoul_build and rannvoul_file leave them.
  */
 uint8_t rannvoul_print(const uint8_t *text, size_t text_size, const uint8_t *report, size_t report_size, uint8_t *automaton,
                        size_t automaton_size, uint8_t *run, size_t run_size, uint8_t *out, size_t out_size, size_t *length);

@@ -19,11 +19,12 @@ writes cursor = not (cursor .dry) && cursor .fits
 -- one piece: the whole of it is written, or the buffer is left as it was
 pub record Puts (out : List ℕ) (cursor : Cursor) (piece out' : List ℕ) (cursor' : Cursor) : Type 0 where
   pub fits : cursor' .fits ≡ (cursor .fits && leb (cursor .at + length piece) (length out))
-  pub at : cursor' .fits ≡ true → cursor' .at ≡ cursor .at + length piece
+  pub at : cursor' .at ≡ cond (cursor' .fits) (cursor .at + length piece) (cursor .at)
   pub dry : cursor' .dry ≡ cursor .dry
   pub leaves : out' ≡ cond (writes cursor') (sets out (cursor .at) piece) out
 
--- these bytes, as pieces one after the other: where not all had room the first ones stand in the buffer, and nothing of the others
+-- these bytes, as pieces one after the other: where not all had room the first ones stand in the buffer, and nothing of the others. Where
+-- the bytes are cut into pieces is the program's choice
 pub data Adds : List ℕ → Cursor → List ℕ → List ℕ → Cursor → Type 0 where
   noPieces : {out : List ℕ} {cursor : Cursor} → Adds out cursor [] out cursor
   aPiece : {out out₁ out₂ piece bytes : List ℕ} {cursor cursor₁ cursor₂ : Cursor} → Puts out cursor piece out₁ cursor₁ → Adds out₁ cursor₁ bytes out₂ cursor₂

@@ -27,24 +27,27 @@ sets-append l i (v ∷ x) y =
 -- what emit leaves: a cursor for which a piece had no room, a piece that has none, and one that has
 module _ (out : List ℕ) (cursor : Cursor) (piece : List ℕ) where
   pub stopped : cursor .fits ≡ false → Puts out cursor piece out cursor
-  stopped e = record { fits = rw e; at = λ f. clash f e; dry = refl; leaves = cases (cursor .dry) (λ d. rw d) (λ d. rw (d, e)) }
+  stopped e = record { fits = rw e; at = rw e; dry = refl; leaves = cases (cursor .dry) (λ d. rw d) (λ d. rw (d, e)) }
 
   pub no-room : cursor .fits ≡ true → leb (cursor .at + length piece) (length out) ≡ false → Puts out cursor piece out (record { at = cursor .at; fits = false; dry = cursor .dry })
-  no-room e h = record { fits = rw (e, h); at = λ f. clash f refl; dry = refl; leaves = cases (cursor .dry) (λ d. rw d) (λ d. rw d) }
+  no-room e h = record { fits = rw (e, h); at = refl; dry = refl; leaves = cases (cursor .dry) (λ d. rw d) (λ d. rw d) }
 
   module _ (e : cursor .fits ≡ true) (h : leb (cursor .at + length piece) (length out) ≡ true) where
     abbrev past : Cursor
     past = record { at = cursor .at + length piece; fits = true; dry = cursor .dry }
 
     pub passed : cursor .dry ≡ true → Puts out cursor piece out past
-    passed d = record { fits = rw (e, h); at = λ _. refl; dry = refl; leaves = rw d }
+    passed d = record { fits = rw (e, h); at = refl; dry = refl; leaves = rw d }
 
     pub put : cursor .dry ≡ false → Puts out cursor piece (sets out (cursor .at) piece) past
-    put d = record { fits = rw (e, h); at = λ _. refl; dry = refl; leaves = rw d }
+    put d = record { fits = rw (e, h); at = refl; dry = refl; leaves = rw d }
 
 module _ {out out' piece : List ℕ} {cursor cursor' : Cursor} (x : Puts out cursor piece out' cursor') where
   put-size : length out' ≡ length out
   put-size = ap length (x .leaves) ∙ cases (writes cursor') (λ t. rw t (length-sets out (cursor .at) piece)) (λ f. rw f)
+
+  put-past : cursor' .fits ≡ true → cursor' .at ≡ cursor .at + length piece
+  put-past f = rw f at (x .at)
 
   put-not : writes cursor ≡ false → writes cursor' ≡ false
   put-not = rw (x .dry, x .fits) (go (cursor .dry) (cursor .fits))
@@ -55,7 +58,7 @@ module _ {out out' piece : List ℕ} {cursor cursor' : Cursor} (x : Puts out cur
       go false true e = clash refl e
 
   put-then : writes cursor' ≡ true → (l : List ℕ) → sets out' (cursor' .at) l ≡ sets out (cursor .at) (piece ++ l)
-  put-then w l = rw (x .leaves, w, x .at (and-right _ (cursor' .fits) w)) (sym (sets-append out (cursor .at) piece l))
+  put-then w l = rw (x .leaves, w, put-past (and-right _ (cursor' .fits) w)) (sym (sets-append out (cursor .at) piece l))
 
 -- one piece, and one text after the other
 pub one : {out out' piece : List ℕ} {cursor cursor' : Cursor} → Puts out cursor piece out' cursor' → Adds out cursor piece out' cursor'
@@ -80,7 +83,7 @@ had-room (aPiece {cursor = cursor} x r) f = and-left (cursor .fits) _ (sym (x .f
 
 went : {out out' bytes : List ℕ} {cursor cursor' : Cursor} → Adds out cursor bytes out' cursor' → cursor' .fits ≡ true → cursor' .at ≡ cursor .at + length bytes
 went noPieces f = omega arith
-went (aPiece {piece = piece} {bytes} x r) f = omega (arith, went r f, x .at (had-room r f), length-append piece bytes)
+went (aPiece {piece = piece} {bytes} x r) f = omega (arith, went r f, put-past x (had-room r f), length-append piece bytes)
 
 -- a cursor that does not write leaves the buffer as it was
 pub kept : {out out' bytes : List ℕ} {cursor cursor' : Cursor} → Adds out cursor bytes out' cursor' → writes cursor ≡ false → out' ≡ out
@@ -108,8 +111,8 @@ fits-as (aPiece {out} {out₁} {out₂} {piece} {bytes} {cursor} {cursor₁} {cu
     cases (leb (cursor .at + length piece) (length out))
     (λ t.
     let g : cursor₁ .fits ≡ true = x .fits ∙ rw (f, t) in
-    let e : cursor₁ .at + length bytes ≡ cursor .at + (length piece + length bytes) = omega (arith, x .at g) in
-    fits-as r g (omega (arith, x .at g, put-size x, leb-true (cursor .at + length piece) (length out) t)) ∙ rw (put-size x, e, length-append))
+    let e : cursor₁ .at + length bytes ≡ cursor .at + (length piece + length bytes) = omega (arith, put-past x g) in
+    fits-as r g (omega (arith, put-past x g, put-size x, leb-true (cursor .at + length piece) (length out) t)) ∙ rw (put-size x, e, length-append))
     (λ n.
     let g : cursor₁ .fits ≡ false = x .fits ∙ rw (f, n) in
     let l : leb (cursor .at + length (piece ++ bytes)) (length out) ≡ false = lt-leb (cursor .at + length (piece ++ bytes)) (length out) (omega (arith, length-append piece bytes, leb-false (cursor .at + length piece) (length out) n)) in
