@@ -1,5 +1,5 @@
 -- What the calls on a run answer and leave, of any automaton, run and counters, by what is stored: the equations of their contracts.
-use Prim.Native.Nat.{ℕ, zero, suc, _+_, _*_, _/_, pred}
+use Prim.Native.Nat.{ℕ, zero, suc, _+_, _*_, _/_, pred, min}
 use mathlib.Core.Bool.{Bool, false, not, _&&_, _||_}
 use mathlib.Core.List.{List, [], _∷_, _++_}
 use lib.Dec.{leb, ltb, eqb}
@@ -116,9 +116,9 @@ noCounters = record { opens = 0; closes = 0; moves = 0 }
 
 -- what an accepted open leaves
 
--- bytes of a row of bits that the automaton's steps use, in whole blocks of sixteen
+-- bytes of a row of bits that the automaton's steps use: the first, and whole blocks of sixteen behind it
 abbrev pub usedBytes : List ℕ → ℕ
-usedBytes a = 16 * ((stepCount a + 127) / 128)
+usedBytes a = min maskSize (1 + 16 * ((stepCount a + 119) / 128))
 
 -- step i takes e: it is `*`, or one of the labels of that name
 unfoldable pub candidate : List ℕ → Name → ℕ → Bool

@@ -13,6 +13,7 @@ use crate::run::layout::MATCHES_AT;
 use crate::run::layout::SEEN_IN;
 use crate::run::rows;
 use notation::reads;
+use text::arith::least;
 ghost use mathlib.Core.Path.{_≡_};
 ghost use mathlib.Core.Bool.{_&&_, _||_};
 ghost use Prim.Native.Nat.{ℕ, _+_, _*_, _≤_, _<_};
@@ -26,11 +27,12 @@ ghost use Rattle.stored.specs.Run.{runSize};
 ghost use Rattle.stored.specs.RunCalls.{maskBit, shifted, permitted, seenAt, matchedAt, usedBytes};
 ghost use Rattle.stored.specs.Code.OpenSteps.{takenActive, takenSeen, takenMatched};
 
-// Bytes of a row of bits that the automaton's steps use, in whole blocks of sixteen: a loop over them has no odd end.
+// Bytes of a row of bits that the automaton's steps use: the first, which has no byte before it, and whole blocks of sixteen behind it, so
+// that a loop over them has no odd end.
 pub fn used_bytes(a: &[u8]) -> usize
     ensures { λ r. ⌜ r ≡ usedBytes (now (a .entry)) ⌝ }
 {
-    16 * ((reads::steps(a) + 127) / 128)
+    least(MASK_SIZE, 1 + 16 * ((reads::steps(a) + 119) / 128))
 }
 
 fn narrow(b: usize) -> u8

@@ -19,6 +19,7 @@ use Rattle.notation.proofs.Laws.Fill.Padded.{sets-front, joined-snoc}
 use Rattle.model.specs.Limits.{maxDepth}
 use Rattle.model.specs.Prefix.{prefixOf}
 use Rattle.model.specs.Walk.{walk}
+use Rattle.notation.specs.Limits.{maxPaths, maxSteps}
 use Rattle.stored.specs.Automaton.{maskSize, byteOf, bitBytes}
 use Rattle.stored.specs.Run.{matchesAt, rowsAt, rowSize, rowAt, matchBit, activeBits, seenBits, rowOf, rowsFrom, runWith, depthAt}
 use Rattle.stored.specs.RunCalls.{usedBytes, usedBits, nowActive, nowSeen, nowMatched, openWalk, stepBits, rowOpened, withRow, openRun, closeRun}
@@ -103,7 +104,8 @@ module _ (s : FolderSet) (a : List ℕ) (m : Means s a) where
   few = used-room a (rw step-count (m .fit .steps))
 
   used-all : length (stepsOf (pathsOf s)) ≤ 8 * usedBytes a
-  used-all = omega (arith, step-count)
+  unfolding maskSize maxPaths maxSteps
+  used-all = omega (arith, step-count, m .fit .steps)
 
   module _ (names : List Name) (deep : length names ≤ maxDepth) (short : Short names) (rest : List ℕ) where
     -- the walk of an open is the machine's
