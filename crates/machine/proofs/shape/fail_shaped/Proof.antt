@@ -6,7 +6,6 @@ use Rattle.notation.specs.Limits.{maxLabels}
 use Rattle.notation.specs.Reads.{labelCount}
 use Rattle.stored.specs.Automaton.{automatonSize, linksAt, linkSize}
 use Rattle.stored.specs.Tables.{failAt}
-use borrow.Author.Needs.{needs}
 use Rattle.stored.proofs.Laws.Shapes.Tested.{ltb-by, size-by}
 use Rattle.machine.proofs.shape.fail_shaped.Statement.{statement}
 use Rattle.machine.proofs.shape.fail_shaped.Tie as tie

@@ -1,7 +1,7 @@
 -- The label table of a set: entry i says where label i stands in the text, and which step has it.
 use Prim.Native.Nat.{ℕ, zero, suc, _+_, _<_, suc-le-suc, zero-le}
-use mathlib.Core.Path.{_≡_, refl, sym, ap, _∙_}
-use mathlib.Core.List.{List, [], _∷_, _++_, append-assoc}
+use mathlib.Core.Path.{_≡_, refl, ap, _∙_}
+use mathlib.Core.List.{List, [], _∷_, _++_}
 use native.Mathlib.Nat.{suc-add, add-suc, add-zero, not-suc-le-zero, le-of-suc-le-suc}
 use lib.ListN.{length, getD, take}
 use Rattle.text.specs.Names.{Name}

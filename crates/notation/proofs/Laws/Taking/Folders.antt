@@ -1,9 +1,9 @@
 -- Lines of folders, and the whole text, taken as they are read.
-use Prim.Native.Nat.{ℕ, _+_, _-_, _≤_, _<_}
+use Prim.Native.Nat.{ℕ, _+_, _-_, _≤_}
 use native.Mathlib.Omega.{arith}
 use mathlib.Core.Path.{_≡_, refl, sym, ap, ap₂, _∙_}
 use mathlib.Core.Bool.{Bool, true, false, not, cond}
-use mathlib.Core.List.{List, [], _∷_, _++_, append-assoc}
+use mathlib.Core.List.{List, [], _∷_, _++_}
 use lib.Dec.{eqb}
 use borrow.Author.Tests.{eqb-true, eqb-false}
 use lib.ListN.{length, drop, length-append, length-drop, drop-of-length-le}
@@ -13,19 +13,19 @@ use Rattle.text.specs.Numbers.{numberFound}
 use Rattle.text.specs.Read.{Read, fail, got, thenRead, when, startsWith, readWord, readNumber}
 use Rattle.text.specs.declared.numbers.Number.{Number}
 use Rattle.text.proofs.Laws.Tests.{cases}
-use Rattle.text.proofs.Laws.Reads.{WhenRead, holds-got, holds-map, word-is, word-fits, behind, begins-drop}
+use Rattle.text.proofs.Laws.Reads.{WhenRead, holds-got, holds-map, word-is, word-fits, behind}
 use Rattle.text.proofs.Laws.ReadNumber.{number-sound}
 use Rattle.notation.specs.Limits.{maxNumber}
 use Rattle.notation.specs.Sets.{Path, Folder, folder, FolderSet, folderPaths}
 use Rattle.notation.specs.Print.{printPath, printPaths, folderWord, header, footer, printFolder}
-use Rattle.notation.specs.Form.{stepsOf, labelsOf}
+use Rattle.notation.specs.Form.{stepsOf}
 use Rattle.notation.specs.Code.Reader.{readPaths, readLine, readFolder, readFolders, readSet}
 use Rattle.notation.specs.Code.Taking.{movedTally, nothing, State, state, Gives, moved, takeAll, takePath, takeNumber, lineEnded, takeLine, takeFolder, takeSet, Took, Small}
 use Rattle.notation.specs.declared.tally.Tally.{Tally}
 use Rattle.notation.specs.declared.tally.Taken.{Taken}
 use Rattle.notation.proofs.Laws.Reading.Folders.{folder-sound}
-use Rattle.notation.proofs.Laws.Taking.Grown.{paths-grown, number-grown, folder-grown}
-use Rattle.notation.proofs.Laws.Taking.Levels.{On, past, Level, many-goes, took-got}
+use Rattle.notation.proofs.Laws.Taking.Grown.{paths-grown, folder-grown}
+use Rattle.notation.proofs.Laws.Taking.Levels.{past, Level, many-goes, took-got}
 use Rattle.notation.proofs.Laws.Taking.Paths.{past-word, not-read, many-bytes, many-labels, path-level}
 
 -- the paths and steps of a line are no more than its bytes

@@ -3,7 +3,7 @@ use Prim.Native.Nat.{ℕ, suc, _+_, _≤_, _<_}
 use native.Mathlib.Omega.{arith}
 use native.Mathlib.Nat.{add-zero}
 use native.Mathlib.Numerals.{add-one}
-use mathlib.Core.Path.{_≡_, refl, sym, ap, _∙_}
+use mathlib.Core.Path.{_≡_, refl, sym, _∙_}
 use mathlib.Core.Bool.{true, false, true≢false, false≢true}
 use mathlib.Core.List.{List, [], _∷_, _++_}
 use lib.Dec.{eqb}
@@ -11,10 +11,10 @@ use borrow.Author.Tests.{eqb-true, eq-eqb, ne-eqb}
 use lib.ListN.{length, getD, drop, drop-of-length-le, length-append}
 use lib.Seq.{drop-cons, drop-drop}
 use Rattle.text.specs.Names.{beginsName, inName}
-use Rattle.text.specs.Read.{Read, fail, got, thenRead, front, startsWith, readWord, readName}
+use Rattle.text.specs.Read.{Read, fail, got, thenRead, front, startsWith, readName}
 use Rattle.text.proofs.Laws.Tests.{cases}
 use Rattle.text.proofs.Laws.Reads.{word-is}
-use Rattle.notation.specs.Sets.{Axis, child, descendant, Test, label, Step, step}
+use Rattle.notation.specs.Sets.{Axis, child, descendant, Test, step}
 use Rattle.notation.specs.Print.{printAxis, printTest, printStep}
 use Rattle.notation.specs.Layout.{axisBit, starKind}
 use Rattle.notation.specs.Code.Reader.{readAxis, readTest, readStep}

@@ -1,15 +1,15 @@
 -- How far reading goes on, and what it counts: the bytes that are printed, the folders, paths, steps and labels that there are.
-use Prim.Native.Nat.{ℕ, suc, _+_, _≤_}
+use Prim.Native.Nat.{ℕ, _+_}
 use native.Mathlib.Omega.{arith}
 use mathlib.Core.Path.{_≡_, refl, ap}
 use mathlib.Core.List.{List, [], _∷_, _++_}
 use lib.ListN.{length, length-append}
 use Rattle.text.specs.Decimal.{decimal}
 use Rattle.text.specs.Read.{printMany}
-use Rattle.notation.specs.Sets.{child, descendant, label, star, Step, step, Path, Folder, folder, FolderSet, testOf, folderPaths}
-use Rattle.notation.specs.Print.{printStep, printPath, printPaths, folderWord, header, footer, printFolder, printFolders, print}
+use Rattle.notation.specs.Sets.{Step, Path, Folder, folder, FolderSet, testOf, folderPaths}
+use Rattle.notation.specs.Print.{printStep, printPath, printPaths, folderWord, footer, printFolder}
 use Rattle.notation.specs.Form.{pathsOf, stepsOf, labelsOf, labelOf}
-use Rattle.notation.specs.Code.Taking.{movedTally, stepTally, pathBegun, pathEnded, numberCounted, State, state, moved, takeStep, takeAll, endPath, takePath, takeNumber, takeLine, takeFolder, takeSet}
+use Rattle.notation.specs.Code.Taking.{pathBegun, State, state, moved, takeStep, takeAll, takePath, takeNumber, takeFolder}
 use Rattle.notation.specs.declared.tally.Tally.{Tally}
 use Rattle.notation.proofs.Laws.Parts.{steps-append, labels-append}
 
@@ -71,7 +71,7 @@ paths-grown (p ∷ ps) s =
     chain (path-grown p s) (paths-grown ps (takePath p s)) (omega (arith, length-append (printPath p) (41 ∷ printPaths ps))) refl (omega arith)
     (length-append p (stepsOf ps)) (omega (arith, ap length (labels-append p (stepsOf ps)), length-append (labelsOf p) (labelsOf (stepsOf ps))))
 
-pub number-grown : (n : ℕ) (s : State) → Grown (length folderWord + length (decimal n)) 1 0 0 0 (s .tally) (takeNumber n s .tally)
+number-grown : (n : ℕ) (s : State) → Grown (length folderWord + length (decimal n)) 1 0 0 0 (s .tally) (takeNumber n s .tally)
 number-grown n s = record { at = refl; folders = refl; paths = omega arith; steps = omega arith; labels = omega arith }
 
 pub folder-grown : (f : Folder) (s : State)

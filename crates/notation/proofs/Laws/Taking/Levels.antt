@@ -3,10 +3,10 @@ use Prim.Native.Nat.{ℕ, zero, suc, _+_, _≤_, _<_}
 use native.Mathlib.Omega.{arith}
 use mathlib.Core.Path.{_≡_, refl, sym, ap, ap₂, _∙_}
 use mathlib.Core.Bool.{Bool, true, false}
-use mathlib.Core.List.{List, [], _∷_, _++_}
+use mathlib.Core.List.{List, _∷_, _++_}
 use lib.ListN.{length, drop, length-append, length-drop}
 use Rattle.text.specs.Read.{Read, fail, got, thenRead, readUpTo, readMany}
-use Rattle.text.proofs.Laws.Reads.{WhenRead, gotten, then-holds, holds-map, holds-got, cond-holds, behind}
+use Rattle.text.proofs.Laws.Reads.{WhenRead, gotten, then-holds, holds-got, cond-holds, behind}
 use Rattle.text.proofs.Laws.ReadMany.{many-none}
 use Rattle.notation.specs.Code.Taking.{State, state, takeAll, Took, Small}
 use Rattle.notation.specs.declared.tally.Tally.{Tally}

@@ -1,5 +1,5 @@
 -- Steps and paths, taken as they are read.
-use Prim.Native.Nat.{ℕ, suc, _+_, _≤_, _<_}
+use Prim.Native.Nat.{ℕ, _+_, _≤_}
 use native.Mathlib.Omega.{arith}
 use mathlib.Core.Path.{_≡_, refl, sym, ap, _∙_}
 use mathlib.Core.Bool.{Bool, true, false}
@@ -19,7 +19,7 @@ use Rattle.notation.specs.declared.tally.Tally.{Tally}
 use Rattle.notation.specs.declared.tally.Taken.{Taken}
 use Rattle.notation.proofs.Laws.Reading.Paths.{step-sound, path-sound}
 use Rattle.notation.proofs.Laws.Taking.Grown.{step-grown, steps-grown, path-grown}
-use Rattle.notation.proofs.Laws.Taking.Levels.{On, past, Level, many-goes, took-got}
+use Rattle.notation.proofs.Laws.Taking.Levels.{past, Level, many-goes, took-got}
 
 -- no word stands there
 pub no-word : {A : Type 0} (take : A → State → State) (w l : List ℕ) (k : List ℕ → List ℕ → Read A) (s : State) (part : List ℕ)

@@ -1,7 +1,6 @@
 use mathlib.Core.Path.{sym, _∙_}
-use native.Mathlib.Omega.{arith}
 use borrow.Author.Tests.{lt-ltb, le-ltb}
-use Rattle.notation.specs.Limits.{maxSetBytes, maxPaths, maxLabels}
+use Rattle.notation.specs.Limits.{maxSetBytes}
 use Rattle.notation.specs.Code.Taking.{textRefusal}
 use Rattle.notation.proofs.Laws.Refused.Taken.{taken-verdict, untaken-verdict}
 use borrow.Author.Needs.{needs}

@@ -1,6 +1,5 @@
 use Rattle.notation.specs.Limits.{maxPaths, maxLabels}
 use borrow.Author.Tests.{eq-eqb, ne-eqb, lt-ltb, le-ltb}
-use borrow.Author.Needs.{needs}
 use Rattle.notation.proofs.read.verdict.Statement.{statement}
 use Rattle.notation.proofs.read.verdict.Tie as tie
 

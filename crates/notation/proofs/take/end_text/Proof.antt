@@ -1,4 +1,3 @@
-use mathlib.Core.Path.{sym, _∙_}
 use borrow.Author.Tests.{eq-eqb, ne-eqb}
 use borrow.Author.Needs.{needs}
 use Rattle.notation.proofs.take.end_text.Statement.{statement}

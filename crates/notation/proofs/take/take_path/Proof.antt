@@ -4,7 +4,7 @@ use lib.ListN.{drop}
 use native.Mathlib.Omega.{arith}
 use borrow.Author.Tests.{not-true, not-false}
 use Rattle.notation.specs.Code.Reader.{readPath}
-use Rattle.notation.specs.Code.Taking.{state, takePath}
+use Rattle.notation.specs.Code.Taking.{takePath}
 use Rattle.notation.proofs.Laws.Taking.Paths.{no-word, begun-small, steps-unread, u-small, path-read}
 use borrow.Author.Needs.{needs}
 use Rattle.notation.proofs.take.take_path.Statement.{statement}

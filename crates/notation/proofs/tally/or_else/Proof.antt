@@ -1,5 +1,4 @@
 use borrow.Author.Tests.{eq-eqb, ne-eqb}
-use borrow.Author.Needs.{needs}
 use Rattle.notation.proofs.tally.or_else.Statement.{statement}
 use Rattle.notation.proofs.tally.or_else.Tie as tie
 

@@ -5,6 +5,7 @@ use native.Mathlib.Omega.{arith}
 use borrow.Author.Tests.{ne-eqb, not-true, not-false}
 use Rattle.stored.specs.RunCalls.{closeRefusal}
 use Rattle.stored.proofs.Laws.Shapes.Given.{lent-usable, close-lent, close-unformed}
+use Rattle.text.specs.Refusals.{syntaxError, numberOf}
 use borrow.Author.Needs.{needs}
 use Rattle.machine.proofs.run.close.close_by.Statement.{statement}
 use Rattle.machine.proofs.run.close.close_by.Tie as tie
@@ -31,7 +32,7 @@ same-length-2 c = search needs
 returns-2 : tie.Need-returns-2
 returns-2 c = let b = c .before .before .before .before .before .before .before .before .args in
     let u = lent-usable (b .a .now) (b .run .now) (b .counters) (sym (c .before .before .before .refusal .ensures) ∙ c .before .before .if1 .left) in
-    let z : closeRefusal (b .a .now) (b .run .now) (b .counters) (b .e .now) ≡ 9 = close-unformed (b .a .now) (b .run .now) (b .counters) (b .e .now) u (sym (c .before .name-form .ensures) ∙ not-true _ (c .if2 .taken)) in
+    let z : closeRefusal (b .a .now) (b .run .now) (b .counters) (b .e .now) ≡ numberOf syntaxError = close-unformed (b .a .now) (b .run .now) (b .counters) (b .e .now) u (sym (c .before .name-form .ensures) ∙ not-true _ (c .if2 .taken)) in
     let y : closeRefusal (b .a .now) (b .run .now) (b .counters) (b .e .now) ≡ 0 → ⊥ = λ k. absurd (omega (arith, z)) in
     let n : eqb (closeRefusal (b .a .now) (b .run .now) (b .counters) (b .e .now)) 0 ≡ false = ne-eqb _ _ y in
     record { answers = sym z; runAfter = rw n; countersAfter = rw n }

@@ -8,6 +8,7 @@ use Rattle.text.specs.Answers.{refused}
 use Rattle.text.proofs.Laws.Said.{said-refused}
 use Rattle.stored.specs.RunCalls.{openRefusal}
 use Rattle.stored.proofs.Laws.Shapes.Given.{lent-usable, open-lent, open-unformed}
+use Rattle.text.specs.Refusals.{syntaxError, numberOf}
 use borrow.Author.Needs.{needs}
 use Rattle.machine.proofs.run.open.open_by.Statement.{statement}
 use Rattle.machine.proofs.run.open.open_by.Tie as tie
@@ -35,7 +36,7 @@ same-length-2 c = search needs
 returns-2 : tie.Need-returns-2
 returns-2 c = let b = c .before .before .before .before .before .before .before .before .args in
     let u = lent-usable (b .a .now) (b .run .now) (b .counters) (sym (c .before .before .before .refusal .ensures) ∙ c .before .before .if1 .left) in
-    let z : openRefusal (b .a .now) (b .run .now) (b .counters) (b .e .now) ≡ 9 = open-unformed (b .a .now) (b .run .now) (b .counters) (b .e .now) u (sym (c .before .name-form .ensures) ∙ not-true _ (c .if2 .taken)) in
+    let z : openRefusal (b .a .now) (b .run .now) (b .counters) (b .e .now) ≡ numberOf syntaxError = open-unformed (b .a .now) (b .run .now) (b .counters) (b .e .now) u (sym (c .before .name-form .ensures) ∙ not-true _ (c .if2 .taken)) in
     let y : openRefusal (b .a .now) (b .run .now) (b .counters) (b .e .now) ≡ 0 → ⊥ = λ k. absurd (omega (arith, z)) in
     let n : eqb (openRefusal (b .a .now) (b .run .now) (b .counters) (b .e .now)) 0 ≡ false = ne-eqb _ _ y in
     record { answers = ap (λ (r : ℕ). refused r) (sym z) ∙ sym (said-refused (openRefusal (b .a .now) (b .run .now) (b .counters) (b .e .now)) _ y); runAfter = rw n; countersAfter = rw n }
