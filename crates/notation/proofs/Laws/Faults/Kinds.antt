@@ -33,26 +33,21 @@ has-append k xs ys = any-append (λ r. eqb (numberOf r) k) xs ys
 abbrev stepList : Bool → Bool → List Refusal
 stepList p q = cond p (nameTooLong ∷ []) [] ++ cond q (pathTooLong ∷ []) []
 
-step-has-4 : (p q : Bool) → has (numberOf outOfOrder) (stepList p q) ≡ false
+step-has : (k : ℕ) (p q : Bool) → has k (stepList p q) ≡ (p && eqb (numberOf nameTooLong) k || q && eqb (numberOf pathTooLong) k)
 unfolding any
-step-has-4 true true = refl
-step-has-4 true false = refl
-step-has-4 false true = refl
-step-has-4 false false = refl
+step-has k true true = ap (λ b. eqb (numberOf nameTooLong) k || b) (or-false (eqb (numberOf pathTooLong) k))
+step-has k true false = refl
+step-has k false true = or-false (eqb (numberOf pathTooLong) k)
+step-has k false false = refl
+
+step-has-4 : (p q : Bool) → has (numberOf outOfOrder) (stepList p q) ≡ false
+step-has-4 p q = step-has (numberOf outOfOrder) p q ∙ rw (and-false p, and-false q)
 
 step-has-5 : (p q : Bool) → has (numberOf nameTooLong) (stepList p q) ≡ p
-unfolding any
-step-has-5 true true = refl
-step-has-5 true false = refl
-step-has-5 false true = refl
-step-has-5 false false = refl
+step-has-5 p q = step-has (numberOf nameTooLong) p q ∙ rw (and-true p, and-false q) (or-false p)
 
 step-has-6 : (p q : Bool) → has (numberOf pathTooLong) (stepList p q) ≡ q
-unfolding any
-step-has-6 true true = refl
-step-has-6 true false = refl
-step-has-6 false true = refl
-step-has-6 false false = refl
+step-has-6 p q = step-has (numberOf pathTooLong) p q ∙ rw (and-false p, and-true q)
 
 turn-has : (k : ℕ) (c : Bool) → has k (cond c (outOfOrder ∷ []) []) ≡ (c && eqb (numberOf outOfOrder) k)
 unfolding any

@@ -1,13 +1,14 @@
 -- Where the text and the tables stand in the bytes of a read set, for any text and tables that fit their room.
-use Prim.Native.Nat.{ℕ, _-_, _*_, _≤_}
+use Prim.Native.Nat.{ℕ, _*_, _≤_}
 use mathlib.Core.Path.{_≡_, refl}
 use mathlib.Core.List.{List, _++_}
 use native.Mathlib.Nat.{mul-le-mul-left}
 use native.Mathlib.Omega.{arith}
-use lib.ListN.{length, replicate, length-append, length-replicate}
+use lib.ListN.{length, length-append}
 use Rattle.notation.specs.Limits.{maxSetBytes, maxPaths, maxSteps, maxLabels}
 use Rattle.notation.specs.Layout.{Tables, folderSize, pathSize, labelSize, textAt, foldersAt, pathsAt, stepsAt, labelsAt, setSize, counts, layout}
 use Rattle.text.specs.Bytes.{joined, padded}
+use Rattle.notation.proofs.Laws.Fill.Padded.{length-padded}
 use Rattle.notation.proofs.Laws.Stored.Stands.{Stands, itself, left, right}
 use Rattle.notation.proofs.Laws.Stored.Entries.{OfWidth, joined-length}
 
@@ -22,11 +23,6 @@ pub record Roomy (text : List ℕ) (t : Tables) : Type 0 where
   pub pathWidth : OfWidth pathSize (t .paths)
   pub stepWidth : OfWidth 1 (t .steps)
   pub labelWidth : OfWidth labelSize (t .labels)
-
-pub padded-length : (n : ℕ) (l : List ℕ) → length l ≤ n → length (padded n l) ≡ n
-unfolding padded
-padded-length n l h =
-    omega (arith, length-append l (replicate (n - length l) 0), length-replicate {A = ℕ} (n - length l) 0)
 
 -- a table of n entries or fewer
 room : {w : ℕ} {es : List (List ℕ)} (n : ℕ) → OfWidth w es → length es ≤ n → length (joined es) ≤ w * n
@@ -63,20 +59,20 @@ module _ (text : List ℕ) (t : Tables) (rest : List ℕ) where
 
 module _ (text : List ℕ) (t : Tables) (f : Roomy text t) where
   text-size : length (text' text) ≡ maxSetBytes
-  text-size = padded-length maxSetBytes text (f .bytes)
+  text-size = length-padded maxSetBytes text (f .bytes)
 
   folders-size : length (folders' t) ≡ folderSize * maxPaths
-  folders-size = padded-length (folderSize * maxPaths) (joined (t .folders)) (room maxPaths (f .folderWidth) (f .folders))
+  folders-size = length-padded (folderSize * maxPaths) (joined (t .folders)) (room maxPaths (f .folderWidth) (f .folders))
 
   paths-size : length (paths' t) ≡ pathSize * maxPaths
-  paths-size = padded-length (pathSize * maxPaths) (joined (t .paths)) (room maxPaths (f .pathWidth) (f .paths))
+  paths-size = length-padded (pathSize * maxPaths) (joined (t .paths)) (room maxPaths (f .pathWidth) (f .paths))
 
   steps-size : length (steps' t) ≡ maxPaths * maxSteps
   steps-size =
-      padded-length (maxPaths * maxSteps) (joined (t .steps)) (omega (arith, room (maxPaths * maxSteps) (f .stepWidth) (f .steps)))
+      length-padded (maxPaths * maxSteps) (joined (t .steps)) (omega (arith, room (maxPaths * maxSteps) (f .stepWidth) (f .steps)))
 
   labels-size : length (labels' t) ≡ labelSize * maxLabels
-  labels-size = padded-length (labelSize * maxLabels) (joined (t .labels)) (room maxLabels (f .labelWidth) (f .labels))
+  labels-size = length-padded (labelSize * maxLabels) (joined (t .labels)) (room maxLabels (f .labelWidth) (f .labels))
 
   pub layout-length : length (layout text t) ≡ setSize
   unfolding layout setSize maxSetBytes folderSize pathSize labelSize maxPaths maxSteps maxLabels
