@@ -1,6 +1,7 @@
 // Building an automaton: a set is read into its first bytes, and a pass for each of its tables makes the others behind it.
 mod chains;
 mod fails;
+mod groups;
 mod masks;
 mod parents;
 
@@ -40,6 +41,7 @@ fn make(part: &mut [u8])
 {
     clear_tables(part);
     chains::chain(part);
+    groups::group(part);
     parents::parents(part);
     fails::fails(part);
     masks::write_masks(part);

@@ -6,14 +6,23 @@ use notation::limits::MAX_LABELS;
 
 pub const HASHES: usize = 256;
 
-// Of a label's links: the next label of its chain, the parent, the failure link, the length of its word.
+// Of a label's links: the next label of its name, the parent, the failure link, the length of its word, the next name of its hash, the first
+// label of its name, the next label of its name in a later byte of a mask, and the bits of the steps in its own byte.
 pub const PARENT_IN: usize = WORD_SIZE;
 
 pub const FAIL_IN: usize = PARENT_IN + WORD_SIZE;
 
 pub const SIZE_IN: usize = FAIL_IN + WORD_SIZE;
 
-pub const LINK_SIZE: usize = SIZE_IN + WORD_SIZE;
+pub const OTHER_IN: usize = SIZE_IN + WORD_SIZE;
+
+pub const FIRST_IN: usize = OTHER_IN + WORD_SIZE;
+
+pub const FAR_IN: usize = FIRST_IN + WORD_SIZE;
+
+pub const BITS_IN: usize = FAR_IN + WORD_SIZE;
+
+pub const LINK_SIZE: usize = BITS_IN + WORD_SIZE;
 
 // One bit a step.
 pub const MASK_SIZE: usize = MAX_ALL_STEPS / 8;

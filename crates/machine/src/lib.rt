@@ -4,6 +4,7 @@ pub mod build;
 mod hash;
 mod labels;
 pub mod layout;
+mod lookup;
 pub mod run;
 pub mod set;
 mod shape;

@@ -7,14 +7,17 @@ ghost use Rattle.notation.specs.Limits.{maxPaths, maxSteps, maxLabels};
 ghost use Rattle.notation.specs.Reads.{textLen, folderCount, pathCount, stepCount, labelCount};
 ghost use Rattle.stored.specs.Automaton.{hashes, automatonSize};
 ghost use Rattle.stored.specs.Tables.{sizeOf};
-ghost use Rattle.stored.specs.Shape.{allBelow, countsShaped, folderShaped, pathShaped, stepShaped, labelShaped, headShaped, chainShaped, failShaped, linkShaped, setShaped, automatonShaped};
+ghost use Rattle.stored.specs.Shape.{allBelow, countsShaped, folderShaped, pathShaped, stepShaped, labelShaped, headShaped, laterPlace, chainShaped, failShaped, linkShaped, setShaped, automatonShaped};
 use crate::bits::wide;
 use crate::labels::word;
 use crate::layout::FAIL_IN;
+use crate::layout::FAR_IN;
+use crate::layout::FIRST_IN;
 use crate::layout::HASHES;
 use crate::layout::HEADS_AT;
 use crate::layout::LINK_SIZE;
 use crate::layout::LINKS_AT;
+use crate::layout::OTHER_IN;
 use crate::layout::PARENT_IN;
 use crate::layout::SIZE_IN;
 use crate::layout::START_AT;
@@ -104,15 +107,32 @@ fn label_shaped(a: &[u8], i: usize, steps: usize, text: usize) -> bool
     )
 }
 
+// A place after label l: that of a later label, or none.
+fn later_place(a: &[u8], l: usize, k: usize, top: usize) -> bool
+    requires { ⌜ (l < maxLabels) × (top ≡ labelCount (now a)) ⌝ }
+    ensures { λ r. ⌜ r ≡ laterPlace (now (a .entry)) l k ⌝ }
+{
+    if k == 0 {
+        return true;
+    }
+    both(l + 1 < k, k <= top)
+}
+
 fn chain_shaped(a: &[u8], l: usize, top: usize) -> bool
     requires { ⌜ (automatonSize ≤ length (now a)) × ((l < maxLabels) × (top ≡ labelCount (now a))) ⌝ }
     ensures { λ r. ⌜ r ≡ chainShaped (now (a .entry)) l ⌝ }
 {
-    let next = word(a, LINKS_AT + LINK_SIZE * l);
-    if next == 0 {
-        return true;
-    }
-    both(l + 1 < next, next <= top)
+    let at = LINKS_AT + LINK_SIZE * l;
+    both(
+        later_place(a, l, word(a, at), top),
+        both(
+            later_place(a, l, word(a, at + OTHER_IN), top),
+            both(
+                later_place(a, l, word(a, at + FAR_IN), top),
+                word(a, at + FIRST_IN) <= top,
+            ),
+        ),
+    )
 }
 
 // The length of the word of a state: of a label's, of `#` or of the empty word.

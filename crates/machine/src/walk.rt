@@ -2,20 +2,16 @@
 ghost use mathlib.Core.Path.{_≡_};
 ghost use Prim.Native.Nat.{suc, _+_, _≤_, _<_};
 ghost use lib.ListN.{length};
-ghost use Rattle.notation.specs.Limits.{maxLabels};
 ghost use Rattle.notation.specs.Reads.{word16, labelCount};
-ghost use Rattle.stored.specs.Automaton.{automatonSize, linkEntryAt, hash};
-ghost use Rattle.stored.specs.Tables.{sizeOf, failOf, follows, goto, walkOver};
+ghost use Rattle.stored.specs.Automaton.{automatonSize, linkEntryAt};
+ghost use Rattle.stored.specs.Tables.{sizeOf, failOf, gotoBy, walkBy};
 ghost use Rattle.stored.specs.Usable.{Searchable, Walkable};
-use crate::labels::label_is;
 use crate::labels::word;
 use crate::layout::FAIL_IN;
-use crate::layout::HEADS_AT;
 use crate::layout::LINK_SIZE;
 use crate::layout::LINKS_AT;
 use crate::layout::PARENT_IN;
 use crate::layout::SIZE_IN;
-use notation::layout::WORD_SIZE;
 use notation::reads::word_at;
 use stored::walk::Walk;
 
@@ -39,28 +35,18 @@ pub fn size_of(a: &[u8], q: usize) -> usize
     }
 }
 
-// Whether label `l` ends the word of state `q` followed by `e`.
-fn follows_label(a: &[u8], q: usize, e: &[u8], l: usize) -> bool
-    requires { ⌜ (automatonSize ≤ length (now a)) × ((l < maxLabels) × (l < labelCount (now a))) ⌝ }
-    ensures { λ r. ⌜ r ≡ follows (now (a .entry)) q (now (e .entry)) l ⌝ }
+// The state of the word of state `q` followed by a name, 0 for none. `first` is the place of the name's first label.
+pub fn goto_state(a: &[u8], q: usize, first: usize) -> usize
+    requires { ⌜ Searchable (now a) × ((first ≤ labelCount (now a)) × (automatonSize ≤ length (now a))) ⌝ }
+    ensures { λ r. ⌜ (r ≡ gotoBy (now (a .entry)) q first) × (r ≤ suc (labelCount (now (a .entry)))) ⌝ }
 {
-    if word(a, LINKS_AT + LINK_SIZE * l + PARENT_IN) != q {
-        return false;
-    }
-    label_is(a, l, e)
-}
-
-// The state of the word of state `q` followed by `e`, 0 for none. `h` is the hash of `e`.
-pub fn goto_state(a: &[u8], q: usize, e: &[u8], h: usize) -> usize
-    requires { ⌜ Searchable (now a) × ((h ≡ hash (now e)) × (automatonSize ≤ length (now a))) ⌝ }
-    ensures { λ r. ⌜ (r ≡ goto (now (a .entry)) q (now (e .entry))) × (r ≤ suc (labelCount (now (a .entry)))) ⌝ }
-{
-    let mut k = word(a, HEADS_AT + WORD_SIZE * h);
+    let mut k = first;
     while k != 0 {
-        if follows_label(a, q, e, k - 1) {
+        let at = LINKS_AT + LINK_SIZE * (k - 1);
+        if word(a, at + PARENT_IN) == q {
             return k + 1;
         }
-        k = word(a, LINKS_AT + LINK_SIZE * (k - 1));
+        k = word(a, at);
     }
     0
 }
@@ -77,12 +63,12 @@ pub fn fail_of(a: &[u8], q: usize) -> usize
     }
 }
 
-// The walk of an open of `e` from state `q` (paper 01: the walk with its fall-backs).
-pub fn walk_from(a: &[u8], q: usize, e: &[u8], h: usize) -> Walk
-    requires { ⌜ Walkable (now a) × ((q ≤ suc (labelCount (now a))) × ((h ≡ hash (now e)) × (automatonSize ≤ length (now a)))) ⌝ }
-    ensures { λ r. ⌜ (r ≡ walkOver (now (a .entry)) q (now (e .entry))) × ((r .state ≤ suc (labelCount (now (a .entry)))) × (r .moves ≤ sizeOf (now (a .entry)) q)) ⌝ }
+// The walk of an open from state `q` (paper 01: the walk with its fall-backs). `first` is the place of the first label with its name.
+pub fn walk_from(a: &[u8], q: usize, first: usize) -> Walk
+    requires { ⌜ Walkable (now a) × ((q ≤ suc (labelCount (now a))) × ((first ≤ labelCount (now a)) × (automatonSize ≤ length (now a)))) ⌝ }
+    ensures { λ r. ⌜ (r ≡ walkBy (now (a .entry)) q first) × ((r .state ≤ suc (labelCount (now (a .entry)))) × (r .moves ≤ sizeOf (now (a .entry)) q)) ⌝ }
 {
-    let to = goto_state(a, q, e, h);
+    let to = goto_state(a, q, first);
     if to != 0 {
         return Walk {
             moves: 0,
@@ -92,7 +78,7 @@ pub fn walk_from(a: &[u8], q: usize, e: &[u8], h: usize) -> Walk
     if q == 0 {
         return Walk { moves: 0, state: 0 };
     }
-    let rest = walk_from(a, fail_of(a, q), e, h);
+    let rest = walk_from(a, fail_of(a, q), first);
     Walk {
         moves: rest.moves + 1,
         state: rest.state,

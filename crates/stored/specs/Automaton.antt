@@ -5,11 +5,12 @@
 use Prim.Native.Nat.{ℕ, zero, suc, _+_, _*_, _/_, _%_}
 use mathlib.Core.Bool.{Bool, true, false, not, _&&_, cond}
 use mathlib.Core.List.{List, [], _∷_, _++_, map}
-use lib.Dec.{eqb}
+use lib.Dec.{leb, eqb}
 use lib.ListN.{length, getD}
-use Rattle.text.specs.Names.{Name}
+use Rattle.text.specs.Names.{Name, sameName}
+use Rattle.text.specs.Lists.{any}
 use Rattle.notation.specs.Limits.{maxPaths, maxSteps, maxLabels}
-use Rattle.notation.specs.Sets.{Step, Path, FolderSet, axisOf, testOf}
+use Rattle.notation.specs.Sets.{label, star, Step, step, Path, FolderSet, axisOf, testOf}
 use Rattle.notation.specs.Form.{pathsOf, stepsOf, labelsOf}
 use Rattle.notation.specs.Layout.{wordSize, setSize, setPart}
 use Rattle.text.specs.Bytes.{le16, joined, padded}
@@ -22,7 +23,8 @@ use Rattle.model.specs.Prefix.{failure}
 unfoldable pub hashes : ℕ
 hashes = 256
 
--- of a label's links: the next label of its chain, the parent, the failure link, the length of its word
+-- of a label's links: the next label of its name, the parent, the failure link, the length of its word, the next name of its hash, the first
+-- label of its name, the next label of its name in a later byte of a mask, and the bits of the steps in its own byte
 abbrev pub parentIn : ℕ
 parentIn = wordSize
 
@@ -32,8 +34,20 @@ failIn = parentIn + wordSize
 abbrev pub sizeIn : ℕ
 sizeIn = failIn + wordSize
 
+abbrev pub otherIn : ℕ
+otherIn = sizeIn + wordSize
+
+abbrev pub firstIn : ℕ
+firstIn = otherIn + wordSize
+
+abbrev pub farIn : ℕ
+farIn = firstIn + wordSize
+
+abbrev pub bitsIn : ℕ
+bitsIn = farIn + wordSize
+
 unfoldable pub linkSize : ℕ
-linkSize = sizeIn + wordSize
+linkSize = bitsIn + wordSize
 
 -- bytes of a mask: one bit a step
 unfoldable pub maskSize : ℕ
@@ -145,48 +159,153 @@ shortened [] = []
 shortened (s ∷ []) = []
 shortened (s ∷ t ∷ w) = s ∷ shortened (t ∷ w)
 
--- chains: the first label of each hash, and for each label the next one of its hash; 1 more than the label's place, 0 for none
-
-abbrev pub hasHash : ℕ → Name → Bool
-hasHash h n = eqb (hash n) h
-
 -- f 0, f 1, .. , n values
 unfoldable pub tabulate : (ℕ → ℕ) → ℕ → List ℕ
 tabulate f zero = []
 tabulate f (suc n) = tabulate f n ++ (f n ∷ [])
 
+abbrev pub bit : Bool → ℕ
+bit true = 1
+bit false = 0
+
+-- eight bits of a byte, the first in the lowest place
+unfoldable pub packed : (ℕ → Bool) → ℕ
+packed b = bit (b 0) + 2 * bit (b 1) + 4 * bit (b 2) + 8 * bit (b 3) + 16 * bit (b 4) + 32 * bit (b 5) + 64 * bit (b 6) + 128 * bit (b 7)
+
+-- bits 8 j to 8 j + 7 are byte j
+abbrev pub byteOf : (ℕ → Bool) → ℕ → ℕ
+byteOf b j = packed (λ k. b (8 * j + k))
+
+abbrev pub bitBytes : (ℕ → Bool) → ℕ → List ℕ
+bitBytes b n = tabulate (byteOf b) n
+
+-- labels by name: a chain for each hash has one label of every different name of that hash, its last one, which has the place of the name's
+-- first one, from where the labels of the name are linked. A place is 1 more than the label's, 0 for none
+
+abbrev pub hasHash : ℕ → Name → Bool
+hasHash h n = eqb (hash n) h
+
+abbrev pub named : Name → Name → Bool
+named e n = sameName n e
+
+-- no later label has the name
+abbrev pub isLast : Name → List Name → Bool
+isLast n later = not (any (named n) later)
+
+abbrev pub lastOfHash : ℕ → Name → List Name → Bool
+lastOfHash h n later = hasHash h n && isLast n later
+
+-- the number of the first name that passes the test, which sees the names behind it as well, counted from k; 0 for none
+unfoldable pub findLast : (Name → List Name → Bool) → ℕ → List Name → ℕ
+findLast test k [] = 0
+findLast test k (n ∷ later) = cond (test n later) k (findLast test (suc k) later)
+
 abbrev pub headOf : List Name → ℕ → ℕ
-headOf names h = find (hasHash h) 1 names
+headOf names h = findLast (lastOfHash h) 1 names
 
 abbrev pub heads : List Name → List ℕ
 heads names = tabulate (headOf names) hashes
 
-unfoldable pub nexts : ℕ → List Name → List ℕ
-nexts k [] = []
-nexts k (n ∷ names) = find (hasHash (hash n)) (suc (suc k)) names ∷ nexts (suc k) names
+-- the next label of the same name and, of a name's last label, the next name of its hash and the name's first label
+pub record Chain : Type 0 where
+  pub next : ℕ
+  pub other : ℕ
+  pub first : ℕ
 
--- a label's links: the next label of its chain, the states of its word without the last symbol and of the longest proper end of its
--- word that begins a keyword, and the length of its word
+abbrev pub ifLast : Name → List Name → ℕ → ℕ
+ifLast n later v = cond (isLast n later) v 0
+
+abbrev pub chainOf : List Name → ℕ → Name → List Name → Chain
+chainOf names k n later = record {
+  next = find (named n) (suc (suc k)) later;
+  other = ifLast n later (findLast (lastOfHash (hash n)) (suc (suc k)) later);
+  first = ifLast n later (find (named n) 1 names);
+}
+
+unfoldable pub chainsFrom : List Name → ℕ → List Name → List Chain
+chainsFrom names k [] = []
+chainsFrom names k (n ∷ later) = chainOf names k n later ∷ chainsFrom names (suc k) later
+
+abbrev pub chains : List Name → List Chain
+chains names = chainsFrom names 0 names
+
+-- a label with its step
+pub record Mark : Type 0 where
+  pub name : Name
+  pub step : ℕ
+
+unfoldable pub marksFrom : ℕ → List Step → List Mark
+marksFrom k [] = []
+marksFrom k (step x (label n) ∷ ss) = record { name = n; step = k } ∷ marksFrom (suc k) ss
+marksFrom k (step x star ∷ ss) = marksFrom (suc k) ss
+
+abbrev pub marks : FolderSet → List Mark
+marks s = marksFrom 0 (allSteps s)
+
+-- step i has one of these labels, of name e
+unfoldable pub takes : Name → List Mark → ℕ → Bool
+takes e ms i = any (λ m. named e (m .name) && eqb (m .step) i) ms
+
+-- a label of name e whose step stands in byte b of a mask or behind it
+abbrev pub reaches : Name → ℕ → Mark → Bool
+reaches e b m = named e (m .name) && leb b (m .step / 8)
+
+-- labels of one name whose steps stand in one byte of a mask are taken together: the next label of the name in a later byte, and the bits of
+-- the steps in this byte from this label on, with the byte's number behind them
+pub record Group : Type 0 where
+  pub far : ℕ
+  pub bits : ℕ
+
+abbrev pub groupOf : ℕ → Mark → List Mark → Group
+groupOf k m later = record {
+  far = find (reaches (m .name) (suc (m .step / 8))) (suc (suc k)) later;
+  bits = byteOf (takes (m .name) (m ∷ later)) (m .step / 8) + 256 * (m .step / 8);
+}
+
+unfoldable pub groupsFrom : ℕ → List Mark → List Group
+groupsFrom k [] = []
+groupsFrom k (m ∷ later) = groupOf k m later ∷ groupsFrom (suc k) later
+
+abbrev pub groups : List Mark → List Group
+groups ms = groupsFrom 0 ms
+
+-- a label's links: its chain and group, the states of its word without the last symbol and of the longest proper end of its word that begins a
+-- keyword, and the length of its word
 pub record Link : Type 0 where
   pub next : ℕ
   pub parent : ℕ
   pub fail : ℕ
   pub size : ℕ
+  pub other : ℕ
+  pub first : ℕ
+  pub far : ℕ
+  pub bits : ℕ
 
-abbrev pub link : ℕ → ℕ → ℕ → ℕ → Link
-link next parent fail size = record { next = next; parent = parent; fail = fail; size = size }
+abbrev pub link : Chain → Group → ℕ → ℕ → ℕ → Link
+link c g parent fail size = record {
+  next = c .next;
+  parent = parent;
+  fail = fail;
+  size = size;
+  other = c .other;
+  first = c .first;
+  far = g .far;
+  bits = g .bits;
+}
 
 abbrev pub linkEntry : Link → List ℕ
-linkEntry k = le16 (k .next) ++ (le16 (k .parent) ++ (le16 (k .fail) ++ le16 (k .size)))
+linkEntry k = le16 (k .next) ++ (le16 (k .parent) ++ (le16 (k .fail) ++ (le16 (k .size) ++ (le16 (k .other) ++ (le16 (k .first)
+    ++ (le16 (k .far) ++ le16 (k .bits)))))))
 
-unfoldable pub linksOf : FolderSet → List ℕ → List Word → List Link
-linksOf s [] words = []
-linksOf s (next ∷ more) [] = []
-linksOf s (next ∷ more) (w ∷ words) =
-    link next (stateOf s (shortened w)) (stateOf s (failure s w)) (length w) ∷ linksOf s more words
+unfoldable pub linksOf : FolderSet → List Chain → List Group → List Word → List Link
+linksOf s [] gs words = []
+linksOf s (c ∷ cs) [] words = []
+linksOf s (c ∷ cs) (g ∷ gs) [] = []
+linksOf s (c ∷ cs) (g ∷ gs) (w ∷ words) =
+    link c g (stateOf s (shortened w)) (stateOf s (failure s w)) (length w) ∷ linksOf s cs gs words
 
 abbrev pub links : FolderSet → List Link
-links s = linksOf s (nexts 0 (allLabels s)) (allWords s)
+links s = linksOf s (chains (allLabels s)) (groups (marks s)) (allWords s)
 
 -- masks: one bit a step in set order, eight steps a byte, the first step in the lowest bit
 
@@ -223,21 +342,6 @@ isRootRole (role s first last) = first && not (isDescendant (axisOf s))
 
 abbrev pub isLastRole : Role → Bool
 isLastRole (role s first last) = last
-
-abbrev pub bit : Bool → ℕ
-bit true = 1
-bit false = 0
-
--- eight bits of a byte, the first in the lowest place
-unfoldable pub packed : (ℕ → Bool) → ℕ
-packed b = bit (b 0) + 2 * bit (b 1) + 4 * bit (b 2) + 8 * bit (b 3) + 16 * bit (b 4) + 32 * bit (b 5) + 64 * bit (b 6) + 128 * bit (b 7)
-
--- bits 8 j to 8 j + 7 are byte j
-abbrev pub byteOf : (ℕ → Bool) → ℕ → ℕ
-byteOf b j = packed (λ k. b (8 * j + k))
-
-abbrev pub bitBytes : (ℕ → Bool) → ℕ → List ℕ
-bitBytes b n = tabulate (byteOf b) n
 
 -- the test of role i; no for a role that is not there
 unfoldable pub roleAt : (Role → Bool) → List Role → ℕ → Bool

@@ -2,10 +2,10 @@
 -- build.
 use Prim.Native.Nat.{ℕ, suc, _*_, _≤_, _<_}
 use mathlib.Core.Path.{_≡_}
-use mathlib.Core.Bool.{true, false, cond}
-use mathlib.Core.List.{List, [], _∷_, _++_}
+use mathlib.Core.Bool.{true, false}
+use mathlib.Core.List.{List, []}
 use lib.ListN.{length, getD, take}
-use Rattle.text.specs.Names.{Name, sameName}
+use Rattle.text.specs.Names.{Name}
 use Rattle.notation.specs.Sets.{child, label, star, step, FolderSet, testOf}
 use Rattle.notation.specs.Form.{pathsOf, labelsOf}
 use Rattle.notation.specs.Reads.{labelStep, pathCount, stepCount, labelCount}
@@ -13,16 +13,11 @@ use Rattle.model.specs.Words.{Word, begins}
 use Rattle.model.specs.Prefix.{IsPrefix, failure}
 use Rattle.model.specs.Walk.{followedBy, Walked, movesOf, arrivedAt, walk}
 use Rattle.model.specs.Calls.{fresh}
-use Rattle.stored.specs.Automaton.{maskSize, maskCount, maskAt, allSteps, allLabels, stateOf, roles, roleAt, startState, maskTest}
+use Rattle.stored.specs.Automaton.{maskSize, maskCount, maskAt, allSteps, allLabels, stateOf, roles, roleAt, marks, takes, startState, maskTest}
 use Rattle.stored.specs.Tables.{startOf, sizeOf, failOf, goto, walkOver}
 use Rattle.stored.specs.Bits.{bitIn}
-use Rattle.stored.specs.Chain.{chainLabels}
+use Rattle.stored.specs.Marked.{marked}
 use Rattle.stored.specs.declared.walk.Walk.{Walk}
-
--- the places of the labels with name e, ascending; k stand before these
-unfoldable pub labelPlaces : Name → ℕ → List Name → List ℕ
-labelPlaces e k [] = []
-labelPlaces e k (n ∷ names) = cond (sameName n e) (k ∷ []) [] ++ labelPlaces e (suc k) names
 
 -- label l is the test of this step, with l labels before it
 pub record LabelStep (s : FolderSet) (l owner : ℕ) : Type 0 where
@@ -51,8 +46,8 @@ pub record Compiled (s : FolderSet) (a : List ℕ) : Type 0 where
   pub size : (w : Word) → IsPrefix s w → sizeOf a (stateOf s w) ≡ length w
   -- so the walk is the machine's
   pub walks : (w : Word) → IsPrefix s w → (e : Name) → walkOver a (stateOf s w) e ≡ storedWalk s (walk s w e)
-  -- a name's chain has exactly the labels with that name
-  pub chain : (e : Name) → chainLabels a e ≡ labelPlaces e 0 (allLabels s)
+  -- a name marks exactly the steps that have its label
+  pub marked : (e : Name) (i : ℕ) → marked a e i ≡ takes e (marks s) i
   -- bit i of mask m is the mask's test of step i
   pub masks : (m : ℕ) → m < maskCount → (i : ℕ) → i < 8 * maskSize → bitIn a (maskAt m) i ≡ roleAt (maskTest m) (roles s) i
   -- a fresh run's state

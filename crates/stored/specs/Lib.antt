@@ -11,7 +11,7 @@ pub mod Run
 pub mod Automaton
 pub mod Compiled
 pub mod Tables
-pub mod Chain
+pub mod Marked
 pub mod Bits
 pub mod Usable
 pub mod Code

@@ -7,18 +7,17 @@ use lib.ListN.{length, getD, take, drop, replicate}
 use lib.Seq.{sets}
 use Rattle.text.specs.Names.{Name, nameForm, tooLong, maxName, sameName}
 use Rattle.text.specs.Bytes.{le16, padded}
-use Rattle.notation.specs.Reads.{word16, stepCount, labelCount, labelStep}
+use Rattle.notation.specs.Reads.{word16, stepCount, labelCount}
 use Rattle.model.specs.Limits.{maxDepth, maxOpens}
 use Rattle.stored.specs.Automaton.{maskSize, starMask, childMask, descendantMask, anywhereMask, rootMask, lastMask, automatonSize, maskAt, byteOf, tabulate}
 use Rattle.stored.specs.Tables.{startOf, walkOver}
-use Rattle.stored.specs.Chain.{chainLabels}
+use Rattle.stored.specs.Marked.{marked}
 use Rattle.stored.specs.Bits.{bitIn}
 use Rattle.stored.specs.Shape.{automatonShaped, allBelow}
 use Rattle.stored.specs.Run.{depthAt, matchesAt, nameIn, stateIn, activeIn, seenIn, rowAt, rowSize, runSize}
 use Rattle.stored.specs.declared.counters.Counters.{Counters}
 use Rattle.stored.specs.declared.walk.Walk.{Walk}
 use Rattle.text.specs.Refusals.{shortBuffer, badShape, syntaxError, nameTooLong, notOneRoot, tooDeep, overCapacity, mismatchedClose}
-use Rattle.text.specs.Lists.{any}
 use Rattle.text.specs.Order.{Condition, gives, given}
 
 -- what is stored of a run
@@ -122,7 +121,7 @@ usedBytes a = min maskSize (1 + 16 * ((stepCount a + 119) / 128))
 
 -- step i takes e: it is `*`, or one of the labels of that name
 unfoldable pub candidate : List ℕ → Name → ℕ → Bool
-candidate a e i = maskBit a starMask i || any (λ l. eqb (labelStep a l) i) (chainLabels a e)
+candidate a e i = maskBit a starMask i || marked a e i
 
 -- the step before
 abbrev pub shifted : (ℕ → Bool) → ℕ → Bool

@@ -10,7 +10,7 @@ use Rattle.notation.specs.Limits.{maxSetBytes, maxNumber, maxPaths, maxSteps, m
 use Rattle.notation.specs.Layout.{stepKinds, stepsAt}
 use Rattle.notation.specs.Reads.{textLen, folderCount, pathCount, stepCount, labelCount, storedNumber, storedFirst, pathFirst, pathSteps, pathBegin, pathLength, labelBegin, labelLength, labelStep}
 use Rattle.stored.specs.Automaton.{hashes}
-use Rattle.stored.specs.Tables.{headAt, nextAt, parentAt, failAt, sizeAt, startOf, sizeOf}
+use Rattle.stored.specs.Tables.{headAt, nextAt, parentAt, failAt, sizeAt, otherAt, firstAt, farAt, startOf, sizeOf}
 
 -- the test holds of every number below n
 unfoldable pub allBelow : ℕ → (ℕ → Bool) → Bool
@@ -41,9 +41,14 @@ labelShaped a i =
 abbrev pub headShaped : List ℕ → ℕ → Bool
 headShaped a h = leb (headAt a h) (labelCount a)
 
--- a chain goes on to a later label or ends
+-- a place after label l: that of a later label, or none
+abbrev pub laterPlace : List ℕ → ℕ → ℕ → Bool
+laterPlace a l k = eqb k 0 || (ltb (suc l) k && leb k (labelCount a))
+
+-- the labels of a name and the names of a hash go on to a later label or end; the first label is one, or none
 abbrev pub chainShaped : List ℕ → ℕ → Bool
-chainShaped a l = eqb (nextAt a l) 0 || (ltb (suc l) (nextAt a l) && leb (nextAt a l) (labelCount a))
+chainShaped a l =
+    laterPlace a l (nextAt a l) && (laterPlace a l (otherAt a l) && (laterPlace a l (farAt a l) && leb (firstAt a l) (labelCount a)))
 
 -- a failure link leads to a state, and to a shorter word
 abbrev pub failShaped : List ℕ → ℕ → Bool

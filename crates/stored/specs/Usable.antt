@@ -4,9 +4,9 @@ use Prim.Native.Nat.{ℕ, suc, _≤_, _<_, _*_}
 use mathlib.Core.Path.{_≡_}
 use mathlib.Core.List.{List}
 use Rattle.notation.specs.Limits.{maxSteps, maxLabels, maxPaths}
-use Rattle.notation.specs.Reads.{labelCount, stepCount, labelStep}
+use Rattle.notation.specs.Reads.{labelCount, stepCount}
 use Rattle.stored.specs.Automaton.{hashes, automatonSize}
-use Rattle.stored.specs.Tables.{headAt, nextAt, failAt, sizeAt, sizeOf}
+use Rattle.stored.specs.Tables.{headAt, nextAt, failAt, sizeAt, otherAt, firstAt, farAt, sizeOf}
 use mathlib.Core.Bool.{true}
 use lib.ListN.{length}
 use Rattle.stored.specs.Shape.{automatonShaped}
@@ -26,12 +26,22 @@ pub record Usable (a run : List ℕ) (c : Counters) : Type 0 where
   pub ready : Ready a run
   pub counts : countersShaped run c ≡ true
 
--- chains are of labels, and go on to a later one or end; a place on a chain is 1 more than its label
-pub record Searchable (a : List ℕ) : Type 0 where
+-- a place after label l, which is 1 more than its label: that of a later label, or none
+pub record After (a : List ℕ) (l k : ℕ) : Type 0 where
+  pub within : k ≤ labelCount a
+  pub later : (m : ℕ) → k ≡ suc m → l < m
+
+-- the chains of the hashes are of labels, and go on to a later one or end
+pub record Lookable (a : List ℕ) : Type 0 where
   pub few : labelCount a ≤ maxLabels
   pub head : (h : ℕ) → h < hashes → headAt a h ≤ labelCount a
-  pub next : (l : ℕ) → l < labelCount a → nextAt a l ≤ labelCount a
-  pub later : (l m : ℕ) → l < labelCount a → nextAt a l ≡ suc m → l < m
+  pub other : (l : ℕ) → l < labelCount a → After a l (otherAt a l)
+
+-- and those of the names
+pub record Searchable (a : List ℕ) : Type 0 where
+  pub lookable : Lookable a
+  pub first : (l : ℕ) → l < labelCount a → firstAt a l ≤ labelCount a
+  pub next : (l : ℕ) → l < labelCount a → After a l (nextAt a l)
 
 -- each failure link leads to a label's state, 0 or 1, and to a shorter word
 pub record Falling (a : List ℕ) : Type 0 where
@@ -46,6 +56,6 @@ pub record Walkable (a : List ℕ) : Type 0 where
 -- what an open uses of an automaton's shape
 pub record Openable (a : List ℕ) : Type 0 where
   pub walkable : Walkable a
+  pub far : (l : ℕ) → l < labelCount a → After a l (farAt a l)
   pub steps : stepCount a ≤ maxPaths * maxSteps
-  pub step : (l : ℕ) → l < labelCount a → labelStep a l < stepCount a
   pub size : automatonSize ≤ length a

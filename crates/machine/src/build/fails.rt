@@ -10,6 +10,7 @@ use crate::layout::LINK_SIZE;
 use crate::layout::LINKS_AT;
 use crate::layout::PARENT_IN;
 use crate::layout::SIZE_IN;
+use crate::lookup::first_label;
 use crate::walk::fail_of;
 use crate::walk::link_field;
 use crate::walk::walk_from;
@@ -28,7 +29,8 @@ fn fail_to(a: &[u8], l: usize) -> usize
         return 0;
     }
     let e = label_name(a, l);
-    walk_from(a, fail_of(a, parent), e, hash_of(e)).state
+    let first = first_label(a, e, hash_of(e));
+    walk_from(a, fail_of(a, parent), first).state
 }
 
 // The failure link of label `l`, if its word has `n` symbols.

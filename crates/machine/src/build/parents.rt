@@ -4,6 +4,7 @@ use crate::layout::LINK_SIZE;
 use crate::layout::LINKS_AT;
 use crate::layout::PARENT_IN;
 use crate::layout::SIZE_IN;
+use crate::lookup::first_label;
 use crate::walk::goto_state;
 use crate::walk::size_of;
 use notation::PathPlace;
@@ -82,7 +83,7 @@ fn follow(part: &[u8], q: usize, l: usize) -> usize
     ensures { λ r. ⌜ (r ≡ goto (now (part .entry)) q (labelName (now (part .entry)) l)) × (r ≤ suc (labelCount (now (part .entry)))) ⌝ }
 {
     let e = reads::label_name(part, l);
-    goto_state(part, q, e, hash_of(e))
+    goto_state(part, q, first_label(part, e, hash_of(e)))
 }
 
 // A label's step: its parent and length are stored, and its word's state is the next one.

@@ -1,6 +1,7 @@
 // An open: the walk, and the new element's row.
 use crate::hash::hash_of;
 use crate::layout::MASK_SIZE;
+use crate::lookup::first_label;
 use crate::run::candidates;
 use crate::run::layout::DEPTH_AT;
 use crate::run::layout::MATCHES_AT;
@@ -29,7 +30,8 @@ ghost use Rattle.text.specs.Names.{maxName, nameForm};
 ghost use Rattle.notation.specs.Limits.{maxSteps};
 ghost use Rattle.text.specs.Bytes.{le16, padded};
 ghost use Rattle.model.specs.Limits.{maxDepth};
-ghost use Rattle.stored.specs.Automaton.{maskSize, hash};
+ghost use Rattle.stored.specs.Automaton.{maskSize};
+ghost use Rattle.stored.specs.Tables.{firstOf};
 ghost use Rattle.stored.specs.RunContracts.{Opens};
 ghost use Rattle.stored.specs.Usable.{Openable, Ready, Usable};
 ghost use Rattle.stored.specs.Run.{runSize};
@@ -45,10 +47,11 @@ fn store(run: &mut [u8], d: usize, e: &[u8], state: usize, active: &[u8], seen: 
     row::write_row(&mut run[at..end], e, state, active, seen);
 }
 
-// What an open writes: the new row, the matches, the depth, which was d. `h` is the hash of the name, `state` the state that the walk ends in.
-fn write(a: &[u8], run: &mut [u8], e: &[u8], h: usize, d: usize, state: usize)
+// What an open writes: the new row, the matches, the depth, which was d. `first` is the place of the first label with the name, `state`
+// the state that the walk ends in.
+fn write(a: &[u8], run: &mut [u8], e: &[u8], first: usize, d: usize, state: usize)
     requires { ⌜ (Openable (now a)) × ((runSize ≤ length (now run)) × ((d < maxDepth) × (length (now e) ≤ maxName))) ⌝ }
-    requires { ⌜ (h ≡ hash (now e)) × ((d ≡ depthOf (now run)) × (state ≡ openWalk (now a) (now run) (now e) .state)) ⌝ }
+    requires { ⌜ (first ≡ firstOf (now a) (now e)) × ((d ≡ depthOf (now run)) × (state ≡ openWalk (now a) (now run) (now e) .state)) ⌝ }
     ensures { λ _. ⌜ now (run .exit) ≡ openRun (now (a .entry)) (now (run .entry)) (now (e .entry)) ⌝ }
 {
     let mut taken = [0; MASK_SIZE];
@@ -56,7 +59,7 @@ fn write(a: &[u8], run: &mut [u8], e: &[u8], h: usize, d: usize, state: usize)
     let mut seen = [0; MASK_SIZE];
     let mut matched = [0; MASK_SIZE];
     let used = steps::used_bytes(a);
-    candidates::flag_labels(&mut taken, a, e, h);
+    candidates::flag_labels(&mut taken, a, first);
     steps::flag_bits(
         a,
         run,
@@ -77,10 +80,10 @@ fn open_on(a: &[u8], run: &mut [u8], e: &[u8]) -> Walk
     requires { ⌜ (Ready (now a) (now run)) × ((depthOf (now run) < maxDepth) × (length (now e) ≤ maxName)) ⌝ }
     ensures { λ r. ⌜ (r ≡ openWalk (now (a .entry)) (now (run .entry)) (now (e .entry))) × ((r .moves ≤ suc maxSteps) × (now (run .exit) ≡ openRun (now (a .entry)) (now (run .entry)) (now (e .entry)))) ⌝ }
 {
-    let h = hash_of(e);
+    let first = first_label(a, e, hash_of(e));
     let d = shape::depth(run);
-    let walked = walk::walk_from(a, rows::state_at(run, d), e, h);
-    write(a, run, e, h, d, walked.state);
+    let walked = walk::walk_from(a, rows::state_at(run, d), first);
+    write(a, run, e, first, d, walked.state);
     walked
 }
 

@@ -1,5 +1,7 @@
 pub mod Accepting
 pub mod Elsewhere
+pub mod GroupSteps
+pub mod Groups
 pub mod Chains
 pub mod Placed
 pub mod Parents

@@ -10,6 +10,7 @@ use Rattle.notation.specs.Layout.{setSize, setPart}
 use Rattle.notation.specs.Reads.{stepCount, labelCount}
 use Rattle.stored.specs.Automaton.{automatonSize}
 use Rattle.stored.specs.Code.Chains.{chained}
+use Rattle.stored.specs.Code.Groups.{groupedBelow}
 use Rattle.stored.specs.Code.Parents.{parented, beforePaths}
 use Rattle.stored.specs.Code.Fails.{failedTo}
 use Rattle.stored.specs.Code.Masks.{withMasks, withStart}
@@ -21,6 +22,9 @@ cleared a = take setSize a ++ (replicate (automatonSize - setSize) 0 ++ drop aut
 abbrev pub withChains : List ℕ → List ℕ
 withChains a = chained (min (labelCount a) maxLabels) a
 
+abbrev pub withGroups : List ℕ → List ℕ
+withGroups a = groupedBelow (min (labelCount a) maxLabels) a
+
 abbrev pub withParents : List ℕ → List ℕ
 withParents a = parented (stepCount a) 0 beforePaths a
 
@@ -28,7 +32,7 @@ abbrev pub withFails : List ℕ → List ℕ
 withFails a = failedTo (labelCount a) (suc maxSteps) a
 
 unfoldable pub made : List ℕ → List ℕ
-made a = withStart (withMasks (withFails (withParents (withChains (cleared a)))))
+made a = withStart (withMasks (withFails (withParents (withGroups (withChains (cleared a))))))
 
 -- an accepted set has been read into the bytes, and there is room for its automaton
 pub record ReadIn (a : List ℕ) : Type 0 where

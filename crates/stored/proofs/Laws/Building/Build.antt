@@ -1,25 +1,30 @@
 -- From a read set's bytes to its automaton: the passes one after the other.
-use Prim.Native.Nat.{ℕ, _+_, _-_}
+use Prim.Native.Nat.{ℕ, _+_, _-_, min}
 use native.Mathlib.Omega.{arith}
 use mathlib.Core.Path.{_≡_, sym, ap, _∙_}
 use mathlib.Core.List.{List, _++_, append-assoc}
 use lib.ListN.{length, drop, replicate, length-replicate}
 use lib.Seq.{take-at, drop-append-add, drop-drop}
+use Rattle.notation.specs.Limits.{maxLabels}
 use Rattle.notation.specs.Sets.{FolderSet}
 use Rattle.notation.specs.Print.{print}
 use Rattle.notation.specs.Accepted.{Accepted}
 use Rattle.notation.specs.Layout.{setSize, setPart, tablesOf}
+use Rattle.notation.specs.Reads.{labelCount}
 use Rattle.notation.proofs.Laws.Stored.Sections.{layout-length}
 use Rattle.notation.proofs.Laws.Refused.Fitting.{Fitting, roomy}
 use Rattle.notation.proofs.Laws.Refused.AcceptedSet.{accepted-fits}
 use Rattle.stored.specs.Automaton.{hashes, automatonSize, allLabels, heads, Link, assembled, automatonOf, allMasks}
 use Rattle.stored.specs.Usable.{Searchable}
+use Rattle.stored.specs.Code.Chains.{Linkable}
 use Rattle.stored.specs.Code.Fails.{Growing}
 use Rattle.stored.specs.Code.Masks.{withMasks, withStart}
-use Rattle.stored.specs.Code.Passes.{ReadIn, cleared, withChains, withParents, withFails, made}
+use Rattle.stored.specs.Code.Passes.{ReadIn, cleared, withChains, withGroups, withParents, withFails, made}
 use Rattle.stored.proofs.Laws.Tables.Assembled.{noLink, zeros-assembled}
 use Rattle.stored.proofs.Laws.Building.Accepting.{accepted-full}
-use Rattle.stored.proofs.Laws.Tables.Linking.{chainLinks, wordLinks, word-links, chains-made, chains-searchable, parents-made}
+use Rattle.stored.proofs.Laws.Building.Chains.{chainLinks}
+use Rattle.stored.proofs.Laws.Building.Groups.{groupLinks}
+use Rattle.stored.proofs.Laws.Tables.Linking.{wordLinks, word-links, chains-linkable, chains-made, groups-made, groups-searchable, parents-made}
 use Rattle.stored.proofs.Laws.Building.Staged.{Short, stage-grows}
 use Rattle.stored.proofs.Laws.Building.Fails.{fails-made}
 use Rattle.stored.proofs.Laws.Building.Finished.{masks-and-start}
@@ -71,16 +76,23 @@ module _ {text : List ℕ} (s : FolderSet) (acc : Accepted text s) (rest : List 
   unfolding stage
   chains-stage = ap withChains from-zeros ∙ chains-made s fit zeros 0 behind zeros-length
 
-  parents-stage : withParents (withChains (cleared (setPart s ++ rest))) ≡ stage (wordLinks s)
+  groups-stage : withGroups (withChains (cleared (setPart s ++ rest))) ≡ stage (groupLinks s)
   unfolding stage
-  parents-stage = ap withParents chains-stage ∙ parents-made s fit zeros 0 behind zeros-length (accepted-full text s acc)
+  groups-stage = ap withGroups chains-stage ∙ groups-made s fit zeros 0 behind zeros-length
+
+  parents-stage : withParents (withGroups (withChains (cleared (setPart s ++ rest)))) ≡ stage (wordLinks s)
+  unfolding stage
+  parents-stage = ap withParents groups-stage ∙ parents-made s fit zeros 0 behind zeros-length (accepted-full text s acc)
 
   -- what the passes ask for
-  pub chains-ready : Searchable (withChains (cleared (setPart s ++ rest)))
-  unfolding stage
-  chains-ready = rw chains-stage (chains-searchable s fit zeros 0 behind zeros-length)
+  pub cleared-ready : Linkable (min (labelCount (cleared (setPart s ++ rest))) maxLabels) (cleared (setPart s ++ rest))
+  cleared-ready = rw from-zeros (chains-linkable s fit zeros 0 behind zeros-length)
 
-  pub parents-ready : Growing (withParents (withChains (cleared (setPart s ++ rest))))
+  pub groups-ready : Searchable (withGroups (withChains (cleared (setPart s ++ rest))))
+  unfolding stage
+  groups-ready = rw groups-stage (groups-searchable s fit zeros 0 behind zeros-length)
+
+  pub parents-ready : Growing (withParents (withGroups (withChains (cleared (setPart s ++ rest)))))
   unfolding stage
   parents-ready = rw parents-stage (stage-grows s fit short zeros 0 zeros-length behind (wordLinks s) (word-links s))
 
@@ -103,8 +115,11 @@ behind-same s acc before =
 
 -- the same, of bytes that an accepted set has been read into
 module _ (a : List ℕ) (r : ReadIn a) where
-  pub chains-read-in : (b d : List ℕ) → b ≡ cleared a → d ≡ withChains b → Searchable d
-  chains-read-in b d p q = rw (q, p, r .bytes) (chains-ready (r .set) (r .accepted) (r .rest))
+  pub cleared-read-in : (b : List ℕ) → b ≡ cleared a → Linkable (min (labelCount b) maxLabels) b
+  cleared-read-in b p = rw (p, r .bytes) (cleared-ready (r .set) (r .accepted) (r .rest))
 
-  pub parents-read-in : (b d e : List ℕ) → b ≡ cleared a → d ≡ withChains b → e ≡ withParents d → Growing e
-  parents-read-in b d e p q t = rw (t, q, p, r .bytes) (parents-ready (r .set) (r .accepted) (r .rest))
+  pub groups-read-in : (b d g : List ℕ) → b ≡ cleared a → d ≡ withChains b → g ≡ withGroups d → Searchable g
+  groups-read-in b d g p q o = rw (o, q, p, r .bytes) (groups-ready (r .set) (r .accepted) (r .rest))
+
+  pub parents-read-in : (b d g e : List ℕ) → b ≡ cleared a → d ≡ withChains b → g ≡ withGroups d → e ≡ withParents g → Growing e
+  parents-read-in b d g e p q o t = rw (t, o, q, p, r .bytes) (parents-ready (r .set) (r .accepted) (r .rest))

@@ -1,6 +1,6 @@
 -- The pass that makes the failure links leaves those of the definition: the links are then the links of the set.
 use Prim.Native.Nat.{ℕ, zero, suc, _+_, _≤_, _<_}
-use mathlib.Core.Path.{_≡_, refl, sym, _∙_, ap}
+use mathlib.Core.Path.{_≡_, refl, sym, _∙_, ap, ap₂}
 use mathlib.Core.Bool.{true, false}
 use mathlib.Core.Logic.{_⊎_, inr}
 use mathlib.Core.List.{List, [], _∷_, _++_, cons≢nil}
@@ -18,44 +18,20 @@ use Rattle.notation.proofs.Laws.Refused.Fitting.{Fitting}
 use Rattle.model.specs.Words.{Symbol, name, Word}
 use Rattle.model.specs.Prefix.{IsPrefix, failure}
 use Rattle.model.specs.Walk.{followedBy}
-use Rattle.stored.specs.Automaton.{allLabels, allWords, stateOf, shortened, heads, nexts, Link, link, linksOf, links, assembled, failIn, allMasks, linkEntryAt}
+use Rattle.stored.specs.Automaton.{allLabels, stateOf, shortened, heads, Chain, marks, Group, Link, link, links, assembled, failIn, allMasks, linkEntryAt}
 use Rattle.stored.specs.Tables.{parentAt, sizeAt, sizeOf}
 use Rattle.stored.specs.Code.Fails.{failTo, failed, failedIf, failedBelow, failedTo}
 use Rattle.text.proofs.Laws.Tests.{cases}
 use Rattle.model.proofs.Laws.Keywords.Prefix.{failure-is}
 use Rattle.model.proofs.Laws.Keywords.Walk.{failure-extends, failure-single}
-use Rattle.stored.proofs.Laws.Tables.Assembled.{withFailure, noLink, fail-put}
-use Rattle.stored.proofs.Laws.Tables.States.{StateKind, ofEmpty, ofRoot, ofLabel, state-kind, state-empty, words-count, word-ends, label-parent, shortened-followed}
+use Rattle.stored.proofs.Laws.Tables.Assembled.{chainIn, groupIn, withFailure, noLink, fail-put}
+use Rattle.stored.proofs.Laws.Tables.States.{StateKind, ofEmpty, ofRoot, ofLabel, state-kind, state-empty, word-ends, label-parent, shortened-followed}
+use Rattle.stored.proofs.Laws.Tables.Chained.{chainAt}
+use Rattle.stored.proofs.Laws.Tables.Marked.{groupAt}
+use Rattle.stored.proofs.Laws.Tables.Links.{links-length, links-at}
 use Rattle.stored.proofs.Laws.Tables.Goto.{Linked}
 use Rattle.stored.proofs.Laws.Tables.Walked.{FailsTo, fail-word, walk-over}
 use Rattle.stored.proofs.Laws.Building.Staged.{wordAt, failureAt, Links, Short, word-size, stage, sized, staged, count-here, size-here, fail-here, size-state}
-
--- the links of the definition, by their place
-nexts-length : (k : ℕ) (names : List Name) → length (nexts k names) ≡ length names
-unfolding nexts
-nexts-length k [] = refl
-nexts-length k (n ∷ names) = ap suc (nexts-length (suc k) names)
-
-of-length : (s : FolderSet) (ns : List ℕ) (words : List Word) → length ns ≡ length words → length (linksOf s ns words) ≡ length ns
-unfolding linksOf
-of-length s [] words h = refl
-of-length s (n ∷ ns) [] h = absurd (omega arith)
-of-length s (n ∷ ns) (w ∷ words) h = ap suc (of-length s ns words (omega arith))
-
-of-at : (s : FolderSet) (ns : List ℕ) (words : List Word) (l : ℕ) → length ns ≡ length words → l < length ns
-    → getD (linksOf s ns words) l noLink ≡ link (getD ns l 0) (stateOf s (shortened (getD words l []))) (stateOf s (failure s (getD words l []))) (length (getD words l []))
-unfolding linksOf
-of-at s [] words l e h = absurd (omega arith)
-of-at s (n ∷ ns) [] l e h = absurd (omega arith)
-of-at s (n ∷ ns) (w ∷ words) zero e h = refl
-of-at s (n ∷ ns) (w ∷ words) (suc l) e h = of-at s ns words l (omega arith) (omega arith)
-
-pub links-length : (s : FolderSet) → length (links s) ≡ length (allLabels s)
-links-length s = of-length s (nexts 0 (allLabels s)) (allWords s) (nexts-length 0 (allLabels s) ∙ sym (words-count s)) ∙ nexts-length 0 (allLabels s)
-
-pub links-at : (s : FolderSet) (l : ℕ) → l < length (allLabels s)
-    → getD (links s) l noLink ≡ link (getD (nexts 0 (allLabels s)) l 0) (stateOf s (shortened (wordAt s l))) (failureAt s l) (length (wordAt s l))
-links-at s l h = of-at s (nexts 0 (allLabels s)) (allWords s) l (nexts-length 0 (allLabels s) ∙ sym (words-count s)) (rw (nexts-length 0 (allLabels s)) h)
 
 -- the walk from the parent's failure state arrives at the state of the failure
 some-state : (s : FolderSet) (t : Symbol) (u : Word) → IsPrefix s (t ∷ u) → stateOf s (t ∷ u) ≡ 0 → ⊥
@@ -128,7 +104,8 @@ module _ (s : FolderSet) (fit : Fitting s) (short : Short s) (ms : List ℕ) (f 
     unfolding new
     new-links = record {
       count = length-set ls l _ ∙ t .links .count;
-      next = by-place (λ j k. k .next ≡ getD (nexts 0 (allLabels s)) j 0) (t .links .next l h) (t .links .next);
+      chain = by-place (λ j k. chainIn k ≡ chainAt (allLabels s) j) (t .links .chain l h) (t .links .chain);
+      group = by-place (λ j k. groupIn k ≡ groupAt (marks s) j) (t .links .group l h) (t .links .group);
       parent = by-place (λ j k. k .parent ≡ stateOf s (shortened (wordAt s j))) (t .links .parent l h) (t .links .parent);
       fail = by-place (λ j k. (k .fail ≡ 0) ⊎ (k .fail ≡ failureAt s j)) (inr refl) (t .links .fail);
       size = by-place (λ j k. k .size ≡ length (wordAt s j)) (t .links .size l h) (t .links .size);
@@ -208,8 +185,10 @@ module _ (s : FolderSet) (fit : Fitting s) (short : Short s) (ms : List ℕ) (f 
       same l i =
           let h : l < length (allLabels s) = rw (t .links .count) at i in
           let k = getD ls l noLink in
-          let whole : k ≡ link (k .next) (k .parent) (k .fail) (k .size) = refl in
-          whole ∙ (rw (t .links .next l h, t .links .parent l h, t .lower l h (omega (arith, short l h)), t .links .size l h) (sym (links-at s l h)))
+          let whole : k ≡ link (chainIn k) (groupIn k) (k .parent) (k .fail) (k .size) = refl in
+          whole
+          ∙ ap₂ (λ (c : Chain) (g : Group). link c g (k .parent) (k .fail) (k .size)) (t .links .chain l h) (t .links .group l h)
+          ∙ (rw (t .links .parent l h, t .lower l h (omega (arith, short l h)), t .links .size l h) (sym (links-at s l h)))
 
   -- the pass on links that have all but the failure links
   pub fails-is : (ls : List Link) → Links s ls → failedTo (length (allLabels s)) (suc maxSteps) (assembled s (heads (allLabels s)) ls ms f ++ rest) ≡ assembled s (heads (allLabels s)) (links s) ms f ++ rest

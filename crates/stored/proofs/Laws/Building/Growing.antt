@@ -1,6 +1,6 @@
 -- The pass that makes the failure links keeps the tables walkable: the link that it stores leads to a shorter word.
 use Prim.Native.Nat.{ℕ, zero, suc, _+_, _/_, _%_, _≤_, _<_}
-use mathlib.Core.Path.{_≡_, refl, sym, _∙_, ap}
+use mathlib.Core.Path.{_≡_, refl, _∙_, ap}
 use mathlib.Core.Bool.{Bool, true, false, not, _&&_}
 use mathlib.Core.List.{List}
 use native.Mathlib.Omega.{arith}
@@ -8,18 +8,17 @@ use lib.Dec.{eqb}
 use lib.ListN.{length, set}
 use lib.Seq.{sets, length-sets, getD-set-other}
 use borrow.Author.Tests.{eqb-true, eqb-false}
-use Rattle.text.specs.Names.{Name, sameName}
 use Rattle.notation.specs.Limits.{maxLabels}
 use Rattle.text.specs.Bytes.{le16}
 use Rattle.notation.specs.Layout.{wordSize}
 use Rattle.notation.specs.Reads.{word16, labelCount, labelName}
-use Rattle.stored.specs.Automaton.{hashes, parentIn, failIn, sizeIn, linkSize, linksAt, automatonSize, linkEntryAt, hash}
-use Rattle.stored.specs.Tables.{headAt, nextAt, parentAt, failAt, sizeAt, sizeOf, failOf, follows, gotoFrom, goto, walkFrom, walkOver}
+use Rattle.stored.specs.Automaton.{parentIn, failIn, sizeIn, linkSize, linksAt, automatonSize, linkEntryAt}
+use Rattle.stored.specs.Tables.{nextAt, parentAt, failAt, sizeAt, sizeOf, failOf, firstOf, gotoFrom, gotoBy, walkFrom, walkBy}
 use Rattle.stored.specs.Code.Fails.{failTo, failed, failedIf, failedBelow, failedTo, Growing}
 use Rattle.text.proofs.Laws.Tests.{cases, both}
 use Rattle.stored.proofs.Laws.Bytes.Beside.{word-stored}
-use Rattle.stored.proofs.Laws.Building.Elsewhere.{count-kept, head-kept, next-kept}
-use Rattle.stored.proofs.Laws.Tables.Goto.{hash-small}
+use Rattle.stored.proofs.Laws.Building.Elsewhere.{count-kept, searchable-kept}
+use Rattle.stored.proofs.Laws.Tables.LookTurns.{first-within}
 use Rattle.stored.proofs.Laws.Tables.Fuel.{fail-state, fail-shorter, over-state}
 
 -- a number after another one was stored
@@ -30,46 +29,51 @@ kept a at v j p q r t =
     let e1 = getD-set-other (set a at (v % 256)) (suc at) (j + 1) (v / 256 % 256) 0 t ∙ getD-set-other a at (j + 1) (v % 256) 0 r in
     omega (arith, e0, e1)
 
--- a walk arrives at a word that is at most one symbol longer
-module _ (a : List ℕ) (g : Growing a) (e : Name) where
-  goto-grows : (m q k : ℕ) → k ≤ labelCount a → sizeOf a (gotoFrom m a q e k) ≤ suc (sizeOf a q)
+-- a walk by the labels of a name, from place k on, arrives at a word that is at most one symbol longer
+module _ (a : List ℕ) (g : Growing a) where
+  goto-grows : (m q k : ℕ) → k ≤ labelCount a → sizeOf a (gotoFrom m a q k) ≤ suc (sizeOf a q)
   unfolding gotoFrom sizeOf
   goto-grows zero q k h = omega arith
   goto-grows (suc m) q zero h = omega arith
-  goto-grows (suc m) q (suc l) h = cases (follows a q e l)
-      (λ t.
-      let p : parentAt a l ≡ q = eqb-true (parentAt a l) q (both (eqb (parentAt a l) q) (sameName (labelName a l) e) t .0) in
-      rw t (omega (arith, g .grown l h, ap (sizeOf a) p)))
-      (λ t. rw t (goto-grows m q (nextAt a l) (g .walkable .searchable .next l h)))
+  goto-grows (suc m) q (suc l) h = cases (eqb (parentAt a l) q)
+      (λ t. rw t (omega (arith, g .grown l h, ap (sizeOf a) (eqb-true (parentAt a l) q t))))
+      (λ t. rw t (goto-grows m q (nextAt a l) (g .walkable .searchable .next l h .within)))
 
-  at-goto : (q : ℕ) → sizeOf a (goto a q e) ≤ suc (sizeOf a q)
-  unfolding goto
-  at-goto q = goto-grows _ q (headAt a (hash e)) (g .walkable .searchable .head (hash e) (hash-small e))
+  module _ (k : ℕ) (h : k ≤ labelCount a) where
+    at-goto : (q : ℕ) → sizeOf a (gotoBy a q k) ≤ suc (sizeOf a q)
+    unfolding gotoBy
+    at-goto q = goto-grows _ q k h
 
-  walk-grows : (m q : ℕ) → q ≤ suc (labelCount a) → sizeOf a (walkFrom m a q e .state) ≤ suc (sizeOf a q)
-  unfolding walkFrom
-  walk-grows zero q i = at-goto q
-  walk-grows (suc m) q i = cases (eqb (goto a q e) 0 && not (eqb q 0))
-      (λ t. rw t (falls t (walk-grows m (failOf a q) (fail-state a (g .walkable .falling) q i))))
-      (λ t. rw t (at-goto q))
-    where
-      not-zero : (b : Bool) → (b && not (eqb q 0)) ≡ true → eqb q 0 ≡ false
-      not-zero b t = cases (eqb q 0) (λ z. let u = both b (not (eqb q 0)) t .1 in let w : not true ≡ true = rw z at u in cc) (λ z. z)
+    walk-grows : (m q : ℕ) → q ≤ suc (labelCount a) → sizeOf a (walkFrom m a q k .state) ≤ suc (sizeOf a q)
+    unfolding walkFrom
+    walk-grows zero q i = at-goto q
+    walk-grows (suc m) q i = cases (eqb (gotoBy a q k) 0 && not (eqb q 0))
+        (λ t. rw t (falls t (walk-grows m (failOf a q) (fail-state a (g .walkable .falling) q i))))
+        (λ t. rw t (at-goto q))
+      where
+        not-zero : (b : Bool) → (b && not (eqb q 0)) ≡ true → eqb q 0 ≡ false
+        not-zero b t = cases (eqb q 0) (λ z. let u = both b (not (eqb q 0)) t .1 in let w : not true ≡ true = rw z at u in cc) (λ z. z)
 
-      falls : (eqb (goto a q e) 0 && not (eqb q 0)) ≡ true → sizeOf a (walkFrom m a (failOf a q) e .state) ≤ suc (sizeOf a (failOf a q)) → sizeOf a (walkFrom m a (failOf a q) e .state) ≤ suc (sizeOf a q)
-      falls t ih = omega (arith, fail-shorter a (g .walkable .falling) q i (eqb-false q 0 (not-zero (eqb (goto a q e) 0) t)))
+        falls : (eqb (gotoBy a q k) 0 && not (eqb q 0)) ≡ true → sizeOf a (walkFrom m a (failOf a q) k .state) ≤ suc (sizeOf a (failOf a q)) → sizeOf a (walkFrom m a (failOf a q) k .state) ≤ suc (sizeOf a q)
+        falls t ih = omega (arith, fail-shorter a (g .walkable .falling) q i (eqb-false q 0 (not-zero (eqb (gotoBy a q k) 0) t)))
 
-  over-grows : (q : ℕ) → q ≤ suc (labelCount a) → sizeOf a (walkOver a q e .state) ≤ suc (sizeOf a q)
-  unfolding walkOver
-  over-grows q i = walk-grows (sizeOf a q) q i
+    over-grows : (q : ℕ) → q ≤ suc (labelCount a) → sizeOf a (walkBy a q k .state) ≤ suc (sizeOf a q)
+    unfolding walkBy
+    over-grows q i = walk-grows (sizeOf a q) q i
 
 -- so the link leads to a state, of a shorter word
 module _ (a : List ℕ) (g : Growing a) (l : ℕ) (i : l < labelCount a) where
+  abbrev first : ℕ
+  first = firstOf a (labelName a l)
+
+  within : first ≤ labelCount a
+  within = first-within a (g .walkable .searchable) (labelName a l)
+
   pub fail-within : failTo a l ≤ suc (labelCount a)
   unfolding failTo
   fail-within = cases (eqb (parentAt a l) 0)
       (λ t. rw t (omega arith))
-      (λ t. rw t (over-state a (g .walkable) (failOf a (parentAt a l)) (labelName a l) (fail-state a (g .walkable .falling) (parentAt a l) (g .parent l i))))
+      (λ t. rw t (over-state a (g .walkable) (failOf a (parentAt a l)) first (fail-state a (g .walkable .falling) (parentAt a l) (g .parent l i)) within))
 
   fail-small : sizeOf a (failTo a l) < sizeAt a l
   unfolding failTo sizeOf
@@ -78,22 +82,12 @@ module _ (a : List ℕ) (g : Growing a) (l : ℕ) (i : l < labelCount a) where
       (λ t. rw t (omega (
         arith,
         g .grown l i,
-        over-grows a g (labelName a l) (failOf a (parentAt a l)) (fail-state a (g .walkable .falling) (parentAt a l) (g .parent l i)),
+        over-grows a g first within (failOf a (parentAt a l)) (fail-state a (g .walkable .falling) (parentAt a l) (g .parent l i)),
         fail-shorter a (g .walkable .falling) (parentAt a l) (g .parent l i) (eqb-false (parentAt a l) 0 t),
       )))
 
-  fail-fits : failIn + wordSize ≤ linkSize
-  unfolding linkSize
-  fail-fits = omega arith
-
   same-count : labelCount (failed l a) ≡ labelCount a
-  same-count = count-kept a l failIn (failTo a l) (omega arith) fail-fits
-
-  same-head : (h : ℕ) → h < hashes → headAt (failed l a) h ≡ headAt a h
-  same-head = head-kept a l failIn (failTo a l) (omega arith) fail-fits
-
-  same-next : (m : ℕ) → nextAt (failed l a) m ≡ nextAt a m
-  same-next = next-kept a l failIn (failTo a l) (omega arith) fail-fits
+  same-count = count-kept a l failIn (failTo a l) (omega arith) (omega arith)
 
   same-parent : (m : ℕ) → parentAt (failed l a) m ≡ parentAt a m
   unfolding linksAt linkSize
@@ -109,20 +103,17 @@ module _ (a : List ℕ) (g : Growing a) (l : ℕ) (i : l < labelCount a) where
 
   fits : linkEntryAt l + failIn + wordSize ≤ length a
   unfolding linksAt linkSize automatonSize maxLabels
-  fits = omega (arith, g .room, g .walkable .searchable .few)
+  fits = omega (arith, g .room, g .walkable .searchable .lookable .few)
 
   this-fail : failAt (failed l a) l ≡ failTo a l
   unfolding maxLabels
-  this-fail = word-stored a (linkEntryAt l + failIn) (failTo a l) fits (omega (arith, fail-within, g .walkable .searchable .few))
+  this-fail = word-stored a (linkEntryAt l + failIn) (failTo a l) fits (omega (arith, fail-within, g .walkable .searchable .lookable .few))
 
   same-sizes : (q : ℕ) → sizeOf (failed l a) q ≡ sizeOf a q
   unfolding sizeOf
   same-sizes zero = refl
   same-sizes (suc zero) = refl
   same-sizes (suc (suc m)) = same-size m
-
-  failed-next : (m k : ℕ) → nextAt (failed l a) m ≡ suc k → nextAt a m ≡ suc k
-  failed-next m k e = sym (same-next m) ∙ e
 
   failed-falls : (m : ℕ) → m < labelCount a → (failAt (failed l a) m ≤ suc (labelCount a)) × (sizeOf a (failAt (failed l a) m) < sizeAt a m)
   failed-falls m b = cases (eqb m l)
@@ -134,12 +125,7 @@ module _ (a : List ℕ) (g : Growing a) (l : ℕ) (i : l < labelCount a) where
   failed-grows = record {
     room = rw (length-sets a (linkEntryAt l + failIn) (le16 (failTo a l))) (g .room);
     walkable = record {
-      searchable = record {
-        few = rw same-count (g .walkable .searchable .few);
-        head = λ h b. rw (same-count, same-head h b) (g .walkable .searchable .head h b);
-        next = λ m b. let b' : m < labelCount a = rw same-count at b in rw (same-count, same-next m) (g .walkable .searchable .next m b');
-        later = λ m k b e. let b' : m < labelCount a = rw same-count at b in g .walkable .searchable .later m k b' (failed-next m k e);
-      };
+      searchable = searchable-kept a l failIn (failTo a l) (omega arith) (omega arith) (g .walkable .searchable);
       falling = record {
         fail = λ m b. let b' : m < labelCount a = rw same-count at b in rw same-count (failed-falls m b' .0);
         size = λ m b. let b' : m < labelCount a = rw same-count at b in rw (same-size m) (g .walkable .falling .size m b');

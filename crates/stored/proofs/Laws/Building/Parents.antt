@@ -24,16 +24,17 @@ use Rattle.notation.proofs.Laws.Stored.ReadPaths.{path-read, path-missing}
 use Rattle.model.specs.Words.{document, name, Word, labelWords}
 use Rattle.model.specs.Walk.{followedBy}
 use Rattle.model.specs.Prefix.{IsPrefix}
-use Rattle.stored.specs.Automaton.{Link, find, allSteps, allLabels, wordsIn, allWords, sameWord, stateAmong, stateOf, shortened, heads, nexts, assembled, parentIn, sizeIn, allMasks, linkEntryAt}
+use Rattle.stored.specs.Automaton.{Link, find, allSteps, allLabels, wordsIn, allWords, sameWord, stateAmong, stateOf, shortened, heads, assembled, parentIn, sizeIn, allMasks, linkEntryAt}
 use Rattle.stored.specs.Tables.{sizeAt, sizeOf, goto}
 use Rattle.stored.specs.Code.Parents.{startsAt, wordStored, labelled, tested, passedBy, passed, parented, beforePaths}
 use Rattle.stored.specs.declared.place.Place.{Place}
 use Rattle.text.proofs.Laws.Tests.{cases, clash}
 use Rattle.stored.proofs.Laws.Bytes.Tabulate.{tabulate-length}
-use Rattle.stored.proofs.Laws.Tables.Assembled.{withParent, withLength, noLink, Sized, parent-put, size-put, size-read}
+use Rattle.stored.proofs.Laws.Tables.Assembled.{chainIn, withParent, withLength, noLink, Sized, parent-put, size-put, size-read}
 use Rattle.stored.proofs.Laws.Tables.SetReads.{of-set, label-bytes, step-entry, step-count}
 use Rattle.stored.proofs.Laws.Tables.States.{same-word, word-same, shortened-followed, followed-last, words-count, word-ends, label-parent, state-followed}
-use Rattle.stored.proofs.Laws.Tables.Goto.{Chained, ParentAt, goto-word}
+use Rattle.stored.proofs.Laws.Tables.Chained.{Chained, chainAt}
+use Rattle.stored.proofs.Laws.Tables.Goto.{ParentAt, goto-word}
 use Rattle.stored.proofs.Laws.Tables.Linked.{chained-here, parent-here}
 use Rattle.stored.proofs.Laws.Building.Placed.{flagged, placed, upTo, upTo-length, upTo-done, upTo-rest, upTo-step, upTo-all, find-first, words-short}
 
@@ -143,7 +144,7 @@ begin s i l begun w x v p ps h e q = record {
     steps-one (z ∷ g) y = omega (arith, length-append z (stepsOf (g ++ (y ∷ []))), length-append z (stepsOf g), steps-one g y)
 
 module _ (s : FolderSet) (fit : Fitting s) (ls : List Link) (ms : List ℕ) (f : ℕ) (rest : List ℕ) (count : length ls ≡ length (allLabels s)) (masks : length ms ≡ allMasks)
-    (next : (l : ℕ) → l < length (allLabels s) → getD ls l noLink .next ≡ getD (nexts 0 (allLabels s)) l 0) where
+    (chain : (l : ℕ) → l < length (allLabels s) → chainIn (getD ls l noLink) ≡ chainAt (allLabels s) l) where
   stage : ℕ → List ℕ
   stage l = assembled s (heads (allLabels s)) (upTo s ls l) ms f ++ rest
 
@@ -156,20 +157,20 @@ module _ (s : FolderSet) (fit : Fitting s) (ls : List Link) (ms : List ℕ) (f :
   sized : (ks : List Link) → length ks ≡ length (allLabels s) → Sized (heads (allLabels s)) ks ms
   sized ks e = record { heads = tabulate-length _ _; links = omega (arith, fit .labels, e); masks = masks }
 
-  nexts-kept : (l m : ℕ) → l ≤ length (allLabels s) → m < length (allLabels s) → getD (upTo s ls l) m noLink .next ≡ getD (nexts 0 (allLabels s)) m 0
-  nexts-kept l m h k =
+  chain-kept : (l m : ℕ) → l ≤ length (allLabels s) → m < length (allLabels s) → chainIn (getD (upTo s ls l) m noLink) ≡ chainAt (allLabels s) m
+  chain-kept l m h k =
       cases (ltb m l)
-      (λ t. ap (λ (k : Link). k .next) (upTo-done s ls counted l m (rw count h) (ltb-true m l t)) ∙ next m k)
-      (λ t. ap (λ (k : Link). k .next) (upTo-rest s ls counted l m (rw count h) (ltb-false m l t)) ∙ next m k)
+      (λ t. ap chainIn (upTo-done s ls counted l m (rw count h) (ltb-true m l t)) ∙ chain m k)
+      (λ t. ap chainIn (upTo-rest s ls counted l m (rw count h) (ltb-false m l t)) ∙ chain m k)
 
   chains : (l : ℕ) → l ≤ length (allLabels s) → Chained s (stage l)
   unfolding stage
-  chains l h = chained-here s fit (upTo s ls l) ms f (sized (upTo s ls l) (counts l)) rest (counts l) (λ m k. nexts-kept l m h k)
+  chains l h = chained-here s fit (upTo s ls l) ms f (sized (upTo s ls l) (counts l)) rest (counts l) (λ m k. chain-kept l m h k)
 
   parents : (l m : ℕ) → l ≤ length (allLabels s) → m < l → ParentAt s (stage l) m
   unfolding stage
   parents l m h k =
-      parent-here s fit (upTo s ls l) ms f (sized (upTo s ls l) (counts l)) rest (counts l) (λ m k. nexts-kept l m h k) m (omega arith)
+      parent-here s fit (upTo s ls l) ms f (sized (upTo s ls l) (counts l)) rest (counts l) (λ m k. chain-kept l m h k) m (omega arith)
       (ap (λ (k : Link). k .parent) (upTo-done s ls counted l m (rw count h) k))
 
   -- the length of a word seen is stored

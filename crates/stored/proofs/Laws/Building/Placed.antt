@@ -14,7 +14,7 @@ use Rattle.notation.specs.Sets.{child, descendant, label, star, step, Path, Fol
 use Rattle.notation.specs.Form.{pathsOf}
 use Rattle.model.specs.Words.{name, Word, before, labelWords}
 use Rattle.model.specs.Walk.{followedBy}
-use Rattle.stored.specs.Automaton.{Link, link, find, wordsIn, allWords, stateOf, shortened}
+use Rattle.stored.specs.Automaton.{Link, find, wordsIn, allWords, stateOf, shortened}
 use Rattle.text.proofs.Laws.Tests.{cases}
 use Rattle.stored.proofs.Laws.Bytes.Finding.{find-here, find-later}
 use Rattle.stored.proofs.Laws.Tables.Assembled.{withParent, withLength, noLink}

@@ -11,14 +11,16 @@ use Rattle.notation.specs.Reads.{labelCount}
 use Rattle.notation.proofs.Laws.Refused.Fitting.{Fitting}
 use Rattle.model.specs.Words.{name, Word}
 use Rattle.model.specs.Prefix.{IsPrefix, failure}
-use Rattle.stored.specs.Automaton.{hashes, automatonSize, allLabels, allWords, stateOf, shortened, heads, nexts, Link, assembled, allMasks}
+use Rattle.stored.specs.Automaton.{hashes, automatonSize, allLabels, allWords, stateOf, shortened, heads, marks, Link, assembled, allMasks}
 use Rattle.stored.specs.Tables.{failAt, sizeAt, sizeOf}
 use Rattle.stored.specs.Code.Fails.{Growing}
 use Rattle.model.proofs.Laws.Keywords.Prefix.{failure-is}
 use Rattle.stored.proofs.Laws.Bytes.Tabulate.{tabulate-length}
-use Rattle.stored.proofs.Laws.Tables.Assembled.{noLink, Sized, assembled-length, fail-read, size-read}
+use Rattle.stored.proofs.Laws.Tables.Assembled.{chainIn, groupIn, noLink, Sized, assembled-length, fail-read, size-read}
+use Rattle.stored.proofs.Laws.Tables.Marked.{groupAt}
 use Rattle.stored.proofs.Laws.Tables.SetReads.{label-count}
 use Rattle.stored.proofs.Laws.Tables.States.{StateKind, ofEmpty, ofRoot, ofLabel, state-kind, word-ends, label-parent, shortened-followed, state-within}
+use Rattle.stored.proofs.Laws.Tables.Chained.{chainAt}
 use Rattle.stored.proofs.Laws.Tables.Goto.{Linked}
 use Rattle.stored.proofs.Laws.Tables.Linked.{linked-here}
 use Rattle.stored.proofs.Laws.Tables.Searched.{chained-searchable}
@@ -32,7 +34,8 @@ failureAt s l = stateOf s (failure s (wordAt s l))
 -- the links are those of the set, but for failure links that are 0
 pub record Links (s : FolderSet) (ls : List Link) : Type 0 where
   pub count : length ls ≡ length (allLabels s)
-  pub next : (l : ℕ) → l < length (allLabels s) → getD ls l noLink .next ≡ getD (nexts 0 (allLabels s)) l 0
+  pub chain : (l : ℕ) → l < length (allLabels s) → chainIn (getD ls l noLink) ≡ chainAt (allLabels s) l
+  pub group : (l : ℕ) → l < length (allLabels s) → groupIn (getD ls l noLink) ≡ groupAt (marks s) l
   pub parent : (l : ℕ) → l < length (allLabels s) → getD ls l noLink .parent ≡ stateOf s (shortened (wordAt s l))
   pub fail : (l : ℕ) → l < length (allLabels s) → (getD ls l noLink .fail ≡ 0) ⊎ (getD ls l noLink .fail ≡ failureAt s l)
   pub size : (l : ℕ) → l < length (allLabels s) → getD ls l noLink .size ≡ length (wordAt s l)
@@ -64,7 +67,7 @@ module _ (s : FolderSet) (fit : Fitting s) (short : Short s) (ms : List ℕ) (f 
     sized = record { heads = tabulate-length _ hashes; links = omega (arith, k .count, fit .labels); masks = masks }
 
     pub staged : Linked s (stage ls)
-    staged = linked-here s fit ls ms f sized rest (k .count) (k .next) (k .parent)
+    staged = linked-here s fit ls ms f sized rest (k .count) (k .chain) (k .parent)
 
     pub count-here : labelCount (stage ls) ≡ length (allLabels s)
     count-here = label-count s fit (heads (allLabels s)) ls ms f rest

@@ -5,15 +5,12 @@ use mathlib.Core.Bool.{Bool, false, _||_}
 use mathlib.Core.List.{List, [], _∷_, _++_, append-nil}
 use native.Mathlib.Omega.{arith}
 use native.Mathlib.Numerals.{add-one}
-use lib.Dec.{eqb}
 use lib.ListN.{length, set, take, replicate}
 use lib.Seq.{sets, take-at}
 use Rattle.text.specs.Names.{maxName}
 use Rattle.text.specs.Bytes.{le16, padded}
-use Rattle.notation.specs.Reads.{labelStep}
-use Rattle.text.specs.Lists.{any}
 use Rattle.notation.proofs.Laws.Fill.Padded.{padded-none, sets-padded}
-use Rattle.stored.specs.Chain.{chainLabels}
+use Rattle.stored.specs.Marked.{marked}
 use Rattle.stored.specs.Automaton.{maskSize, byteOf, bitBytes, tabulate}
 use Rattle.stored.specs.Bits.{bitOf, bitAt}
 use Rattle.stored.specs.Run.{matchesAt, depthAt}
@@ -49,7 +46,7 @@ unfolding padded
 used-part n k vs h = take-at vs _ k h
 
 -- with the labels of a name, the bits are those of an open
-module _ (a run e taken : List ℕ) (d used : ℕ) (h : (i : ℕ) → bitAt taken i ≡ (bitAt (replicate maskSize 0) i || any (λ l. eqb (labelStep a l) i) (chainLabels a e)))
+module _ (a run e taken : List ℕ) (d used : ℕ) (h : (i : ℕ) → bitAt taken i ≡ (bitAt (replicate maskSize 0) i || marked a e i))
     (all : used ≡ usedBytes a) (room : usedBytes a ≤ maskSize) (deep : d ≡ depthOf run) where
   active-is : (i : ℕ) → i < 8 * usedBytes a → takenActive a run taken d i ≡ nowActive a run e i
   unfolding nowActive candidate

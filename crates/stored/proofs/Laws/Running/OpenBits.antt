@@ -88,7 +88,7 @@ module _ (s : FolderSet) (a : List ℕ) (m : Means s a) (names : List Name) (mat
 
   candidate-is : (i : ℕ) → i < 8 * maskSize → candidate a e i ≡ (roleAt isStarRole (roles s) i || roleAt (isLabelRole e) (roles s) i)
   unfolding candidate
-  candidate-is i h = rw (m .tables .masks starMask (omega arith) i h, label-bits s a (m .tables) e i)
+  candidate-is i h = rw (m .tables .masks starMask (omega arith) i h, m .tables .marked e i, label-bits s e i)
 
   active-here : (i : ℕ) → i < 8 * maskSize → activeAt run (length names) i ≡ activeBits s names i
   active-here i h = active-at s names matched deep short rest (length names) (omega arith) i h ∙ ap (λ (l : List Name). activeBits s l i) (take-length names)

@@ -20,15 +20,20 @@ use Rattle.notation.proofs.Laws.Stored.Reads.{text-len, folders-read, paths-rea
 use Rattle.model.specs.Words.{name, Word, before, labelWords, begins, document}
 use Rattle.model.specs.Walk.{followedBy}
 use Rattle.stored.specs.Automaton.{masksFrom, masks, allLabels, heads, links, startState, automatonOf, allMasks, Link}
+use Rattle.stored.specs.Tables.{farAt}
+use Rattle.stored.specs.Usable.{After}
 use Rattle.stored.specs.Shape.{automatonShaped}
 use Rattle.stored.specs.Code.Fails.{Growing}
 use Rattle.model.proofs.Laws.Keywords.Labels.{LabelWord, begins-label}
 use Rattle.stored.proofs.Laws.Bytes.Bits.{bit-small}
 use Rattle.stored.proofs.Laws.Bytes.Tabulate.{tabulate-length}
-use Rattle.stored.proofs.Laws.Tables.Assembled.{start-read}
+use Rattle.stored.proofs.Laws.Tables.Assembled.{chainIn, groupIn, start-read}
 use Rattle.stored.proofs.Laws.Tables.States.{word-ends, label-begins}
 use Rattle.stored.proofs.Laws.Building.Staged.{Links, Short, sized, stage-grows}
-use Rattle.stored.proofs.Laws.Building.Fails.{links-length, links-at}
+use Rattle.stored.proofs.Laws.Tables.Links.{marks-count, links-length, links-at}
+use Rattle.stored.proofs.Laws.Tables.Compiled.{automaton-grouped, compiled-fitting}
+use Rattle.stored.proofs.Laws.Tables.Searched.{behind-after}
+use Rattle.stored.proofs.Laws.Building.Groups.{far-behind}
 use Rattle.stored.proofs.Laws.Shapes.Shaped.{FolderFacts, PathFacts, LabelFacts, Shaped, is-shaped}
 use Rattle.text.proofs.Laws.Tests.{neither}
 use Rattle.stored.proofs.Laws.Shapes.SetShape.{folder-facts, path-facts, step-fact, label-facts}
@@ -74,7 +79,8 @@ words-short s few l h =
 pub links-right : (s : FolderSet) → Links s (links s)
 links-right s = record {
   count = links-length s;
-  next = λ l h. ap (λ (k : Link). k .next) (links-at s l h);
+  chain = λ l h. ap chainIn (links-at s l h);
+  group = λ l h. ap groupIn (links-at s l h);
   parent = λ l h. ap (λ (k : Link). k .parent) (links-at s l h);
   fail = λ l h. inr (ap (λ (k : Link). k .fail) (links-at s l h));
   size = λ l h. ap (λ (k : Link). k .size) (links-at s l h);
@@ -89,6 +95,12 @@ module _ (s : FolderSet) (fit : Fitting s) (few : pathsLong s ≡ false) (rest :
   pub built-grows : Growing (automatonOf s ++ rest)
   unfolding automatonOf
   built-grows = stage-grows s fit (words-short s few) (masks s) (startState s) (masks-length s) rest (links s) (links-right s)
+
+  far-after : (l : ℕ) → l < labelCount (automatonOf s ++ rest) → After (automatonOf s ++ rest) l (farAt (automatonOf s ++ rest) l)
+  far-after l h =
+      let n = compiled-fitting s fit rest .labels in
+      let i : l < length (allLabels s) = rw n at h in
+      rw (automaton-grouped s fit rest .far l (rw (marks-count s) i)) (behind-after (allLabels s) (automatonOf s ++ rest) l _ i n (far-behind s fit l i))
 
   -- what the shape test is about
   built-facts : formed s ≡ true → namesLong s ≡ false → Shaped (automatonOf s ++ rest)
@@ -105,17 +117,19 @@ module _ (s : FolderSet) (fit : Fitting s) (few : pathsLong s ≡ false) (rest :
           folders = of-set s fit hs (links s) (masks s) (startState s) rest (λ a. folderCount a ≤ maxPaths) (λ more. rw (folders-read s fit more) (fit .folders));
           paths = of-set s fit hs (links s) (masks s) (startState s) rest (λ a. pathCount a ≤ maxPaths) (λ more. rw (paths-read s fit more) (fit .paths));
           steps = of-set s fit hs (links s) (masks s) (startState s) rest (λ a. stepCount a ≤ maxPaths * maxSteps) (λ more. rw (steps-read s fit more) (fit .steps));
-          labels = w .searchable .few;
+          labels = w .searchable .lookable .few;
           start = rw (start-read s fit hs (links s) (masks s) (startState s) z rest (omega arith)) small;
         };
         folder = of-set s fit hs (links s) (masks s) (startState s) rest (λ a. (i : ℕ) → i < folderCount a → FolderFacts a i) (λ more. folder-facts s fit more well);
         path = of-set s fit hs (links s) (masks s) (startState s) rest (λ a. (i : ℕ) → i < pathCount a → PathFacts a i) (λ more. path-facts s fit more well few);
         step = of-set s fit hs (links s) (masks s) (startState s) rest (λ a. (i : ℕ) → i < stepCount a → getD a (stepsAt + i) 0 < stepKinds) (λ more. step-fact s fit more);
         label = of-set s fit hs (links s) (masks s) (startState s) rest (λ a. (i : ℕ) → i < labelCount a → LabelFacts a i) (λ more. label-facts s fit more names);
-        head = w .searchable .head;
+        head = w .searchable .lookable .head;
         link = λ l h. record {
           next = w .searchable .next l h;
-          later = λ m. w .searchable .later l m h;
+          other = w .searchable .lookable .other l h;
+          far = far-after l h;
+          first = w .searchable .first l h;
           parent = g .parent l h;
           fail = w .falling .fail l h;
           size = w .falling .size l h;

@@ -19,7 +19,7 @@ use Rattle.notation.proofs.Laws.Stored.Words.{word-read}
 use Rattle.notation.proofs.Laws.Fill.Padded.{length-padded}
 use Rattle.model.specs.Limits.{maxDepth, maxOpens}
 use Rattle.stored.specs.Automaton.{maskSize, byteOf}
-use Rattle.stored.specs.Tables.{startOf}
+use Rattle.stored.specs.Tables.{startOf, firstOf}
 use Rattle.stored.specs.Shape.{automatonShaped}
 use Rattle.stored.specs.Run.{matchesAt, rowsAt, nameIn, stateIn, activeIn, seenIn, rowSize, rowAt, runSize, depthAt}
 use Rattle.stored.specs.RunCalls.{depthOf, nameLength, stateAt, rowShaped, runShaped, countersShaped, startRefusal, openRefusal, closeRefusal, startRun, noCounters, usedBytes, usedBits, nowActive, nowSeen, nowMatched, openWalk, stepBits, rowOpened, withRow, openRun, openCounters, closeRun, closeCounters}
@@ -29,6 +29,7 @@ use Rattle.text.proofs.Laws.Tests.{cases, both, both-true}
 use Rattle.stored.proofs.Laws.Bytes.AllBelow.{is-all}
 use Rattle.stored.proofs.Laws.Bytes.Tabulate.{tabulate-length}
 use Rattle.stored.proofs.Laws.Bytes.Beside.{byte-before, byte-behind, rest-behind, word-stored, word-same, put-length, put-before, put-within, put-behind}
+use Rattle.stored.proofs.Laws.Tables.LookTurns.{first-within}
 use Rattle.stored.proofs.Laws.Tables.Fuel.{size-within, over-state, over-moves}
 use Rattle.stored.proofs.Laws.Running.RunBytes.{rows-fit, used-room}
 use Rattle.stored.proofs.Laws.Shapes.Shaped.{shaped-is, shaped-walkable}
@@ -241,13 +242,13 @@ module _ (a run : List ℕ) (e : Name) (r : Ready a run) (room : depthOf run < m
   new-name = ap (λ (n : ℕ). getD (openRun a run e) n 0) (sym (add-zero at)) ∙ row-byte 0 (omega (arith, row-places .name, row-places .state, row-places .seen, row-places .end))
 
   state-bound : openWalk a run e .state ≤ suc (labelCount a)
-  state-bound = over-state a (shaped-walkable a (r .shaped)) (stateAt run (depthOf run)) e (run-shape a run (r .runIsShaped) .state (depthOf run) (omega arith))
+  state-bound = let w = shaped-walkable a (r .shaped) in over-state a w (stateAt run (depthOf run)) (firstOf a e) (run-shape a run (r .runIsShaped) .state (depthOf run) (omega arith)) (first-within a (w .searchable) e)
 
   moves-bound : openWalk a run e .moves ≤ suc maxSteps
   moves-bound =
       let q = run-shape a run (r .runIsShaped) .state (depthOf run) (omega arith) in
       let w = shaped-walkable a (r .shaped) in
-      omega (arith, over-moves a w (stateAt run (depthOf run)) e q, size-within a (w .falling) (stateAt run (depthOf run)) q)
+      omega (arith, over-moves a w (stateAt run (depthOf run)) (firstOf a e) q (first-within a (w .searchable) e), size-within a (w .falling) (stateAt run (depthOf run)) q)
 
   state-stands : Stands stateIn (le16 (openWalk a run e .state)) row
   unfolding rowOpened

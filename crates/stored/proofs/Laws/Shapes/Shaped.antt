@@ -1,22 +1,21 @@
 -- The shape test by its facts: what holds of the stored numbers of an automaton exactly if it passes.
 use Prim.Native.Nat.{ℕ, zero, suc, _+_, _*_, _≤_, _<_}
 use mathlib.Core.Path.{_≡_, refl}
-use mathlib.Core.Bool.{Bool, true, _&&_, _||_}
-use mathlib.Core.Logic.{inl, inr}
+use mathlib.Core.Bool.{true, false}
 use mathlib.Core.List.{List}
 use native.Mathlib.Omega.{arith}
 use lib.Dec.{leb, ltb, eqb}
 use lib.ListN.{getD}
-use borrow.Author.Tests.{leb-true, le-leb, ltb-true, lt-ltb, eqb-true}
+use borrow.Author.Tests.{leb-true, le-leb, ltb-true, lt-ltb, ne-eqb}
 use Rattle.text.specs.Names.{within, maxName}
 use Rattle.notation.specs.Limits.{maxSetBytes, maxNumber, maxPaths, maxSteps, maxLabels}
 use Rattle.notation.specs.Layout.{stepsAt, stepKinds}
 use Rattle.notation.specs.Reads.{textLen, folderCount, pathCount, stepCount, labelCount, storedNumber, storedFirst, labelStep, labelBegin, labelLength, pathFirst, pathSteps, pathBegin, pathLength}
 use Rattle.stored.specs.Automaton.{hashes}
-use Rattle.stored.specs.Tables.{headAt, nextAt, parentAt, failAt, sizeAt, startOf, sizeOf}
-use Rattle.stored.specs.Shape.{allBelow, countsShaped, folderShaped, pathShaped, stepShaped, labelShaped, headShaped, linkShaped, setShaped, automatonShaped}
-use Rattle.stored.specs.Usable.{Walkable}
-use Rattle.text.proofs.Laws.Tests.{both, both-true, either, either-right}
+use Rattle.stored.specs.Tables.{headAt, nextAt, parentAt, failAt, sizeAt, otherAt, firstAt, farAt, startOf, sizeOf}
+use Rattle.stored.specs.Shape.{allBelow, countsShaped, folderShaped, pathShaped, stepShaped, labelShaped, headShaped, laterPlace, chainShaped, linkShaped, setShaped, automatonShaped}
+use Rattle.stored.specs.Usable.{After, Walkable}
+use Rattle.text.proofs.Laws.Tests.{both, both-true, either-right}
 use Rattle.stored.proofs.Laws.Bytes.AllBelow.{all-at, is-all}
 
 pub record Counts (a : List ℕ) : Type 0 where
@@ -44,8 +43,10 @@ pub record LabelFacts (a : List ℕ) (i : ℕ) : Type 0 where
   pub step : labelStep a i < stepCount a
 
 pub record LinkFacts (a : List ℕ) (l : ℕ) : Type 0 where
-  pub next : nextAt a l ≤ labelCount a
-  pub later : (m : ℕ) → nextAt a l ≡ suc m → l < m
+  pub next : After a l (nextAt a l)
+  pub other : After a l (otherAt a l)
+  pub far : After a l (farAt a l)
+  pub first : firstAt a l ≤ labelCount a
   pub parent : parentAt a l ≤ suc (labelCount a)
   pub fail : failAt a l ≤ suc (labelCount a)
   pub size : sizeAt a l ≤ suc maxSteps
@@ -67,27 +68,19 @@ within-is low high x h = let b = both (leb low x) (leb x high) h in (leb-true lo
 is-within : {low high x : ℕ} → low ≤ x → x ≤ high → within low high x ≡ true
 is-within {low} {high} {x} p q = both-true (le-leb low x p) (le-leb x high q)
 
--- the next label of a chain is none or a later one
-abbrev onward : ℕ → ℕ → ℕ → Bool
-onward n l next = eqb next 0 || (ltb (suc l) next && leb next n)
+later-is : (a : List ℕ) (l k : ℕ) → laterPlace a l k ≡ true → After a l k
+later-is a l zero h = record { within = omega arith; later = λ m p. absurd (omega arith) }
+later-is a l (suc k) h =
+    let some : eqb (suc k) 0 ≡ false = ne-eqb (suc k) 0 (λ z. omega arith) in
+    let b = both (ltb (suc l) (suc k)) (leb (suc k) (labelCount a)) (rw some at h) in
+    let lt : suc l < suc k = ltb-true (suc l) (suc k) (b .0) in
+    record { within = leb-true (suc k) (labelCount a) (b .1); later = λ m p. omega arith }
 
-onward-within : (n l next : ℕ) → onward n l next ≡ true → next ≤ n
-onward-within n l next h = elim (either (eqb next 0) (ltb (suc l) next && leb next n) h) [
-  | inl z ↦ let e : next ≡ 0 = eqb-true next 0 z in omega arith
-  | inr t ↦ leb-true next n (both (ltb (suc l) next) (leb next n) t .1)
-]
-
-onward-later : (n l next m : ℕ) → onward n l next ≡ true → next ≡ suc m → l < m
-onward-later n l next m h p = elim (either (eqb next 0) (ltb (suc l) next && leb next n) h) [
-  | inl z ↦ absurd (let e : next ≡ 0 = eqb-true next 0 z in omega arith)
-  | inr t ↦ let b : suc l < next = ltb-true (suc l) next (both (ltb (suc l) next) (leb next n) t .0) in omega arith
-]
-
-is-onward : (n l next : ℕ) → next ≤ n → ((m : ℕ) → next ≡ suc m → l < m) → onward n l next ≡ true
-is-onward n l zero h f = refl
-is-onward n l (suc m) h f =
-    let b : l < m = f m refl in
-    either-right (eqb (suc m) 0) (both-true (lt-ltb (suc l) (suc m) (omega arith)) (le-leb (suc m) n h))
+is-later : (a : List ℕ) (l k : ℕ) → After a l k → laterPlace a l k ≡ true
+is-later a l zero f = refl
+is-later a l (suc k) f =
+    let b : l < k = f .later k refl in
+    either-right (eqb (suc k) 0) (both-true (lt-ltb (suc l) (suc k) (omega arith)) (le-leb (suc k) (labelCount a) (f .within)))
 
 module _ (a : List ℕ) where
   pub counts-is : countsShaped a ≡ true → Counts a
@@ -141,18 +134,23 @@ module _ (a : List ℕ) where
 
   is-link : (l : ℕ) → LinkFacts a l → linkShaped a l ≡ true
   is-link l f =
-      both-true (is-onward (labelCount a) l (nextAt a l) (f .next) (f .later))
+      both-true (both-true (is-later a l (nextAt a l) (f .next)) (both-true (is-later a l (otherAt a l) (f .other)) (both-true (is-later a l (farAt a l) (f .far)) (le-leb _ _ (f .first)))))
       (both-true (le-leb _ _ (f .parent)) (both-true (le-leb _ _ (f .size)) (both-true (le-leb _ _ (f .fail)) (lt-ltb _ _ (f .shorter)))))
 
   link-is : (l : ℕ) → linkShaped a l ≡ true → LinkFacts a l
   link-is l h =
-      let b1 = both (onward (labelCount a) l (nextAt a l)) _ h in
+      let b1 = both (chainShaped a l) _ h in
+      let c1 = both (laterPlace a l (nextAt a l)) _ (b1 .0) in
+      let c2 = both (laterPlace a l (otherAt a l)) _ (c1 .1) in
+      let c3 = both (laterPlace a l (farAt a l)) _ (c2 .1) in
       let b2 = both _ _ (b1 .1) in
       let b3 = both _ _ (b2 .1) in
       let b4 = both _ _ (b3 .1) in
       record {
-        next = onward-within (labelCount a) l (nextAt a l) (b1 .0);
-        later = λ m. onward-later (labelCount a) l (nextAt a l) m (b1 .0);
+        next = later-is a l (nextAt a l) (c1 .0);
+        other = later-is a l (otherAt a l) (c2 .0);
+        far = later-is a l (farAt a l) (c3 .0);
+        first = leb-true _ _ (c3 .1);
         parent = leb-true _ _ (b2 .0);
         size = leb-true _ _ (b3 .0);
         fail = leb-true _ _ (b4 .0);
@@ -196,6 +194,10 @@ module _ (a : List ℕ) where
   shaped-walkable h =
       let s = shaped-is h in
       record {
-        searchable = record { few = s .counts .labels; head = s .head; next = λ l i. s .link l i .next; later = λ l m i. s .link l i .later m };
+        searchable = record {
+          lookable = record { few = s .counts .labels; head = s .head; other = λ l i. s .link l i .other };
+          first = λ l i. s .link l i .first;
+          next = λ l i. s .link l i .next;
+        };
         falling = record { fail = λ l i. s .link l i .fail; size = λ l i. s .link l i .size; shorter = λ l i. s .link l i .shorter };
       }

@@ -6,7 +6,7 @@ use native.Mathlib.Omega.{arith}
 use mathlib.Core.Path.{_≡_, refl, sym, ap, _∙_}
 use mathlib.Core.List.{List, [], _∷_, _++_, map, append-assoc, append-nil}
 use lib.ListN.{length, getD, set, replicate, length-append, length-map, length-set, length-replicate}
-use lib.Seq.{sets, set-append-left}
+use lib.Seq.{sets, set-append-left, set-set, getD-set-same}
 use Rattle.notation.specs.Limits.{maxLabels}
 use Rattle.notation.specs.Sets.{FolderSet}
 use Rattle.notation.specs.Print.{print}
@@ -19,25 +19,48 @@ use Rattle.notation.proofs.Laws.Fill.Padded.{length-padded}
 use Rattle.notation.proofs.Laws.Stored.Entries.{map-width, map-at, joined-length, entry}
 use Rattle.notation.proofs.Laws.Refused.Fitting.{Fitting, roomy}
 use Rattle.notation.proofs.Laws.Stored.Words.{word-read, words-read}
-use Rattle.stored.specs.Automaton.{hashes, linkSize, maskSize, headsAt, linksAt, masksAt, startAt, automatonSize, Link, link, linkEntry, headBytes, linkBytes, assembled, parentIn, failIn, sizeIn, allMasks, headEntryAt, linkEntryAt}
-use Rattle.stored.specs.Tables.{headAt, nextAt, parentAt, failAt, sizeAt, startOf}
+use Rattle.stored.specs.Automaton.{hashes, linkSize, maskSize, headsAt, linksAt, masksAt, startAt, automatonSize, Chain, Group, Link, link, linkEntry, headBytes, linkBytes, assembled, parentIn, failIn, sizeIn, otherIn, firstIn, farIn, bitsIn, allMasks, headEntryAt, linkEntryAt}
+use Rattle.stored.specs.Tables.{headAt, nextAt, parentAt, failAt, sizeAt, otherAt, firstAt, farAt, bitsAt, startOf}
+use Rattle.stored.proofs.Laws.Tables.Chained.{noChain}
 use Rattle.stored.proofs.Laws.Bytes.Stores.{sets-left, past, sets-whole, sets-table, set-map, zeros, zero-entries, zeros-padded}
 
--- a link with one of its numbers changed
+-- how a link's label is linked by name
+abbrev pub chainIn : Link → Chain
+chainIn k = record { next = k .next; other = k .other; first = k .first }
+
+abbrev pub groupIn : Link → Group
+groupIn k = record { far = k .far; bits = k .bits }
+
+-- a link with some of its numbers changed
+abbrev pub withChain : Chain → Link → Link
+withChain c k = link c (groupIn k) (k .parent) (k .fail) (k .size)
+
 abbrev pub withNext : ℕ → Link → Link
-withNext v k = link v (k .parent) (k .fail) (k .size)
+withNext v k = withChain (record { next = v; other = k .other; first = k .first }) k
+
+abbrev pub withOther : ℕ → Link → Link
+withOther v k = withChain (record { next = k .next; other = v; first = k .first }) k
+
+abbrev pub withFirst : ℕ → Link → Link
+withFirst v k = withChain (record { next = k .next; other = k .other; first = v }) k
+
+abbrev pub withGroup : Group → Link → Link
+withGroup g k = link (chainIn k) g (k .parent) (k .fail) (k .size)
 
 abbrev pub withParent : ℕ → Link → Link
-withParent v k = link (k .next) v (k .fail) (k .size)
+withParent v k = link (chainIn k) (groupIn k) v (k .fail) (k .size)
 
 abbrev pub withFailure : ℕ → Link → Link
-withFailure v k = link (k .next) (k .parent) v (k .size)
+withFailure v k = link (chainIn k) (groupIn k) (k .parent) v (k .size)
 
 abbrev pub withLength : ℕ → Link → Link
-withLength v k = link (k .next) (k .parent) (k .fail) v
+withLength v k = link (chainIn k) (groupIn k) (k .parent) (k .fail) v
+
+abbrev pub noGroup : Group
+noGroup = record { far = 0; bits = 0 }
 
 abbrev pub noLink : Link
-noLink = link 0 0 0 0
+noLink = link noChain noGroup 0 0 0
 
 -- tables of the right sizes
 pub record Sized (hs : List ℕ) (ls : List Link) (ms : List ℕ) : Type 0 where
@@ -98,7 +121,7 @@ zero-links n h =
 
 -- number i of a link
 abbrev numbers : Link → List ℕ
-numbers k = k .next ∷ k .parent ∷ k .fail ∷ k .size ∷ []
+numbers k = k .next ∷ k .parent ∷ k .fail ∷ k .size ∷ k .other ∷ k .first ∷ k .far ∷ k .bits ∷ []
 
 link-read : {part : List ℕ} {at : ℕ} (k : Link) (i : ℕ) → i < length (numbers k) → getD (numbers k) i 0 < 65536 → Stands at (linkEntry k) part → word16 part (at + wordSize * i) ≡ getD (numbers k) i 0
 unfolding joined
@@ -184,6 +207,18 @@ module _ (s : FolderSet) (fit : Fitting s) where
     pub size-read : (l : ℕ) → l < length ls → getD ls l noLink .size < 65536 → sizeAt (assembled s hs ls ms f ++ rest) l ≡ getD ls l noLink .size
     size-read l h b = link-read (getD ls l noLink) 3 (omega arith) b (link-stands l h)
 
+    pub other-read : (l : ℕ) → l < length ls → getD ls l noLink .other < 65536 → otherAt (assembled s hs ls ms f ++ rest) l ≡ getD ls l noLink .other
+    other-read l h b = link-read (getD ls l noLink) 4 (omega arith) b (link-stands l h)
+
+    pub first-read : (l : ℕ) → l < length ls → getD ls l noLink .first < 65536 → firstAt (assembled s hs ls ms f ++ rest) l ≡ getD ls l noLink .first
+    first-read l h b = link-read (getD ls l noLink) 5 (omega arith) b (link-stands l h)
+
+    pub far-read : (l : ℕ) → l < length ls → getD ls l noLink .far < 65536 → farAt (assembled s hs ls ms f ++ rest) l ≡ getD ls l noLink .far
+    far-read l h b = link-read (getD ls l noLink) 6 (omega arith) b (link-stands l h)
+
+    pub bits-read : (l : ℕ) → l < length ls → getD ls l noLink .bits < 65536 → bitsAt (assembled s hs ls ms f ++ rest) l ≡ getD ls l noLink .bits
+    bits-read l h b = link-read (getD ls l noLink) 7 (omega arith) b (link-stands l h)
+
     pub mask-read : (i : ℕ) → i < allMasks → getD (assembled s hs ls ms f ++ rest) (masksAt + i) 0 ≡ getD ms i 0
     mask-read i h = read i (rw (z .masks) h) (left ms _ from-masks)
 
@@ -241,6 +276,26 @@ module _ (s : FolderSet) (fit : Fitting s) where
     unfolding linkSize
     size-put l v h = link-put l sizeIn v (withLength v (getD ls l noLink)) h (omega arith) refl
 
+    pub other-put : (l v : ℕ) → l < length ls
+        → sets (assembled s hs ls ms f ++ rest) (linkEntryAt l + otherIn) (le16 v) ≡ assembled s hs (set ls l (withOther v (getD ls l noLink))) ms f ++ rest
+    unfolding linkSize
+    other-put l v h = link-put l otherIn v (withOther v (getD ls l noLink)) h (omega arith) refl
+
+    pub first-put : (l v : ℕ) → l < length ls
+        → sets (assembled s hs ls ms f ++ rest) (linkEntryAt l + firstIn) (le16 v) ≡ assembled s hs (set ls l (withFirst v (getD ls l noLink))) ms f ++ rest
+    unfolding linkSize
+    first-put l v h = link-put l firstIn v (withFirst v (getD ls l noLink)) h (omega arith) refl
+
+    far-put : (l v : ℕ) → l < length ls
+        → sets (assembled s hs ls ms f ++ rest) (linkEntryAt l + farIn) (le16 v) ≡ assembled s hs (set ls l (withGroup (record { far = v; bits = getD ls l noLink .bits }) (getD ls l noLink))) ms f ++ rest
+    unfolding linkSize
+    far-put l v h = link-put l farIn v (withGroup (record { far = v; bits = getD ls l noLink .bits }) (getD ls l noLink)) h (omega arith) refl
+
+    bits-put : (l v : ℕ) → l < length ls
+        → sets (assembled s hs ls ms f ++ rest) (linkEntryAt l + bitsIn) (le16 v) ≡ assembled s hs (set ls l (withGroup (record { far = getD ls l noLink .far; bits = v }) (getD ls l noLink))) ms f ++ rest
+    unfolding linkSize
+    bits-put l v h = link-put l bitsIn v (withGroup (record { far = getD ls l noLink .far; bits = v }) (getD ls l noLink)) h (omega arith) refl
+
     pub mask-put : (i v : ℕ) → i < allMasks → set (assembled s hs ls ms f ++ rest) (masksAt + i) v ≡ assembled s hs ls (set ms i v) f ++ rest
     mask-put i v h =
         let tail = le16 f ++ (spare ++ rest) in
@@ -275,6 +330,15 @@ module _ (s : FolderSet) (fit : Fitting s) where
         rw (← p f, ← p v)
         (past front (le16 f ++ (spare ++ rest)) startAt startAt 0 (le16 v) size (sym (add-zero startAt))
         ∙ ap (λ (r : List ℕ). front ++ r) (sets-left (le16 v) (le16 f) (spare ++ rest) 0 (omega arith)))
+
+  pub group-put : (hs : List ℕ) (ls : List Link) (ms : List ℕ) (f : ℕ) → Sized hs ls ms → (rest : List ℕ) (l : ℕ) (g : Group) → l < length ls
+      → sets (sets (assembled s hs ls ms f ++ rest) (linkEntryAt l + farIn) (le16 (g .far))) (linkEntryAt l + bitsIn) (le16 (g .bits)) ≡ assembled s hs (set ls l (withGroup g (getD ls l noLink))) ms f ++ rest
+  group-put hs ls ms f z rest l g h =
+      let x = withGroup (record { far = g .far; bits = getD ls l noLink .bits }) (getD ls l noLink) in
+      let z' : Sized hs (set ls l x) ms = record { heads = z .heads; links = rw (length-set ls l x) (z .links); masks = z .masks } in
+      ap (λ (a : List ℕ). sets a (linkEntryAt l + bitsIn) (le16 (g .bits))) (far-put hs ls ms f z rest l (g .far) h)
+      ∙ bits-put hs (set ls l x) ms f z' rest l (g .bits) (rw (length-set ls l x) h)
+      ∙ rw (getD-set-same ls l x noLink h, set-set ls l x (withGroup g (getD ls l noLink)))
 
   -- a set's bytes with zeros behind them are such bytes, of zeros
   pub zeros-assembled : (n : ℕ) → n ≤ maxLabels

@@ -6,6 +6,7 @@ use mathlib.Core.Logic.{inl, inr}
 use mathlib.Core.List.{List, [], _∷_, _++_, List·Memᴰ, List·Memᴰ·not-nil, List·Memᴰ·cases-cons}
 use native.Mathlib.Omega.{arith}
 use lib.ListN.{length, getD, length-append}
+use Rattle.text.specs.Names.{Name}
 use Rattle.notation.specs.Limits.{maxPaths, maxSteps, maxLabels}
 use Rattle.notation.specs.Sets.{child, descendant, label, star, step, Path, FolderSet}
 use Rattle.notation.specs.Form.{pathsOf, stepsOf}
@@ -21,8 +22,9 @@ use Rattle.model.specs.Words.{document, name, Word, before, labelWords, begins}
 use Rattle.model.specs.Prefix.{IsPrefix, failure}
 use Rattle.model.specs.Walk.{followedBy}
 use Rattle.model.specs.Calls.{fresh}
-use Rattle.stored.specs.Automaton.{hashes, maskSize, masksAt, allLabels, allWords, stateOf, heads, headOf, links, roles, roleAt, masks, bitBytes, byteOf, startState, automatonOf, maskTest, maskCount, allMasks, Link}
-use Rattle.stored.specs.Tables.{startOf, sizeAt, sizeOf}
+use Rattle.stored.specs.Automaton.{hashes, maskSize, masksAt, allSteps, allLabels, allWords, stateOf, heads, headOf, marks, takes, links, roles, roleAt, masks, bitBytes, byteOf, startState, automatonOf, maskTest, maskCount, allMasks, Link}
+use Rattle.stored.specs.Tables.{startOf, sizeAt, farAt, bitsAt, sizeOf}
+use Rattle.stored.specs.Marked.{marked}
 use Rattle.stored.specs.Bits.{bitOf, bitIn}
 use Rattle.stored.specs.Compiled.{LabelStep, Compiled}
 use Rattle.text.proofs.Laws.Tests.{cases}
@@ -31,14 +33,18 @@ use Rattle.model.proofs.Laws.Keywords.Labels.{LabelWord}
 use Rattle.stored.proofs.Laws.Bytes.Tabulate.{tabulate-length}
 use Rattle.stored.proofs.Laws.Bytes.Bits.{bit-small, bits-bit}
 use Rattle.stored.proofs.Laws.Tables.States.{words-count, among-label, at-among, state-empty, state-root, StateKind, ofEmpty, ofRoot, ofLabel, state-kind, state-one, state-none, state-within}
-use Rattle.stored.proofs.Laws.Tables.Assembled.{Sized, noLink, after-set, fail-read, size-read, mask-read, start-read}
+use Rattle.stored.proofs.Laws.Tables.Assembled.{Sized, chainIn, noLink, after-set, fail-read, size-read, far-read, bits-read, mask-read, start-read}
 use Rattle.stored.proofs.Laws.Tables.Goto.{Linked, goto-is}
+use Rattle.stored.proofs.Laws.Tables.Links.{marks-count, links-length, links-at}
 use Rattle.stored.proofs.Laws.Tables.Linked.{small, linked-here}
 use Rattle.stored.proofs.Laws.Tables.Walked.{FailAt, fail-word, walk-over}
 use Rattle.stored.proofs.Laws.Bytes.MaskRows.{place, roleBits, all-bits, masks-are}
 use Rattle.stored.proofs.Laws.Building.Masked.{bit-in, byte-in, all-roles-length, all-small}
-use Rattle.stored.proofs.Laws.Tables.ChainPlaces.{chain-places}
-use Rattle.stored.proofs.Laws.Building.Fails.{links-length, links-at}
+use Rattle.stored.proofs.Laws.Tables.LookedUp.{first-of}
+use Rattle.stored.proofs.Laws.Tables.Marked.{noMark, groupAt, Grouped, marks-rise, marks-names, label-mark, marked-first}
+use Rattle.stored.proofs.Laws.Tables.Searched.{behind-within}
+use Rattle.stored.proofs.Laws.Tables.SetReads.{label-owner}
+use Rattle.stored.proofs.Laws.Building.Groups.{far-behind, bits-small}
 
 -- a label's word has at most its path's steps and `#`
 word-short : (p : Path) (w u : Word) → List·Memᴰ u (labelWords w p) → length u ≤ length w + length p
@@ -80,10 +86,6 @@ begin-state : (s : FolderSet) → startState s ≡ stateOf s (fresh s .current)
 unfolding fresh
 begin-state s = cases (begins s (document ∷ [])) (λ h. rw h (sym (state-root s (document ∷ []) refl))) (λ h. rw h (sym (state-empty s [] refl)))
 
-label-step : LabelAt → ℕ
-label-step (LabelAt.Label at size owner) = owner
-label-step LabelAt.Missing = 0
-
 byte-place : (m i : ℕ) → masksAt + maskSize * m + i / 8 ≡ masksAt + place m i / 8
 unfolding maskSize
 byte-place m i = omega arith
@@ -105,7 +107,7 @@ module _ (s : FolderSet) (fit : Fitting s) (rest : List ℕ) where
 
   pub automaton-linked : Linked s (automatonOf s ++ rest)
   unfolding automatonOf
-  automaton-linked = linked-here s fit (links s) (masks s) (startState s) automaton-sized rest (links-length s) (λ l h. ap (λ (k : Link). k .next) (links-at s l h)) (λ l h. ap (λ (k : Link). k .parent) (links-at s l h))
+  automaton-linked = linked-here s fit (links s) (masks s) (startState s) automaton-sized rest (links-length s) (λ l h. ap chainIn (links-at s l h)) (λ l h. ap (λ (k : Link). k .parent) (links-at s l h))
 
   fails : (l : ℕ) → l < length (allLabels s) → FailAt s (automatonOf s ++ rest) l
   unfolding automatonOf
@@ -141,18 +143,33 @@ module _ (s : FolderSet) (fit : Fitting s) (rest : List ℕ) where
   unfolding automatonOf
   set-first = after-set s fit (heads (allLabels s)) (links s) (masks s) (startState s) rest
 
-  stored : (more : List ℕ) (l at size owner : ℕ) → l < length (allLabels s) → labelAt (setPart s ++ more) l ≡ LabelAt.Label at size owner → labelStep (setPart s ++ more) l ≡ owner
-  unfolding labelAt label-step
-  stored more l at size owner h a =
-      let k : l < maxLabels = omega (arith, fit .labels) in
-      ap label-step (rw (labels-read s fit more, there s fit more (length (allLabels s)) maxLabels l h k) at a)
-
   owner-here : (l : ℕ) → l < length (allLabels s) → LabelStep s l (labelStep (automatonOf s ++ rest) l)
-  owner-here l h =
-      let x = set-first in
-      let r = label-read s fit (x .0) l h in
-      let e : labelStep (setPart s ++ x .0) l ≡ r .index = stored (x .0) l (r .at) (length (getD (allLabels s) l [])) (r .index) h (r .answer) in
-      rw (x .1, e) (record { below = r .below; test = r .test; nth = r .nth })
+  unfolding automatonOf
+  owner-here = label-owner s fit (heads (allLabels s)) (links s) (masks s) (startState s) rest
+
+  pub automaton-grouped : Grouped (marks s) (automatonOf s ++ rest)
+  unfolding automatonOf
+  automaton-grouped = record { far = far; bits = bits }
+    where
+      far : (l : ℕ) → l < length (marks s) → farAt (automatonOf s ++ rest) l ≡ groupAt (marks s) l .far
+      far l h =
+          let i : l < length (allLabels s) = rw (marks-count s) at h in
+          let e : getD (links s) l noLink .far ≡ groupAt (marks s) l .far = ap (λ (k : Link). k .far) (links-at s l i) in
+          far-read s fit (heads (allLabels s)) (links s) (masks s) (startState s) automaton-sized rest l (rw (links-length s) i)
+          (rw e (small (length (allLabels s)) _ (fit .labels) (omega (arith, behind-within (allLabels s) l _ i (far-behind s fit l i))))) ∙ e
+
+      bits : (l : ℕ) → l < length (marks s) → bitsAt (automatonOf s ++ rest) l ≡ groupAt (marks s) l .bits
+      bits l h =
+          let i : l < length (allLabels s) = rw (marks-count s) at h in
+          let o = owner-here l i in
+          let e : getD (links s) l noLink .bits ≡ groupAt (marks s) l .bits = ap (λ (k : Link). k .bits) (links-at s l i) in
+          let b : getD (marks s) l noMark .step < length (allSteps s) = rw (label-mark s l _ o) (o .below) in
+          bits-read s fit (heads (allLabels s)) (links s) (masks s) (startState s) automaton-sized rest l (rw (links-length s) i) (rw e (bits-small s fit l i b)) ∙ e
+
+  marked-here : (e : Name) (i : ℕ) → marked (automatonOf s ++ rest) e i ≡ takes e (marks s) i
+  marked-here e i =
+      rw (first-of s (automatonOf s ++ rest) (automaton-linked .chained) e, ← marks-names 0 (allSteps s))
+      (marked-first (marks s) (automatonOf s ++ rest) automaton-grouped (marks-rise 0 (allSteps s)) (rw (marks-count s) (fit .labels)) e i)
 
   mask-bit : (m : ℕ) → m < maskCount → (i : ℕ) → i < 8 * maskSize → bitIn (automatonOf s ++ rest) (masksAt + maskSize * m) i ≡ roleAt (maskTest m) (roles s) i
   unfolding automatonOf
@@ -186,7 +203,7 @@ module _ (s : FolderSet) (fit : Fitting s) (rest : List ℕ) where
         fail = λ w p. fail-word s (automatonOf s ++ rest) w p (λ l h b. fails l h);
         size = size-word;
         walks = λ w p e. walk-over s (automatonOf s ++ rest) automaton-linked e w p (λ l h b. fails l h) (size-word w p);
-        chain = chain-places s (automatonOf s ++ rest) (automaton-linked .chained);
+        marked = marked-here;
         masks = mask-bit;
         start = start-here;
         begin = begin-state s;

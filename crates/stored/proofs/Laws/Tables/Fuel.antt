@@ -1,66 +1,49 @@
 -- The walk over an automaton's tables, turn by turn: the bounds in its definitions on how far to look are enough where the tables are
 -- walkable, so that they never show.
-use Prim.Native.Nat.{ℕ, zero, suc, _+_, _-_, _≤_, _<_}
+use Prim.Native.Nat.{ℕ, zero, suc, _-_, _≤_, _<_}
 use mathlib.Core.Path.{_≡_, refl, sym, _∙_, ap}
-use mathlib.Core.Bool.{true, false, not, _&&_, cond}
+use mathlib.Core.Bool.{not, _&&_, cond}
 use mathlib.Core.List.{List}
 use native.Mathlib.Omega.{arith}
 use lib.Dec.{eqb}
 use borrow.Author.Tests.{eqb-true, eqb-false, eq-eqb, ne-eqb}
-use Rattle.text.specs.Names.{Name}
 use Rattle.notation.specs.Limits.{maxSteps, maxLabels}
 use Rattle.notation.specs.Reads.{labelCount}
-use Rattle.stored.specs.Automaton.{hash}
-use Rattle.stored.specs.Tables.{headAt, nextAt, sizeOf, failOf, follows, gotoFrom, goto, oneMore, walkFrom, walkOver}
+use Rattle.stored.specs.Tables.{nextAt, parentAt, sizeOf, failOf, gotoFrom, gotoBy, oneMore, walkFrom, walkBy}
 use Rattle.stored.specs.Usable.{Searchable, Falling, Walkable}
 use Rattle.stored.specs.declared.walk.Walk.{Walk}
 use Rattle.text.proofs.Laws.Tests.{cases}
-use Rattle.stored.proofs.Laws.Tables.Goto.{hash-small, goto-end}
+use Rattle.stored.proofs.Laws.Tables.Along.{along-at}
 
-module _ (a : List ℕ) (c : Searchable a) (q : ℕ) (e : Name) where
-  enough : (m n l : ℕ) → l < labelCount a → labelCount a ≤ m + l → labelCount a ≤ n + l → gotoFrom m a q e (suc l) ≡ gotoFrom n a q e (suc l)
+pub goto-end : (more : ℕ) (a : List ℕ) (q : ℕ) → gotoFrom more a q 0 ≡ 0
+unfolding gotoFrom
+goto-end zero a q = refl
+goto-end (suc more) a q = refl
+
+module _ (a : List ℕ) (c : Searchable a) (q k : ℕ) where
+  goto-at : (k ≡ 0 → ⊥) → k ≤ labelCount a → gotoFrom maxLabels a q k ≡ cond (eqb (parentAt a (k - 1)) q) (suc (suc (k - 1))) (gotoFrom maxLabels a q (nextAt a (k - 1)))
   unfolding gotoFrom
-  enough zero n l i g h = absurd (omega arith)
-  enough (suc m) zero l i g h = absurd (omega arith)
-  enough (suc m) (suc n) l i g h = ap (cond (follows a q e l) (suc (suc l))) (go (nextAt a l) refl (λ k. enough m n k))
-    where
-      go : (k : ℕ) → nextAt a l ≡ k → ((j : ℕ) → j < labelCount a → labelCount a ≤ m + j → labelCount a ≤ n + j → gotoFrom m a q e (suc j) ≡ gotoFrom n a q e (suc j)) → gotoFrom m a q e (nextAt a l) ≡ gotoFrom n a q e (nextAt a l)
-      go zero p f = rw p (goto-end m a q e ∙ sym (goto-end n a q e))
-      go (suc k) p f =
-          let b : l < k = c .later l k i p in
-          let t : suc k ≤ labelCount a = rw p at (c .next l i) in
-          rw p (f k (omega arith) (omega arith) (omega arith))
+  goto-at z h =
+      along-at a (c .lookable .few) (nextAt a) (c .next) (λ m. gotoFrom m a q) (λ l. cond (eqb (parentAt a l) q) (suc (suc l)))
+      (λ m n. goto-end m a q ∙ sym (goto-end n a q)) (λ m l. refl) k z h
 
-  -- one label of a chain
-  pub goto-turn : (l : ℕ) → l < labelCount a → gotoFrom maxLabels a q e (suc l) ≡ cond (follows a q e l) (suc (suc l)) (gotoFrom maxLabels a q e (nextAt a l))
-  unfolding gotoFrom
-  goto-turn l i = enough maxLabels (suc maxLabels) l i (omega (arith, c .few)) (omega (arith, c .few))
+  -- at place k, which is 1 more than its label: the label's state if its parent is q, else the search goes on
+  pub goto-found : (k ≡ 0 → ⊥) → k ≤ labelCount a → parentAt a (k - 1) ≡ q → gotoFrom maxLabels a q k ≡ suc k
+  goto-found z h t = goto-at z h ∙ rw (eq-eqb (parentAt a (k - 1)) q t) (omega arith)
 
-  -- at place k, which is 1 more than its label: the label's state if it follows, else the search goes on
-  pub goto-found : (k : ℕ) → (k ≡ 0 → ⊥) → k ≤ labelCount a → true ≡ follows a q e (k - 1) → suc k ≡ gotoFrom maxLabels a q e k
-  goto-found zero z h t = absurd (z refl)
-  goto-found (suc l) z h t =
-      let s : suc l - 1 ≡ l = omega arith in
-      let u : true ≡ follows a q e l = rw s at t in
-      sym (goto-turn l h ∙ rw (sym u))
+  pub goto-further : (k ≡ 0 → ⊥) → k ≤ labelCount a → (parentAt a (k - 1) ≡ q → ⊥) → gotoFrom maxLabels a q k ≡ gotoFrom maxLabels a q (nextAt a (k - 1))
+  goto-further z h t = goto-at z h ∙ rw (ne-eqb (parentAt a (k - 1)) q t)
 
-  pub goto-further : (k : ℕ) → (k ≡ 0 → ⊥) → k ≤ labelCount a → false ≡ follows a q e (k - 1) → gotoFrom maxLabels a q e k ≡ gotoFrom maxLabels a q e (nextAt a (k - 1))
-  goto-further zero z h t = absurd (z refl)
-  goto-further (suc l) z h t =
-      let s : suc l - 1 ≡ l = omega arith in
-      let u : false ≡ follows a q e l = rw s at t in
-      rw s (goto-turn l h ∙ rw (sym u))
+-- a state that is found is a label's
+goto-within : (a : List ℕ) → Searchable a → (q m k : ℕ) → k ≤ labelCount a → gotoFrom m a q k ≤ suc (labelCount a)
+unfolding gotoFrom
+goto-within a c q zero k h = omega arith
+goto-within a c q (suc m) zero h = omega arith
+goto-within a c q (suc m) (suc l) h = cases (eqb (parentAt a l) q) (λ t. rw t (omega arith)) (λ t. rw t (goto-within a c q m (nextAt a l) (c .next l h .within)))
 
-  -- a state that is found is a label's
-  goto-within : (m k : ℕ) → k ≤ labelCount a → gotoFrom m a q e k ≤ suc (labelCount a)
-  unfolding gotoFrom
-  goto-within zero k h = omega arith
-  goto-within (suc m) zero h = omega arith
-  goto-within (suc m) (suc l) h = cases (follows a q e l) (λ t. rw t (omega arith)) (λ t. rw t (goto-within m (nextAt a l) (c .next l h)))
-
-  pub goto-state : goto a q e ≤ suc (labelCount a)
-  unfolding goto
-  goto-state = goto-within maxLabels (headAt a (hash e)) (c .head (hash e) (hash-small e))
+pub goto-state : (a : List ℕ) → Searchable a → (q k : ℕ) → k ≤ labelCount a → gotoBy a q k ≤ suc (labelCount a)
+unfolding gotoBy
+goto-state a c q k h = goto-within a c q maxLabels k h
 
 -- a failure move leads to a state
 pub fail-state : (a : List ℕ) → Falling a → (q : ℕ) → q ≤ suc (labelCount a) → failOf a q ≤ suc (labelCount a)
@@ -87,74 +70,74 @@ abbrev pub stays : ℕ → Walk
 stays q = record { moves = 0; state = q }
 
 -- a walk that goes on at once, one from the empty word, and one that falls back
-from-follows : (m : ℕ) (a : List ℕ) (q : ℕ) (e : Name) → (goto a q e ≡ 0 → ⊥) → walkFrom m a q e ≡ stays (goto a q e)
+from-follows : (m : ℕ) (a : List ℕ) (q k : ℕ) → (gotoBy a q k ≡ 0 → ⊥) → walkFrom m a q k ≡ stays (gotoBy a q k)
 unfolding walkFrom
-from-follows zero a q e h = refl
-from-follows (suc m) a q e h = rw (ne-eqb (goto a q e) 0 h)
+from-follows zero a q k h = refl
+from-follows (suc m) a q k h = rw (ne-eqb (gotoBy a q k) 0 h)
 
-from-empty : (m : ℕ) (a : List ℕ) (e : Name) → walkFrom m a 0 e ≡ stays (goto a 0 e)
+from-empty : (m : ℕ) (a : List ℕ) (k : ℕ) → walkFrom m a 0 k ≡ stays (gotoBy a 0 k)
 unfolding walkFrom
-from-empty zero a e = refl
-from-empty (suc m) a e = cases (eqb (goto a 0 e) 0) (λ t. rw t) (λ t. rw t)
+from-empty zero a k = refl
+from-empty (suc m) a k = cases (eqb (gotoBy a 0 k) 0) (λ t. rw t) (λ t. rw t)
 
-from-falls : (m : ℕ) (a : List ℕ) (q : ℕ) (e : Name) → goto a q e ≡ 0 → (q ≡ 0 → ⊥) → walkFrom (suc m) a q e ≡ oneMore (walkFrom m a (failOf a q) e)
+from-falls : (m : ℕ) (a : List ℕ) (q k : ℕ) → gotoBy a q k ≡ 0 → (q ≡ 0 → ⊥) → walkFrom (suc m) a q k ≡ oneMore (walkFrom m a (failOf a q) k)
 unfolding walkFrom
-from-falls m a q e h z = rw (eq-eqb (goto a q e) 0 h, ne-eqb q 0 z)
+from-falls m a q k h z = rw (eq-eqb (gotoBy a q k) 0 h, ne-eqb q 0 z)
 
-module _ (a : List ℕ) (f : Falling a) (e : Name) where
-  walk-enough : (m n q : ℕ) → q ≤ suc (labelCount a) → sizeOf a q ≤ m → sizeOf a q ≤ n → walkFrom m a q e ≡ walkFrom n a q e
+module _ (a : List ℕ) (f : Falling a) (k : ℕ) where
+  walk-enough : (m n q : ℕ) → q ≤ suc (labelCount a) → sizeOf a q ≤ m → sizeOf a q ≤ n → walkFrom m a q k ≡ walkFrom n a q k
   walk-enough zero n q i g h = cases (eqb q 0)
-      (λ t. rw (eqb-true q 0 t) (from-empty zero a e ∙ sym (from-empty n a e)))
+      (λ t. rw (eqb-true q 0 t) (from-empty zero a k ∙ sym (from-empty n a k)))
       (λ t. absurd (omega (arith, fail-shorter a f q i (eqb-false q 0 t))))
   walk-enough (suc m) zero q i g h = cases (eqb q 0)
-      (λ t. rw (eqb-true q 0 t) (from-empty (suc m) a e ∙ sym (from-empty zero a e)))
+      (λ t. rw (eqb-true q 0 t) (from-empty (suc m) a k ∙ sym (from-empty zero a k)))
       (λ t. absurd (omega (arith, fail-shorter a f q i (eqb-false q 0 t))))
-  walk-enough (suc m) (suc n) q i g h = cases (eqb (goto a q e) 0)
+  walk-enough (suc m) (suc n) q i g h = cases (eqb (gotoBy a q k) 0)
       (λ t. cases (eqb q 0)
-      (λ u. rw (eqb-true q 0 u) (from-empty (suc m) a e ∙ sym (from-empty (suc n) a e)))
+      (λ u. rw (eqb-true q 0 u) (from-empty (suc m) a k ∙ sym (from-empty (suc n) a k)))
       (λ u.
       let z = eqb-false q 0 u in
-      let g0 = eqb-true (goto a q e) 0 t in
-      from-falls m a q e g0 z
+      let g0 = eqb-true (gotoBy a q k) 0 t in
+      from-falls m a q k g0 z
       ∙ (ap oneMore (walk-enough m n (failOf a q) (fail-state a f q i) (omega (arith, fail-shorter a f q i z)) (omega (arith, fail-shorter a f q i z)))
-      ∙ sym (from-falls n a q e g0 z))))
-      (λ t. from-follows (suc m) a q e (eqb-false (goto a q e) 0 t) ∙ sym (from-follows (suc n) a q e (eqb-false (goto a q e) 0 t)))
+      ∙ sym (from-falls n a q k g0 z))))
+      (λ t. from-follows (suc m) a q k (eqb-false (gotoBy a q k) 0 t) ∙ sym (from-follows (suc n) a q k (eqb-false (gotoBy a q k) 0 t)))
 
 -- the walk, move by move
-pub over-follows : (a : List ℕ) (q : ℕ) (e : Name) → (goto a q e ≡ 0 → ⊥) → walkOver a q e ≡ stays (goto a q e)
-unfolding walkOver
-over-follows a q e h = from-follows (sizeOf a q) a q e h
+pub over-follows : (a : List ℕ) (q k : ℕ) → (gotoBy a q k ≡ 0 → ⊥) → walkBy a q k ≡ stays (gotoBy a q k)
+unfolding walkBy
+over-follows a q k h = from-follows (sizeOf a q) a q k h
 
-pub over-empty : (a : List ℕ) (e : Name) → walkOver a 0 e ≡ stays (goto a 0 e)
-unfolding walkOver
-over-empty a e = from-empty (sizeOf a 0) a e
+pub over-empty : (a : List ℕ) (k : ℕ) → walkBy a 0 k ≡ stays (gotoBy a 0 k)
+unfolding walkBy
+over-empty a k = from-empty (sizeOf a 0) a k
 
-pub over-falls : (a : List ℕ) → Falling a → (q : ℕ) (e : Name) → q ≤ suc (labelCount a) → goto a q e ≡ 0 → (q ≡ 0 → ⊥) → walkOver a q e ≡ oneMore (walkOver a (failOf a q) e)
-unfolding walkOver
-over-falls a f q e i h z = go (sizeOf a q) refl
+pub over-falls : (a : List ℕ) → Falling a → (q k : ℕ) → q ≤ suc (labelCount a) → gotoBy a q k ≡ 0 → (q ≡ 0 → ⊥) → walkBy a q k ≡ oneMore (walkBy a (failOf a q) k)
+unfolding walkBy
+over-falls a f q k i h z = go (sizeOf a q) refl
   where
-    go : (m : ℕ) → sizeOf a q ≡ m → walkFrom m a q e ≡ oneMore (walkFrom (sizeOf a (failOf a q)) a (failOf a q) e)
+    go : (m : ℕ) → sizeOf a q ≡ m → walkFrom m a q k ≡ oneMore (walkFrom (sizeOf a (failOf a q)) a (failOf a q) k)
     go zero p = absurd (omega (arith, fail-shorter a f q i z))
-    go (suc m) p = from-falls m a q e h z ∙ ap oneMore (walk-enough a f e m (sizeOf a (failOf a q)) (failOf a q) (fail-state a f q i) (omega (arith, fail-shorter a f q i z)) (omega arith))
+    go (suc m) p = from-falls m a q k h z ∙ ap oneMore (walk-enough a f k m (sizeOf a (failOf a q)) (failOf a q) (fail-state a f q i) (omega (arith, fail-shorter a f q i z)) (omega arith))
 
 -- a walk arrives at a state, by no more moves than the length of the word that it starts from
 record Bounded (a : List ℕ) (more : ℕ) (w : Walk) : Type 0 where
   arrived : w .state ≤ suc (labelCount a)
   moved : w .moves ≤ more
 
-from-bounded : (a : List ℕ) → Walkable a → (e : Name) (m q : ℕ) → q ≤ suc (labelCount a) → Bounded a m (walkFrom m a q e)
+from-bounded : (a : List ℕ) → Walkable a → (k : ℕ) → k ≤ labelCount a → (m q : ℕ) → q ≤ suc (labelCount a) → Bounded a m (walkFrom m a q k)
 unfolding walkFrom
-from-bounded a w e zero q i = record { arrived = goto-state a (w .searchable) q e; moved = omega arith }
-from-bounded a w e (suc m) q i = cases (eqb (goto a q e) 0 && not (eqb q 0))
+from-bounded a w k h zero q i = record { arrived = goto-state a (w .searchable) q k h; moved = omega arith }
+from-bounded a w k h (suc m) q i = cases (eqb (gotoBy a q k) 0 && not (eqb q 0))
     (λ t.
-    let b = from-bounded a w e m (failOf a q) (fail-state a (w .falling) q i) in
+    let b = from-bounded a w k h m (failOf a q) (fail-state a (w .falling) q i) in
     rw t (record { arrived = b .arrived; moved = omega arith }))
-    (λ t. rw t (record { arrived = goto-state a (w .searchable) q e; moved = omega arith }))
+    (λ t. rw t (record { arrived = goto-state a (w .searchable) q k h; moved = omega arith }))
 
-pub over-state : (a : List ℕ) → Walkable a → (q : ℕ) (e : Name) → q ≤ suc (labelCount a) → walkOver a q e .state ≤ suc (labelCount a)
-unfolding walkOver
-over-state a w q e i = from-bounded a w e (sizeOf a q) q i .arrived
+pub over-state : (a : List ℕ) → Walkable a → (q k : ℕ) → q ≤ suc (labelCount a) → k ≤ labelCount a → walkBy a q k .state ≤ suc (labelCount a)
+unfolding walkBy
+over-state a w q k i h = from-bounded a w k h (sizeOf a q) q i .arrived
 
-pub over-moves : (a : List ℕ) → Walkable a → (q : ℕ) (e : Name) → q ≤ suc (labelCount a) → walkOver a q e .moves ≤ sizeOf a q
-unfolding walkOver
-over-moves a w q e i = from-bounded a w e (sizeOf a q) q i .moved
+pub over-moves : (a : List ℕ) → Walkable a → (q k : ℕ) → q ≤ suc (labelCount a) → k ≤ labelCount a → walkBy a q k .moves ≤ sizeOf a q
+unfolding walkBy
+over-moves a w q k i h = from-bounded a w k h (sizeOf a q) q i .moved

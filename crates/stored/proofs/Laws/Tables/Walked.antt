@@ -14,7 +14,7 @@ use Rattle.model.specs.Words.{Word, begins}
 use Rattle.model.specs.Prefix.{IsPrefix, longestEnd, failure}
 use Rattle.model.specs.Walk.{followedBy, Walked, walked, counted, stuck, arrive, walkIn, walk}
 use Rattle.stored.specs.Automaton.{allLabels, allWords, stateAmong, stateOf}
-use Rattle.stored.specs.Tables.{failAt, sizeOf, failOf, goto, oneMore, walkFrom, walkOver}
+use Rattle.stored.specs.Tables.{failAt, sizeOf, failOf, firstOf, goto, oneMore, walkFrom, walkBy, walkOver}
 use Rattle.stored.specs.Compiled.{storedWalk}
 use Rattle.stored.specs.declared.walk.Walk.{Walk}
 use Rattle.text.proofs.Laws.Tests.{cases}
@@ -81,7 +81,7 @@ module _ (s : FolderSet) (a : List ℕ) (k : Linked s a) (e : Name) where
       no′ h = rw (h, state-none s (t ∷ w) e h)
 
   -- so the walks agree, whatever bounds them
-  pub walk-from : (n : ℕ) (w : Word) → IsPrefix s w → FailsTo s a (length w) → walkFrom n a (stateOf s w) e ≡ storedWalk s (walkIn n s w e)
+  pub walk-from : (n : ℕ) (w : Word) → IsPrefix s w → FailsTo s a (length w) → walkFrom n a (stateOf s w) (firstOf a e) ≡ storedWalk s (walkIn n s w e)
   unfolding walkFrom walkIn
   walk-from zero w p fails = arrives w p
   walk-from (suc n) [] p fails = rw (stuck-same [] p) (arrives [] p)
@@ -89,16 +89,16 @@ module _ (s : FolderSet) (a : List ℕ) (k : Linked s a) (e : Name) where
       rw (stuck-same (t ∷ w) p, fail-word s a (t ∷ w) p fails)
       (cases (stuck s (t ∷ w) e) (falls (walk-from n (failure s (t ∷ w)) (failure-is s t w .starts) (λ l h b. fails l h (omega (arith, failure-shorter s t w))))) stays)
     where
-      falls : walkFrom n a (stateOf s (failure s (t ∷ w))) e ≡ storedWalk s (walkIn n s (failure s (t ∷ w)) e) → stuck s (t ∷ w) e ≡ true
-          → cond (stuck s (t ∷ w) e) (oneMore (walkFrom n a (stateOf s (failure s (t ∷ w))) e)) (record { moves = 0; state = goto a (stateOf s (t ∷ w)) e })
+      falls : walkFrom n a (stateOf s (failure s (t ∷ w))) (firstOf a e) ≡ storedWalk s (walkIn n s (failure s (t ∷ w)) e) → stuck s (t ∷ w) e ≡ true
+          → cond (stuck s (t ∷ w) e) (oneMore (walkFrom n a (stateOf s (failure s (t ∷ w))) (firstOf a e))) (record { moves = 0; state = goto a (stateOf s (t ∷ w)) e })
           ≡ storedWalk s (cond (stuck s (t ∷ w) e) (counted (walkIn n s (failure s (t ∷ w)) e)) (arrive s (t ∷ w) e))
       falls ih h = rw (h, ih) (stored-more s (walkIn n s (failure s (t ∷ w)) e))
 
       stays : stuck s (t ∷ w) e ≡ false
-          → cond (stuck s (t ∷ w) e) (oneMore (walkFrom n a (stateOf s (failure s (t ∷ w))) e)) (record { moves = 0; state = goto a (stateOf s (t ∷ w)) e })
+          → cond (stuck s (t ∷ w) e) (oneMore (walkFrom n a (stateOf s (failure s (t ∷ w))) (firstOf a e))) (record { moves = 0; state = goto a (stateOf s (t ∷ w)) e })
           ≡ storedWalk s (cond (stuck s (t ∷ w) e) (counted (walkIn n s (failure s (t ∷ w)) e)) (arrive s (t ∷ w) e))
       stays h = rw h (arrives (t ∷ w) p)
 
   pub walk-over : (w : Word) → IsPrefix s w → FailsTo s a (length w) → sizeOf a (stateOf s w) ≡ length w → walkOver a (stateOf s w) e ≡ storedWalk s (walk s w e)
-  unfolding walkOver walk
+  unfolding walkBy walk
   walk-over w p fails size = rw size (walk-from (length w) w p fails)

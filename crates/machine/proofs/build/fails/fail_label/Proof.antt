@@ -20,22 +20,22 @@ done a l n v e f g = rw (eq-eqb (sizeAt a l) n e, ← f) g
 
 link-field-requires : tie.Need-link-field-requires
 unfolding maxLabels
-link-field-requires c κs = (omega (arith, c .before .before .pre .1, c .before .before .pre .0 .walkable .searchable .few), omega arith)
+link-field-requires c κs = (omega (arith, c .before .before .pre .1, c .before .before .pre .0 .walkable .searchable .lookable .few), omega arith)
 
 fail-to-requires : tie.Need-fail-to-requires
 fail-to-requires c κs = search needs
 
 mul-put16 : tie.Need-mul-put16
 unfolding maxLabels
-mul-put16 c = omega (arith, c .before .before .before .before .before .before .before .pre .1, c .before .before .before .before .before .before .before .pre .0 .walkable .searchable .few)
+mul-put16 c = omega (arith, c .before .before .before .before .before .before .before .pre .1, c .before .before .before .before .before .before .before .pre .0 .walkable .searchable .lookable .few)
 
 add-put16 : tie.Need-add-put16
 unfolding maxLabels
-add-put16 c = omega (arith, c .before .before .before .before .before .before .before .pre .1, c .before .before .before .before .before .before .before .pre .0 .walkable .searchable .few)
+add-put16 c = omega (arith, c .before .before .before .before .before .before .before .pre .1, c .before .before .before .before .before .before .before .pre .0 .walkable .searchable .lookable .few)
 
 add-put16-2 : tie.Need-add-put16-2
 unfolding maxLabels
-add-put16-2 c = omega (arith, c .before .before .before .before .before .before .before .pre .1, c .before .before .before .before .before .before .before .pre .0 .walkable .searchable .few)
+add-put16-2 c = omega (arith, c .before .before .before .before .before .before .before .pre .1, c .before .before .before .before .before .before .before .pre .0 .walkable .searchable .lookable .few)
 
 put16-requires : tie.Need-put16-requires
 put16-requires c κs = search needs

@@ -1,4 +1,3 @@
-use mathlib.Core.Path.{sym}
 use borrow.Author.Needs.{needs}
 use Rattle.machine.proofs.build.parents.follow.Statement.{statement}
 use Rattle.machine.proofs.build.parents.follow.Tie as tie
@@ -9,11 +8,14 @@ label-name-requires c κs = search needs
 hash-of-requires : tie.Need-hash-of-requires
 hash-of-requires c κs = search needs
 
+first-label-requires : tie.Need-first-label-requires
+first-label-requires c κs = search needs
+
 goto-state-requires : tie.Need-goto-state-requires
 goto-state-requires c κs = search needs
 
 returns : tie.Need-returns
-returns c = rw (sym (c .before .before .label-name .ensures)) (c .goto-state .ensures)
+returns c = rw (← c .before .before .before .label-name .ensures, ← c .before .first-label .ensures .0) (c .goto-state .ensures)
 
 pub follow-spec : {M : Type 1} → statement M
-follow-spec = tie.close (tie.spec label-name-requires hash-of-requires goto-state-requires returns)
+follow-spec = tie.close (tie.spec label-name-requires hash-of-requires first-label-requires goto-state-requires returns)

@@ -26,7 +26,7 @@ roomy at a b r h e f = rw (lt-ltb (at .labels) maxLabels h, ← e, f)
 
 small : (a : List ℕ) (r : ℕ) → Searchable a → r ≤ suc (labelCount a) → r < 65536
 unfolding maxLabels
-small a r s h = omega (arith, s .few)
+small a r s h = omega (arith, s .lookable .few)
 
 returns : tie.Need-returns
 unfolding maxLabels

@@ -1,12 +1,16 @@
 use native.Mathlib.Omega.{arith}
-use mathlib.Core.Path.{sym, _∙_}
-use Prim.Native.Nat.{_≤_}
-use lib.ListN.{take}
+use mathlib.Core.Path.{_≡_, sym, _∙_}
+use mathlib.Core.Bool.{_||_}
+use Prim.Native.Nat.{ℕ, _≤_}
+use lib.ListN.{take, replicate}
 use lib.Seq.{length-take-le}
 use Rattle.model.specs.Limits.{maxDepth}
 use Rattle.stored.specs.Automaton.{maskSize}
+use Rattle.stored.specs.Bits.{bitAt}
+use Rattle.stored.specs.Marked.{marked}
 use Rattle.stored.specs.Run.{matchesAt}
 use Rattle.stored.specs.RunCalls.{usedBytes}
+use Rattle.stored.proofs.Laws.Tables.LookTurns.{first-within}
 use Rattle.stored.proofs.Laws.Running.RunBytes.{used-room}
 use Rattle.stored.proofs.Laws.Running.Flagged.{active-bits, seen-bits, match-bits, opened}
 use borrow.Author.Needs.{needs}
@@ -21,8 +25,8 @@ slice-aggregate-flag-labels c = search needs
 
 flag-labels-requires : tie.Need-flag-labels-requires
 unfolding maskSize
-flag-labels-requires c κs = let p = c .before .before .before .before .before .pre in
-    (omega arith, (p .0 .0, p .1 .0))
+flag-labels-requires c κs = let b = c .before .before .before .before .before in
+    (omega arith, (b .pre .0 .0, rw (b .pre .1 .0) (first-within (b .args .a .now) (b .pre .0 .0 .walkable .searchable) (b .args .e .now))))
 
 slice-aggregate-flag-bits : tie.Need-slice-aggregate-flag-bits
 slice-aggregate-flag-bits c = search needs
@@ -88,13 +92,14 @@ returns c = let b = c .before .before .before .before .before .before .before .b
     let u = c .before .before .before .before .before .before .before .before .before .before .before .before .before .before .before .before .before .before .before .before .before .before .before .before .before .before .before .used-bytes in
     let t = c .before .before .before .before .before .before .before .before .before .before .before .before .before .before .before .before .before .before .before .before .before .before .before .before .before .flag-labels in
     let m = c .before .before .before .before .before .before .before .before .before .before .before .before .before .before .before .before .before .before .flag-bits in
+    let flags : (j : ℕ) → bitAt (t .last .0) j ≡ (bitAt (replicate maskSize 0) j || marked A E j) = λ j. rw (b .pre .1 .0) at (t .ensures j) in
     let room : usedBytes A ≤ maskSize = used-room A (b .pre .0 .0 .steps) in
     c .before .before .put16 .ensures
     ∙ rw (c .before .before .before .before .before .before .copy .ensures, c .before .before .before .before .before .before .before .before .before .before .before .store .ensures)
     (opened A R E (m .last .1 .1 .1 .1 .1 .0) (m .last .1 .1 .1 .1 .1 .1 .0) (take (u .result) (m .last .1 .1 .1 .1 .1 .1 .1 .0)) (b .args .d) (b .args .state) (b .pre .1 .1 .0) (b .pre .1 .1 .1)
-    (active-bits A R E (t .last .0) (b .args .d) (u .result) (t .ensures) (u .ensures) room (b .pre .1 .1 .0) (m .last .1 .1 .1 .1 .1 .0) (m .ensures .0))
-    (seen-bits A R E (t .last .0) (b .args .d) (u .result) (t .ensures) (u .ensures) room (b .pre .1 .1 .0) (m .last .1 .1 .1 .1 .1 .1 .0) (m .ensures .1 .0))
-    (match-bits A R E (t .last .0) (b .args .d) (u .result) (t .ensures) (u .ensures) room (b .pre .1 .1 .0) (m .last .1 .1 .1 .1 .1 .1 .1 .0) (m .ensures .1 .1)))
+    (active-bits A R E (t .last .0) (b .args .d) (u .result) flags (u .ensures) room (b .pre .1 .1 .0) (m .last .1 .1 .1 .1 .1 .0) (m .ensures .0))
+    (seen-bits A R E (t .last .0) (b .args .d) (u .result) flags (u .ensures) room (b .pre .1 .1 .0) (m .last .1 .1 .1 .1 .1 .1 .0) (m .ensures .1 .0))
+    (match-bits A R E (t .last .0) (b .args .d) (u .result) flags (u .ensures) room (b .pre .1 .1 .0) (m .last .1 .1 .1 .1 .1 .1 .1 .0) (m .ensures .1 .1)))
 
 pub write-spec : {M : Type 1} → statement M
 write-spec =
