@@ -69,18 +69,36 @@ pub fn class_of(b: u8) -> u8
     }
 }
 
-// A letter or `_`.
+// A letter or `_`. By comparisons, small letters first: most bytes of names are those, and the table would be laid out for each name.
 pub fn begins_name(b: u8) -> bool
     ensures { λ r. ⌜ r ≡ beginsName b ⌝ }
 {
-    class_of(b) <= START
+    if 97 <= b {
+        return b <= 122;
+    }
+    if b == 95 {
+        return true;
+    }
+    if b <= 64 {
+        return false;
+    }
+    b <= 90
 }
 
 // A letter, a digit, `_`, `-` or `.`.
 pub fn in_name(b: u8) -> bool
     ensures { λ r. ⌜ r ≡ inName b ⌝ }
 {
-    class_of(b) <= DOT
+    if 97 <= b {
+        return b <= 122;
+    }
+    if 58 <= b {
+        return begins_name(b);
+    }
+    if b == 47 {
+        return false;
+    }
+    45 <= b
 }
 
 // Name form, length aside.
@@ -96,19 +114,13 @@ pub fn name_form(s: &[u8]) -> bool
     name_end(s, 1) == s.len()
 }
 
-// Where the name bytes that begin at an offset end. The table is taken once for the scan.
+// Where the name bytes that begin at an offset end.
 pub fn name_end(s: &[u8], at: usize) -> usize
     ensures { λ r. ⌜ r ≡ at + length (front inName (drop at (now (s .entry)))) ⌝ }
 {
-    let classes = CLASSES;
     let mut i = at;
     while i < s.len() {
-        let b = s[i];
-        if 128 <= b {
-            return i;
-        }
-        let k = b as usize;
-        if DOT < classes[k] {
+        if !in_name(s[i]) {
             return i;
         }
         i += 1;
