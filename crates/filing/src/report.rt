@@ -7,9 +7,6 @@ use machine::run::start::start_by;
 use machine::run::start::start_on;
 use reports::tokens::Found;
 use reports::tokens::all_listed;
-use reports::tokens::end_of;
-use reports::tokens::is_declaration;
-use reports::tokens::name_span;
 use reports::tokens::token_at;
 use stored::answers::Opened;
 use stored::counters::Counters;
@@ -21,21 +18,19 @@ ghost use mathlib.Core.Path.{_≡_};
 ghost use mathlib.Core.Bool.{true};
 ghost use Rattle.text.specs.Names.{nameForm};
 ghost use mathlib.Core.List.{[]};
-ghost use Prim.Native.Nat.{_≤_, _<_};
-ghost use lib.ListN.{length, drop};
+ghost use Prim.Native.Nat.{_≤_};
+ghost use lib.ListN.{length};
 ghost use Rattle.text.specs.Answers.{numberSaid};
 ghost use Rattle.stored.specs.Answers.{openedSays};
 ghost use Rattle.stored.specs.Run.{runSize};
 ghost use Rattle.stored.specs.RunCalls.{startRun, noCounters};
 ghost use Rattle.stored.specs.Usable.{Usable};
 ghost use Rattle.stored.specs.Demand3.{Left, started};
-ghost use Rattle.documents.specs.Reading.{readToken, readReport};
-ghost use Rattle.reports.specs.Seen.{foundOf};
-ghost use Rattle.reports.specs.Code.Seen.{tagName};
+ghost use Rattle.documents.specs.Reading.{readReport};
 ghost use Rattle.filing.specs.Filing.{Outcome, filed, andThen};
 ghost use Rattle.filing.specs.ReportRefusals.{storedMachine, Files};
 ghost use Rattle.filing.specs.Code.Filing.{fileReport};
-ghost use Rattle.filing.specs.Code.Taking.{Named, Answered, Taking, Leaves, fileOpen, fileClose, fileText, fileFound, fileLast, noTokenAt, runFrom};
+ghost use Rattle.filing.specs.Code.Taking.{Answered, Taking, Stepping, Leaves, fileOpen, fileClose, TextTaken, DeclarationTaken, fileLast, runFrom};
 
 // What calls answer: the refusal, 0 for none, and the counters after them.
 pub struct Taken {
@@ -102,96 +97,123 @@ fn take_empty(a: &[u8], run: &mut [u8], c: Counters, e: &[u8]) -> Taken
     take_close(a, run, counters, e)
 }
 
-// Text outside the root is blank.
-fn take_text(run: &[u8], c: Counters, all: bool) -> Taken
-    ensures { λ r. ⌜ Answered (fileText (record { bytes = now (run .entry); counters = c }) all) (r .refusal) (now (run .entry)) (r .counters) ⌝ }
+// Text outside the root is blank. Nothing is refused any more once a token was.
+fn take_text(run: &[u8], refusal: u8, all: bool) -> u8
+    ensures { λ r. ⌜ TextTaken (now (run .entry)) refusal all r ⌝ }
 {
+    if refusal != 0 {
+        return refusal;
+    }
     if all {
+        return 0;
+    }
+    if depth(run) == 0 {
+        return NOT_ONE_ROOT;
+    }
+    0
+}
+
+// A declaration stands at offset 0 only.
+fn take_declaration(refusal: u8, at: usize) -> u8
+    ensures { λ r. ⌜ DeclarationTaken refusal at r ⌝ }
+{
+    if at == 0 {
+        return refusal;
+    }
+    SYNTAX_ERROR
+}
+
+// A start tag. Nothing more is taken once a token was refused.
+fn open_next(a: &[u8], run: &mut [u8], refusal: u8, c: Counters, e: &[u8]) -> Taken
+    requires { ⌜ (refusal ≡ 0 → Usable (now a) (now run) c) × (nameForm (now e) ≡ true) ⌝ }
+    ensures { λ r. ⌜ ((o : Outcome Left) → Answered o refusal (now (run .entry)) c → Taking (now (a .entry)) (now (run .entry)) (andThen o (λ t. fileOpen (now (a .entry)) t (now (e .entry)))) (r .refusal) (now (run .exit)) (r .counters)) ⌝ }
+{
+    if refusal != 0 {
         return Taken {
-            refusal: 0,
+            refusal,
             counters: c,
         };
     }
-    if depth(run) == 0 {
-        return with_none(NOT_ONE_ROOT);
-    }
-    Taken {
-        refusal: 0,
-        counters: c,
-    }
+    take_open(a, run, c, e)
 }
 
-// One token, by what it is; e is its tag's name.
-fn take_token(a: &[u8], run: &mut [u8], c: Counters, f: Found, e: &[u8]) -> Taken
-    requires { ⌜ (Usable (now a) (now run) c) × (Named f (now e)) ⌝ }
-    ensures { λ r. ⌜ Taking (now (a .entry)) (now (run .entry)) (fileFound (now (a .entry)) (record { bytes = now (run .entry); counters = c }) f (now (e .entry))) (r .refusal) (now (run .exit)) (r .counters) ⌝ }
+fn close_next(a: &[u8], run: &mut [u8], refusal: u8, c: Counters, e: &[u8]) -> Taken
+    requires { ⌜ (refusal ≡ 0 → Usable (now a) (now run) c) × (nameForm (now e) ≡ true) ⌝ }
+    ensures { λ r. ⌜ ((o : Outcome Left) → Answered o refusal (now (run .entry)) c → Taking (now (a .entry)) (now (run .entry)) (andThen o (λ t. fileClose (now (a .entry)) t (now (e .entry)))) (r .refusal) (now (run .exit)) (r .counters)) ⌝ }
 {
-    match f {
-        Found::Start {
-            from: _,
-            to: _,
-            end: _,
-        } => take_open(a, run, c, e),
-        Found::Empty {
-            from: _,
-            to: _,
-            end: _,
-        } => take_empty(a, run, c, e),
-        Found::End {
-            from: _,
-            to: _,
-            end: _,
-        } => take_close(a, run, c, e),
-        Found::Text { end: _, blank: all } => take_text(run, c, all),
-        Found::Nothing => Taken {
-            refusal: 0,
+    if refusal != 0 {
+        return Taken {
+            refusal,
             counters: c,
-        },
-        Found::Declaration(_) => Taken {
-            refusal: 0,
+        };
+    }
+    take_close(a, run, c, e)
+}
+
+fn empty_next(a: &[u8], run: &mut [u8], refusal: u8, c: Counters, e: &[u8]) -> Taken
+    requires { ⌜ (refusal ≡ 0 → Usable (now a) (now run) c) × (nameForm (now e) ≡ true) ⌝ }
+    ensures { λ r. ⌜ ((o : Outcome Left) → Answered o refusal (now (run .entry)) c → Taking (now (a .entry)) (now (run .entry)) (andThen o (λ t. andThen (fileOpen (now (a .entry)) t (now (e .entry))) (λ u. fileClose (now (a .entry)) u (now (e .entry))))) (r .refusal) (now (run .exit)) (r .counters)) ⌝ }
+{
+    if refusal != 0 {
+        return Taken {
+            refusal,
             counters: c,
-        },
-        Found::Comment(_) => Taken {
-            refusal: 0,
+        };
+    }
+    take_empty(a, run, c, e)
+}
+
+// What calls answer, and where the next token begins.
+struct Step {
+    refusal: u8,
+    counters: Counters,
+    next: usize,
+}
+
+fn step_to(taken: Taken, next: usize) -> Step
+    ensures { λ r. ⌜ (r .refusal ≡ taken .refusal) × ((r .counters ≡ taken .counters) × (r .next ≡ next)) ⌝ }
+{
+    let counters = taken.counters;
+    Step {
+        refusal: taken.refusal,
+        counters,
+        next,
+    }
+}
+
+// The token at an offset, by what it is, matched once. Where there is none, nothing is left to read.
+fn take_at(a: &[u8], run: &mut [u8], refusal: u8, c: Counters, s: &[u8], at: usize) -> Step
+    requires { ⌜ (refusal ≡ 0 → Usable (now a) (now run) c) ⌝ }
+    ensures { λ r. ⌜ Stepping (now (a .entry)) (now (run .entry)) refusal c (now (s .entry)) at (r .refusal) (now (run .exit)) (r .counters) (r .next) ⌝ }
+{
+    match token_at(s, at) {
+        Found::Text { end, blank: all } => Step {
+            refusal: take_text(run, refusal, all),
             counters: c,
+            next: end,
+        },
+        Found::Start { from, to, end } => step_to(open_next(a, run, refusal, c, &s[from..to]), end),
+        Found::End { from, to, end } => step_to(close_next(a, run, refusal, c, &s[from..to]), end),
+        Found::Empty { from, to, end } => step_to(
+            empty_next(a, run, refusal, c, &s[from..to]),
+            end,
+        ),
+        Found::Comment(end) => Step {
+            refusal,
+            counters: c,
+            next: end,
+        },
+        Found::Declaration(end) => Step {
+            refusal: take_declaration(refusal, at),
+            counters: c,
+            next: end,
+        },
+        Found::Nothing => Step {
+            refusal: SYNTAX_ERROR,
+            counters: c,
+            next: s.len(),
         },
     }
-}
-
-// Nothing more is taken once a token was refused.
-fn take_next(a: &[u8], run: &mut [u8], before: Taken, f: Found, e: &[u8]) -> Taken
-    requires { ⌜ (before .refusal ≡ 0 → Usable (now a) (now run) (before .counters)) × (Named f (now e)) ⌝ }
-    ensures { λ r. ⌜ ((o : Outcome Left) → Answered o (before .refusal) (now (run .entry)) (before .counters) → Taking (now (a .entry)) (now (run .entry)) (andThen o (λ t. fileFound (now (a .entry)) t f (now (e .entry)))) (r .refusal) (now (run .exit)) (r .counters)) ⌝ }
-{
-    if before.refusal != 0 {
-        return before;
-    }
-    let counters = before.counters;
-    take_token(a, run, counters, f, e)
-}
-
-// The same of the token at an offset, which has its name there.
-fn take_at(a: &[u8], run: &mut [u8], before: Taken, s: &[u8], at: usize, f: Found) -> Taken
-    requires { ⌜ (f ≡ foundOf (length (now s)) at (readToken (drop at (now s)))) × (before .refusal ≡ 0 → Usable (now a) (now run) (before .counters)) ⌝ }
-    ensures { λ r. ⌜ ((o : Outcome Left) → Answered o (before .refusal) (now (run .entry)) (before .counters) → Taking (now (a .entry)) (now (run .entry)) (andThen o (λ t. fileFound (now (a .entry)) t f (tagName (readToken (drop at (now (s .entry))))))) (r .refusal) (now (run .exit)) (r .counters)) ⌝ }
-{
-    let p = name_span(f);
-    let from = p.from;
-    let to = p.to;
-    take_next(a, run, before, f, &s[from..to])
-}
-
-// No token, or a declaration past offset 0.
-fn no_token_at(f: Found, at: usize) -> bool
-    ensures { λ r. ⌜ r ≡ noTokenAt f at ⌝ }
-{
-    if end_of(f) <= at {
-        return true;
-    }
-    if at == 0 {
-        return false;
-    }
-    is_declaration(f)
 }
 
 // The tokens in order from a fresh run: the first refusal of a token is kept, and the rest is only read, for 9.
@@ -199,17 +221,16 @@ fn take_tokens(a: &[u8], run: &mut [u8], s: &[u8]) -> Taken
     requires { ⌜ Usable (now a) (now run) noCounters ⌝ }
     ensures { λ r. ⌜ Taking (now (a .entry)) (now (run .entry)) (runFrom (now (a .entry)) (filed (record { bytes = now (run .entry); counters = noCounters })) (readReport (now (s .entry)))) (r .refusal) (now (run .exit)) (r .counters) ⌝ }
 {
-    let mut taken = with_none(0);
+    let mut refusal = 0;
+    let mut counters = Counters::none();
     let mut i = 0;
     while i < s.len() {
-        let f = token_at(s, i);
-        if no_token_at(f, i) {
-            return with_none(SYNTAX_ERROR);
-        }
-        taken = take_at(a, run, taken, s, i, f);
-        i = end_of(f);
+        let step = take_at(a, run, refusal, counters, s, i);
+        refusal = step.refusal;
+        counters = step.counters;
+        i = step.next;
     }
-    taken
+    Taken { refusal, counters }
 }
 
 // The report's end: there was a root, and nothing is open.

@@ -1,10 +1,11 @@
 -- What the calls of a report's tokens answer, by what the code says of each token (follows the code; laws tie it to the tokens' events).
 use Prim.Native.Nat.{ℕ}
 use mathlib.Core.Path.{_≡_}
-use mathlib.Core.Bool.{Bool, true, not, _&&_, _||_}
+use mathlib.Core.Bool.{Bool, not, _&&_, cond}
 use mathlib.Core.List.{List, [], _∷_}
-use lib.Dec.{eqb, leb}
-use Rattle.text.specs.Names.{Name, nameForm}
+use lib.Dec.{eqb}
+use lib.ListN.{length, drop}
+use Rattle.text.specs.Names.{Name}
 use Rattle.text.specs.Refusals.{syntaxError, notOneRoot, numberOf}
 use Rattle.text.specs.Order.{gives, first}
 use Rattle.stored.specs.RunCalls.{depthOf, startRun}
@@ -15,7 +16,9 @@ use Rattle.reports.specs.declared.tokens.Found.the-variants.{Nothing, Declarati
 use Rattle.documents.specs.Tokens.{Token}
 use Rattle.text.specs.Read.{Read, fail, got}
 use Rattle.documents.specs.Document.{opening, closing, eventsOf}
-use Rattle.reports.specs.Seen.{foundEnd, declares}
+use Rattle.documents.specs.Reading.{readToken}
+use Rattle.reports.specs.Seen.{foundOf}
+use Rattle.reports.specs.Code.Seen.{tagName}
 use Rattle.filing.specs.Filing.{Outcome, refused, filed, numberGiven, andThen, unless, fileEvent, fileEvents, fileEnd}
 use Rattle.filing.specs.ReportRefusals.{storedMachine}
 
@@ -49,33 +52,42 @@ fileClose a t e = fileEvent (storedMachine a) t (closing e)
 abbrev pub fileText : Left → Bool → Outcome Left
 fileText t all = unless (first (gives (eqb (depthOf (t .bytes)) 0 && not all) notOneRoot ∷ [])) t
 
--- the calls of one token, with its tag's name
--- a tag's name has name form
-abbrev pub Named : Found → Name → Type 0
-Named Nothing e = Unit {0}
-Named (Declaration end) e = Unit {0}
-Named (Comment end) e = Unit {0}
-Named (Start from to end) e = nameForm e ≡ true
-Named (Empty from to end) e = nameForm e ≡ true
-Named (End from to end) e = nameForm e ≡ true
-Named (Text end all) e = Unit {0}
+-- what was answered before a text, or a declaration at an offset, becomes this
+abbrev pub TextTaken : List ℕ → ℕ → Bool → ℕ → Type 0
+TextTaken run n all n' = (o : Outcome Left) (c : Counters) → Answered o n run c → Answered (andThen o (λ t. fileText t all)) n' run c
 
-abbrev pub fileFound : List ℕ → Left → Found → Name → Outcome Left
-fileFound a t Nothing e = filed t
-fileFound a t (Declaration end) e = filed t
-fileFound a t (Comment end) e = filed t
-fileFound a t (Start from to end) e = fileOpen a t e
-fileFound a t (Empty from to end) e = andThen (fileOpen a t e) (λ t₂. fileClose a t₂ e)
-fileFound a t (End from to end) e = fileClose a t e
-fileFound a t (Text end all) e = fileText t all
+abbrev pub DeclarationTaken : ℕ → ℕ → ℕ → Type 0
+DeclarationTaken n at n' = (o : Outcome Left) (run : List ℕ) (c : Counters) → Answered o n run c → Answered (cond (eqb at 0) o (refused syntaxError)) n' run c
+
+-- what the token at an offset makes of an outcome, with its tag's name: 9 where there is none, and of a declaration past offset 0
+abbrev pub stepFound : List ℕ → ℕ → Outcome Left → Found → Name → Outcome Left
+stepFound a at o Nothing e = refused syntaxError
+stepFound a at o (Declaration end) e = cond (eqb at 0) o (refused syntaxError)
+stepFound a at o (Comment end) e = o
+stepFound a at o (Start from to end) e = andThen o (λ t. fileOpen a t e)
+stepFound a at o (Empty from to end) e = andThen o (λ t. andThen (fileOpen a t e) (λ t₂. fileClose a t₂ e))
+stepFound a at o (End from to end) e = andThen o (λ t. fileClose a t e)
+stepFound a at o (Text end all) e = andThen o (λ t. fileText t all)
+
+-- where to read on: behind the token; at the end where there is none
+abbrev pub nextOf : ℕ → Found → ℕ
+nextOf total Nothing = total
+nextOf total (Declaration end) = end
+nextOf total (Comment end) = end
+nextOf total (Start from to end) = end
+nextOf total (Empty from to end) = end
+nextOf total (End from to end) = end
+nextOf total (Text end all) = end
+
+-- what the token at an offset makes of what was answered before it, and where to read on
+pub record Stepping (a run : List ℕ) (n : ℕ) (c : Counters) (s : List ℕ) (at n' : ℕ) (run' : List ℕ) (c' : Counters) (next : ℕ) : Type 0 where
+  pub takes : (o : Outcome Left) → Answered o n run c
+      → Taking a run (stepFound a at o (foundOf (length s) at (readToken (drop at s))) (tagName (readToken (drop at s)))) n' run' c'
+  pub onward : next ≡ nextOf (length s) (foundOf (length s) at (readToken (drop at s)))
 
 -- the end asks nothing of the automaton
 abbrev pub fileLast : Left → Outcome Left
 fileLast t = fileEnd (storedMachine []) t
-
--- no token, or a declaration past offset 0
-abbrev pub noTokenAt : Found → ℕ → Bool
-noTokenAt f at = leb (foundEnd f) at || (not (eqb at 0) && declares f)
 
 -- what the rest of the tokens makes of an outcome: 9 is found first of all
 abbrev pub runFrom : List ℕ → Outcome Left → Read (List Token) → Outcome Left

@@ -2,12 +2,13 @@
 use Prim.Native.Nat.{ℕ, zero, suc, _-_, _≤_, _<_}
 use native.Mathlib.Omega.{arith}
 use mathlib.Core.Path.{_≡_, refl, sym, ap, _∙_}
-use mathlib.Core.Bool.{Bool, true, false, not, _&&_, _||_, cond, true≢false, and-false}
+use mathlib.Core.Bool.{Bool, true, false, not, _&&_, _||_, cond, and-false, or-false, or-true}
 use mathlib.Core.Option.{Option, none, some}
 use mathlib.Core.List.{List, [], _∷_}
-use lib.Dec.{eqb, leb}
+use lib.Dec.{eqb}
 use lib.ListN.{length, drop}
-use borrow.Author.Tests.{eq-eqb, ne-eqb, leb-false, lt-leb, lt-ltb, le-ltb}
+use borrow.Author.Tests.{eq-eqb, ne-eqb, lt-ltb, le-ltb, not-false}
+use Rattle.text.proofs.Laws.Tests.{cases, clash, neither, or-left}
 use Rattle.text.specs.Names.{Name}
 use Rattle.text.specs.Refusals.{Refusal, tooLarge, invalidByte, syntaxError, notOneRoot, numberOf}
 use Rattle.text.proofs.Laws.Numbers.{some-number}
@@ -32,16 +33,15 @@ use Rattle.documents.specs.Tokens.{Token, declaration, comment, startTag, empty
 use Rattle.text.specs.Read.{Read, fail, got, thenRead}
 use Rattle.documents.specs.Reading.{readToken, readReport}
 use Rattle.documents.specs.Document.{eventsOfToken, eventsOf}
-use Rattle.reports.specs.Seen.{shown, foundOf, foundEnd, declares}
+use Rattle.reports.specs.Seen.{shown, foundOf}
 use Rattle.reports.specs.Code.Seen.{tagName, nameOfToken}
 use Rattle.filing.specs.Filing.{Outcome, refused, filed, andThen, unless, fileEvents}
 use Rattle.filing.specs.ReportRefusals.{storedMachine, leftBy, Files}
 use Rattle.filing.specs.Code.Filing.{isNoRun, tokensIn, fileReport}
-use Rattle.filing.specs.Code.Taking.{Answered, Taking, leftIn, Leaves, fileOpen, fileClose, fileText, fileFound, fileLast, noTokenAt, runFrom}
+use Rattle.filing.specs.Code.Taking.{Answered, Taking, leftIn, Leaves, fileOpen, fileClose, fileText, stepFound, nextOf, Stepping, fileLast, runFrom}
 use Rattle.filing.proofs.Laws.Filing.FilingParts.{then-filed, then-same, events-append}
 use Rattle.filing.proofs.Laws.Filing.FilingOrder.{report-is, start-refused, start-lent, once-started, report-own}
 use Rattle.reports.proofs.Laws.Read.Next.{tokensFrom, token-next, from-end, from-none, from-late, from-next}
-use Rattle.reports.proofs.Laws.Read.RunAt.{shown-end, shown-declares}
 
 -- a refusal stops; else it goes on
 pub stops : (o : Outcome Left) (n : ℕ) (run : List ℕ) (c : Counters) → Answered o n run c → (k : Left → Outcome Left) → (n ≡ 0 → ⊥) → Answered (andThen o k) n run c
@@ -102,14 +102,34 @@ pub taken-here : (a run : List ℕ) (o : Outcome Left) (n : ℕ) (c' : Counters)
 taken-here a run o n c' t = record { answered = t; restarts = refl }
 
 -- a token, by what the code says of it, is its events
-found-events : (a : List ℕ) (t : Left) (x : Token) (at end : ℕ) → fileFound a t (shown x at end) (nameOfToken x) ≡ fileEvents (storedMachine a) t (eventsOfToken x)
+found-events : (a : List ℕ) (o : Outcome Left) (x : Token) (at end : ℕ) → (eqb at 0 || not (isDeclaration x)) ≡ true
+    → stepFound a at o (shown x at end) (nameOfToken x) ≡ andThen o (λ t. fileEvents (storedMachine a) t (eventsOfToken x))
 unfolding fileEvents first
-found-events a t declaration at end = refl
-found-events a t (comment c) at end = refl
-found-events a t (startTag n l b) at end = sym (then-filed _)
-found-events a t (emptyTag n l b) at end = then-same (fileOpen a t n) _ _ (λ t₂. sym (then-filed (fileClose a t₂ n)))
-found-events a t (endTag n b) at end = sym (then-filed _)
-found-events a t (text ps) at end = sym (then-filed _)
+found-events a o declaration at end h = rw (sym (or-false (eqb at 0)) ∙ h) (sym (then-filed o))
+found-events a o (comment c) at end h = sym (then-filed o)
+found-events a o (startTag n l b) at end h = then-same o _ _ (λ t. sym (then-filed _))
+found-events a o (emptyTag n l b) at end h =
+    then-same o _ _ (λ t. then-same (fileOpen a t n) _ _ (λ t₂. sym (then-filed (fileClose a t₂ n))))
+found-events a o (endTag n b) at end h = then-same o _ _ (λ t. sym (then-filed _))
+found-events a o (text ps) at end h = then-same o _ _ (λ t. sym (then-filed _))
+
+-- a declaration that is not the first token
+found-late : (a : List ℕ) (o : Outcome Left) (x : Token) (at end : ℕ) (e : Name) → (eqb at 0 || not (isDeclaration x)) ≡ false
+    → stepFound a at o (shown x at end) e ≡ refused syntaxError
+found-late a o declaration at end e h = rw (or-left (eqb at 0) false h)
+found-late a o (comment c) at end e h = clash (or-true (eqb at 0)) h
+found-late a o (startTag n l b) at end e h = clash (or-true (eqb at 0)) h
+found-late a o (emptyTag n l b) at end e h = clash (or-true (eqb at 0)) h
+found-late a o (endTag n b) at end e h = clash (or-true (eqb at 0)) h
+found-late a o (text ps) at end e h = clash (or-true (eqb at 0)) h
+
+shown-next : (total : ℕ) (x : Token) (at end : ℕ) → nextOf total (shown x at end) ≡ end
+shown-next total declaration at end = refl
+shown-next total (comment c) at end = refl
+shown-next total (startTag n l b) at end = refl
+shown-next total (emptyTag n l b) at end = refl
+shown-next total (endTag n b) at end = refl
+shown-next total (text ps) at end = refl
 
 -- the rest of the tokens after one
 after : (a : List ℕ) (o : Outcome Left) (x : Token) (m : Read (List Token))
@@ -122,63 +142,42 @@ after a (filed t) x (got ts r) = events-append (storedMachine a) (eventsOfToken 
 abbrev pub RunAt : List ℕ → Outcome Left → List ℕ → ℕ → Outcome Left
 RunAt a o s i = runFrom a o (tokensFrom s (eqb i 0) i)
 
-late : (b c d : Bool) → b ≡ false → (b || (not c && d)) ≡ true → (c ≡ false) × (d ≡ true)
-late true c d h k = absurd (true≢false h)
-late false true d h k = absurd (true≢false (sym k))
-late false false d h k = (refl, k)
+-- 9 stays, whatever is read on
+refused-run : (a : List ℕ) (m : Read (List Token)) → runFrom a (refused syntaxError) m ≡ refused syntaxError
+refused-run a fail = refl
+refused-run a (got ts r) = refl
 
-all-read : (b c d : Bool) → (b || (not c && d)) ≡ false → (b ≡ false) × ((c || not d) ≡ true)
-all-read true c d h = absurd (true≢false h)
-all-read false true d h = (refl, refl)
-all-read false false d h = (refl, rw h)
+module _ (a s : List ℕ) (i : ℕ) (inside : i < length s) (o : Outcome Left) where
+  -- of a token that was read, or none: the rest goes on behind it, and makes of the outcome with it what the rest with it makes
+  abbrev Goes : Read Token → Type 0
+  Goes m =
+      (i < nextOf (length s) (foundOf (length s) i m)) × ((nextOf (length s) (foundOf (length s) i m) ≤ length s)
+      × (RunAt a (stepFound a i o (foundOf (length s) i m) (tagName m)) s (nextOf (length s) (foundOf (length s) i m)) ≡ RunAt a o s i))
 
-module _ (a s : List ℕ) (i : ℕ) (f : Found) (is : f ≡ foundOf (length s) i (readToken (drop i s))) (o : Outcome Left) where
-  ends : (t : Token) (r : List ℕ) → readToken (drop i s) ≡ got t r → foundEnd f ≡ length s - length r
-  ends t r e = ap foundEnd (is ∙ ap (foundOf (length s) i) e) ∙ shown-end t i (length s - length r)
+  goes-late : (t : Token) (r : List ℕ) → readToken (drop i s) ≡ got t r → (eqb i 0 || not (isDeclaration t)) ≡ false → RunAt a o s i ≡ refused syntaxError
+  goes-late t r e h =
+      let (first, d) = neither (eqb i 0) (not (isDeclaration t)) h in
+      rw first (ap (runFrom a o) (from-late s i t r inside e (not-false (isDeclaration t) d)))
 
-  declared : (t : Token) (r : List ℕ) → readToken (drop i s) ≡ got t r → declares f ≡ isDeclaration t
-  declared t r e = ap declares (is ∙ ap (foundOf (length s) i) e) ∙ shown-declares t i (length s - length r)
+  goes-on-from : (t : Token) (r : List ℕ) → readToken (drop i s) ≡ got t r → (eqb i 0 || not (isDeclaration t)) ≡ true
+      → runFrom a (andThen o (λ u. fileEvents (storedMachine a) u (eventsOfToken t))) (tokensFrom s false (length s - length r)) ≡ RunAt a o s i
+  goes-on-from t r e h = sym (ap (runFrom a o) (from-next s i (eqb i 0) t r inside e h) ∙ after a o t (tokensFrom s false (length s - length r)))
 
-  pub taken-none : i < length s → noTokenAt f i ≡ true → RunAt a o s i ≡ refused syntaxError
-  taken-none h k = ap (runFrom a o) (by (readToken (drop i s)) refl)
-    where
-      by : (m : Read Token) → readToken (drop i s) ≡ m → tokensFrom s (eqb i 0) i ≡ fail
-      by fail e = from-none s i (eqb i 0) h e
-      by (got t r) e =
-          let next = token-next s i t r e in
-          let past : leb (foundEnd f) i ≡ false = lt-leb (foundEnd f) i (omega (arith, ends t r e, next .1)) in
-          let (first, d) = late (leb (foundEnd f) i) (eqb i 0) (declares f) past k in
-          rw first (from-late s i t r h e (sym (declared t r e) ∙ d))
-
-  taken-next : i < length s → noTokenAt f i ≡ false
-      → (i < foundEnd f) × ((foundEnd f ≤ length s) × (RunAt a (andThen o (λ t. fileFound a t f (tagName (readToken (drop i s))))) s (foundEnd f) ≡ RunAt a o s i))
-  taken-next h k = by (readToken (drop i s)) refl
-    where
-      by : (m : Read Token) → readToken (drop i s) ≡ m
-          → (i < foundEnd f) × ((foundEnd f ≤ length s) × (RunAt a (andThen o (λ t. fileFound a t f (tagName (readToken (drop i s))))) s (foundEnd f) ≡ RunAt a o s i))
-      by fail e =
-          let may = all-read (leb (foundEnd f) i) (eqb i 0) (declares f) k in
-          let none : foundEnd f ≡ 0 = ap foundEnd (is ∙ ap (foundOf (length s) i) e) in
-          absurd (omega (arith, leb-false (foundEnd f) i (may .0)))
-      by (got t r) e =
-          let may = all-read (leb (foundEnd f) i) (eqb i 0) (declares f) k in
-          let next = token-next s i t r e in
-          let end = ends t r e in
-          let past : eqb (foundEnd f) 0 ≡ false = ne-eqb (foundEnd f) 0 (omega (arith, next .1)) in
-          let ok : (eqb i 0 || not (isDeclaration t)) ≡ true = rw (sym (declared t r e)) (may .1) in
-          let same : (u : Left) → fileFound a u f (tagName (readToken (drop i s))) ≡ fileEvents (storedMachine a) u (eventsOfToken t) =
-          λ u. rw (is, e) (found-events a u t i (length s - length r)) in (
-            omega (arith, next .1),
-            (
-              omega (arith, next .2),
-              rw past (
-                  ap (λ (p : Outcome Left). runFrom a p (tokensFrom s false (foundEnd f))) (then-same o _ _ same)
-                  ∙ sym (after a o t (tokensFrom s false (foundEnd f)))
-                  ∙ ap (λ (n : ℕ). runFrom a o (thenRead (tokensFrom s false n) (λ ts r₂. got (t ∷ ts) r₂))) end
-                  ∙ sym (ap (runFrom a o) (from-next s i (eqb i 0) t r h e ok))
-                  ),
-            ),
-          )
+  goes : (m : Read Token) → readToken (drop i s) ≡ m → Goes m
+  goes fail e = (inside, (omega arith, refused-run a (tokensFrom s (eqb (length s) 0) (length s)) ∙ sym (ap (runFrom a o) (from-none s i (eqb i 0) inside e))))
+  goes (got t r) e =
+      let end = length s - length r in
+      let next = token-next s i t r e in
+      let is = shown-next (length s) t i end in
+      let past : eqb end 0 ≡ false = ne-eqb end 0 (omega (arith, next .1)) in (
+        rw is (next .1),
+        (
+          rw is (next .2),
+          rw (is, past) (cases (eqb i 0 || not (isDeclaration t))
+              (λ h. ap (λ (p : Outcome Left). runFrom a p (tokensFrom s false end)) (found-events a o t i end h) ∙ goes-on-from t r e h)
+              (λ h. ap (λ (p : Outcome Left). runFrom a p (tokensFrom s false end)) (found-late a o t i end (nameOfToken t) h) ∙ refused-run a (tokensFrom s false end) ∙ sym (goes-late t r e h))),
+        ),
+      )
 
 pub taken-end : (a s : List ℕ) (i : ℕ) (o : Outcome Left) → length s ≤ i → RunAt a o s i ≡ o
 unfolding fileEvents eventsOf
@@ -326,14 +325,20 @@ module _ (a : List ℕ) (t : Left) (e : Name) (u : Usable a (t .bytes) (t .count
   unfolding given
   close-fit = unless-fit a (first (closeOthers (t .bytes) e)) _ (λ n. close-usable a (t .bytes) (t .counters) e u (close-others a (t .bytes) (t .counters) e u ∙ ap numberIn n))
 
-found-fit : (a : List ℕ) (t : Left) (f : Found) (e : Name) → Usable a (t .bytes) (t .counters) → Fit a (fileFound a t f e)
-found-fit a t Nothing e u = u
-found-fit a t (Declaration end) e u = u
-found-fit a t (Comment end) e u = u
-found-fit a t (Start from to end) e u = open-fit a t e u
-found-fit a t (Empty from to end) e u = then-fit a (fileOpen a t e) (λ t₂. fileClose a t₂ e) (open-fit a t e u) (λ t₂ v. close-fit a t₂ e v)
-found-fit a t (End from to end) e u = close-fit a t e u
-found-fit a t (Text end all) e u = unless-fit a (first (gives (eqb (depthOf (t .bytes)) 0 && not all) notOneRoot ∷ [])) t (λ n. u)
+first-fit : (a : List ℕ) (b : Bool) (o : Outcome Left) → Fit a o → Fit a (cond b o (refused syntaxError))
+first-fit a true o f = f
+first-fit a false o f = tt
+
+found-fit : (a : List ℕ) (at : ℕ) (o : Outcome Left) (f : Found) (e : Name) → Fit a o → Fit a (stepFound a at o f e)
+found-fit a at o Nothing e u = tt
+found-fit a at o (Declaration end) e u = first-fit a (eqb at 0) o u
+found-fit a at o (Comment end) e u = u
+found-fit a at o (Start from to end) e u = then-fit a o _ u (λ t v. open-fit a t e v)
+found-fit a at o (Empty from to end) e u =
+    then-fit a o _ u (λ t v. then-fit a (fileOpen a t e) (λ t₂. fileClose a t₂ e) (open-fit a t e v) (λ t₂ w. close-fit a t₂ e w))
+found-fit a at o (End from to end) e u = then-fit a o _ u (λ t v. close-fit a t e v)
+found-fit a at o (Text end all) e u =
+    then-fit a o _ u (λ t v. unless-fit a (first (gives (eqb (depthOf (t .bytes)) 0 && not all) notOneRoot ∷ [])) t (λ n. v))
 
 -- what an open that is accepted leaves
 pub opened-usable : (a run : List ℕ) (c : Counters) (e : Name) (n : ℕ) (run' : List ℕ) (c' : Counters) → Taking a run (fileOpen a (record { bytes = run; counters = c }) e) n run' c'
@@ -347,20 +352,33 @@ pub record Turn (a s : List ℕ) (i n : ℕ) (run : List ℕ) (c : Counters) (al
   pub same : RunAt a outcome s i ≡ all
   pub fit : Fit a outcome
 
-module _ (a s : List ℕ) (i : ℕ) (f : Found) (is : f ≡ foundOf (length s) i (readToken (drop i s))) (inside : i < length s) (all-read : noTokenAt f i ≡ false) (end : ℕ) (ends : end ≡ foundEnd f) where
-  pub turn-past : (i < end) × (end ≤ length s)
-  turn-past =
-      let next = taken-next a s i f is (refused syntaxError) inside all-read in
-      rw ends (next .0, next .1 .0)
+module _ (a run : List ℕ) (n : ℕ) (c : Counters) (s : List ℕ) (i n' : ℕ) (run' : List ℕ) (c' : Counters) (next : ℕ) where
+  -- a step, by what the code says of the token
+  pub stepped : (f : Found) → foundOf (length s) i (readToken (drop i s)) ≡ f
+      → ((o : Outcome Left) → Answered o n run c → Taking a run (stepFound a i o f (tagName (readToken (drop i s)))) n' run' c') → next ≡ nextOf (length s) f
+      → Stepping a run n c s i n' run' c' next
+  stepped f is t e = record { takes = λ o h. rw is (t o h); onward = rw is e }
 
-  pub turn-taken : (run : List ℕ) (n : ℕ) (c : Counters) (n' : ℕ) (run' : List ℕ) (c' : Counters) (all : Outcome Left) → Turn a s i n run c all
-      → ((o : Outcome Left) → Answered o n run c → Taking a run (andThen o (λ t. fileFound a t f (tagName (readToken (drop i s))))) n' run' c') → Turn a s end n' run' c' all
-  turn-taken run n c n' run' c' all t takes =
-      let k : Left → Outcome Left = λ t. fileFound a t f (tagName (readToken (drop i s))) in
-      let next = taken-next a s i f is (t .outcome) inside all-read in
-      record {
-        outcome = andThen (t .outcome) k;
-        answered = takes (t .outcome) (t .answered) .answered;
-        same = rw ends (next .1 .1 ∙ t .same);
-        fit = then-fit a (t .outcome) k (t .fit) (λ u v. found-fit a u f _ v);
-      }
+  -- the same of a tag, by calls with its name as it was cut from the bytes
+  pub tag-stepped : (f : Found) → foundOf (length s) i (readToken (drop i s)) ≡ f → (part : Name) → part ≡ tagName (readToken (drop i s)) → (m : ℕ) (d : Counters)
+      → ((o : Outcome Left) → Answered o n run c → Taking a run (stepFound a i o f part) m run' d)
+      → (n' ≡ m) × ((c' ≡ d) × (next ≡ nextOf (length s) f)) → Stepping a run n c s i n' run' c' next
+  tag-stepped f is part named m d t e = stepped f is (λ o h. rw (e .0, e .1 .0, ← named) (t o h)) (e .1 .1)
+
+  module _ (inside : i < length s) (step : Stepping a run n c s i n' run' c' next) where
+    pub turn-past : (i < next) × (next ≤ length s)
+    turn-past =
+        let g = goes a s i inside (refused syntaxError) (readToken (drop i s)) refl in
+        rw (step .onward) (g .0, g .1 .0)
+
+    pub turn-taken : (all : Outcome Left) → Turn a s i n run c all → Turn a s next n' run' c' all
+    turn-taken all t =
+        let g = goes a s i inside (t .outcome) (readToken (drop i s)) refl in
+        let f = foundOf (length s) i (readToken (drop i s)) in
+        let e = tagName (readToken (drop i s)) in
+        record {
+          outcome = stepFound a i (t .outcome) f e;
+          answered = step .takes (t .outcome) (t .answered) .answered;
+          same = rw (step .onward) (g .1 .1 ∙ t .same);
+          fit = found-fit a i (t .outcome) f e (t .fit);
+        }
