@@ -1,4 +1,6 @@
 // The bytes of a report, and how far blanks go.
+use text::truth::both;
+use text::truth::either;
 ghost use mathlib.Core.Path.{_≡_};
 ghost use Prim.Native.Nat.{_+_, _≤_};
 ghost use lib.ListN.{length, drop};
@@ -24,20 +26,14 @@ pub fn blank(b: u8) -> bool
     b == 32
 }
 
-// A byte that a report may have.
+// A byte that a report may have. Without branches, so that many are tested at once.
 pub fn listed(b: u8) -> bool
     ensures { λ r. ⌜ r ≡ listedByte b ⌝ }
 {
-    if 32 <= b {
-        return b <= 126;
-    }
-    if b == 9 {
-        return true;
-    }
-    if b == 10 {
-        return true;
-    }
-    b == 13
+    either(
+        both(32 <= b, b <= 126),
+        either(b == 13, both(9 <= b, b <= 10)),
+    )
 }
 
 // A byte that may stand for itself in text.

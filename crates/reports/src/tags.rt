@@ -6,7 +6,9 @@ use text::names::name_end;
 use text::words::word_at;
 ghost use mathlib.Core.Path.{_≡_};
 ghost use Prim.Native.Nat.{_+_, _≤_};
-ghost use lib.ListN.{length, drop};
+ghost use mathlib.Core.Bool.{_&&_};
+ghost use lib.Dec.{ltb, eqb};
+ghost use lib.ListN.{length, drop, getD};
 ghost use Rattle.documents.specs.Tokens.{inValue, blank as blankByte};
 ghost use mathlib.Core.List.{[], _∷_};
 ghost use Rattle.text.specs.Read.{back, readWord, readName};
@@ -87,6 +89,16 @@ pub fn name_reach(s: &[u8], at: usize) -> Reach
         return Reach::No;
     }
     Reach::To(name_end(s, at + 1))
+}
+
+// A byte stands at an offset.
+pub fn byte_at(s: &[u8], at: usize, mark: u8) -> bool
+    ensures { λ r. ⌜ r ≡ (ltb at (length (now (s .entry))) && eqb (getD (now (s .entry)) at 0) mark) ⌝ }
+{
+    if at < s.len() {
+        return s[at] == mark;
+    }
+    false
 }
 
 // A byte, after blanks.

@@ -3,6 +3,7 @@ use crate::scan::blank;
 use crate::scan::in_text;
 use crate::scan::listed;
 use crate::tags::Reach;
+use crate::tags::byte_at;
 use crate::tags::byte_end;
 use crate::tags::inside_end;
 use crate::tags::name_reach;
@@ -10,7 +11,8 @@ use crate::tags::reference_end;
 use text::truth::both;
 use text::words::word_at;
 ghost use mathlib.Core.Path.{_≡_};
-ghost use mathlib.Core.Bool.{true};
+ghost use mathlib.Core.Bool.{true, false};
+ghost use lib.Dec.{ltb};
 ghost use mathlib.Core.Logic.{_↔_};
 ghost use Prim.Native.Nat.{_+_, _≤_, _<_};
 ghost use lib.ListN.{length, drop};
@@ -22,7 +24,7 @@ ghost use Rattle.documents.specs.TagAt.{TagAt};
 ghost use Rattle.documents.specs.Reading.{readTag, readEndTag, readContents, readComment, readText, readToken};
 ghost use Rattle.reports.specs.Code.Reaches.{reachOf};
 ghost use Rattle.reports.specs.Seen.{foundOf, nameFrom, nameTo, foundEnd, declares};
-ghost use Rattle.reports.specs.Code.Seen.{tagEndOf, textFound, declarationAt};
+ghost use Rattle.reports.specs.Code.Seen.{tagEndOf, textFound, textFrom, declarationAt};
 ghost use Rattle.reports.specs.NamePart.{NamePart};
 
 // What begins at an offset: nothing that can be read, or a token with its end. Of a tag also where its name begins and ends, of a text
@@ -50,7 +52,7 @@ pub fn all_listed(s: &[u8]) -> bool
     all
 }
 
-// A start or empty-element tag, whose `<` stands at the offset.
+// A start or empty-element tag, whose `<` stands at the offset. Most end behind their name.
 fn tag(s: &[u8], at: usize) -> Found
     requires { ⌜ at < length (now s) ⌝ }
     ensures { λ r. ⌜ r ≡ foundOf (length (now (s .entry))) at (readTag (drop (at + 1) (now (s .entry)))) ⌝ }
@@ -58,10 +60,19 @@ fn tag(s: &[u8], at: usize) -> Found
     let from = at + 1;
     match name_reach(s, from) {
         Reach::No => Found::Nothing,
-        Reach::To(to) => match inside_end(s, to) {
-            Reach::No => Found::Nothing,
-            Reach::To(e) => tag_end(s, from, to, e),
-        },
+        Reach::To(to) => {
+            if byte_at(s, to, 62) {
+                return Found::Start {
+                    from,
+                    to,
+                    end: to + 1,
+                };
+            }
+            match inside_end(s, to) {
+                Reach::No => Found::Nothing,
+                Reach::To(e) => tag_end(s, from, to, e),
+            }
+        }
     }
 }
 
@@ -97,7 +108,7 @@ fn tag_end(s: &[u8], from: usize, to: usize, e: usize) -> Found
     }
 }
 
-// An end tag, whose `</` stands at the offset.
+// An end tag, whose `</` stands at the offset. Most end behind their name.
 fn end_tag(s: &[u8], at: usize) -> Found
     requires { ⌜ at + 2 ≤ length (now s) ⌝ }
     ensures { λ r. ⌜ r ≡ foundOf (length (now (s .entry))) at (readEndTag (drop (at + 2) (now (s .entry)))) ⌝ }
@@ -105,10 +116,19 @@ fn end_tag(s: &[u8], at: usize) -> Found
     let from = at + 2;
     match name_reach(s, from) {
         Reach::No => Found::Nothing,
-        Reach::To(to) => match byte_end(s, to, 62) {
-            Reach::No => Found::Nothing,
-            Reach::To(e) => Found::End { from, to, end: e },
-        },
+        Reach::To(to) => {
+            if byte_at(s, to, 62) {
+                return Found::End {
+                    from,
+                    to,
+                    end: to + 1,
+                };
+            }
+            match byte_end(s, to, 62) {
+                Reach::No => Found::Nothing,
+                Reach::To(e) => Found::End { from, to, end: e },
+            }
+        }
     }
 }
 
@@ -186,25 +206,44 @@ fn comment(s: &[u8], at: usize) -> Found
     }
 }
 
-// A text, up to the next `<` or the end.
+// A text, up to the next `<` or the end. Its blanks first: most texts have nothing else.
 fn text(s: &[u8], at: usize) -> Found
     requires { ⌜ at ≤ length (now s) ⌝ }
     ensures { λ r. ⌜ r ≡ foundOf (length (now (s .entry))) at (readText (drop at (now (s .entry)))) ⌝ }
 {
     let mut i = at;
-    let mut all = true;
     while i < s.len() {
         let b = s[i];
         if b == 60 {
-            return text_found(at, i, all);
+            return text_found(at, i, true);
         }
-        if b == 38 {
+        if !blank(b) {
+            return text_from(s, at, i);
+        }
+        i += 1;
+    }
+    text_found(at, i, true)
+}
+
+// The rest, from an offset on, of a text that is not blank. Small letters first: most bytes are those.
+fn text_from(s: &[u8], at: usize, from: usize) -> Found
+    requires { ⌜ (at ≤ from) × (from ≤ length (now s)) ⌝ }
+    ensures { λ r. ⌜ r ≡ textFrom (now (s .entry)) (ltb at from) false from ⌝ }
+{
+    let mut i = from;
+    while i < s.len() {
+        let b = s[i];
+        if 94 <= b {
+            if 126 < b {
+                return Found::Nothing;
+            }
+            i += 1;
+        } else if b == 60 {
+            return text_found(at, i, false);
+        } else if b == 38 {
             match reference_end(s, i + 1) {
                 Reach::No => return Found::Nothing,
-                Reach::To(e) => {
-                    i = e;
-                    all = false;
-                }
+                Reach::To(e) => i = e,
             }
         } else {
             if !in_text(b) {
@@ -213,11 +252,10 @@ fn text(s: &[u8], at: usize) -> Found
             if section_close(s, i) {
                 return Found::Nothing;
             }
-            all = both(all, blank(b));
             i += 1;
         }
     }
-    text_found(at, i, all)
+    text_found(at, i, false)
 }
 
 // A text is not empty.

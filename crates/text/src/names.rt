@@ -1,4 +1,5 @@
 // Byte classes, and the name test, which goes by them.
+use crate::truth::both;
 ghost use mathlib.Core.Path.{_≡_};
 ghost use Prim.Native.Nat.{_+_};
 ghost use lib.ListN.{length, drop};
@@ -76,11 +77,11 @@ pub fn begins_name(b: u8) -> bool
     if 97 <= b {
         return b <= 122;
     }
-    if b == 95 {
-        return true;
-    }
     if b <= 64 {
         return false;
+    }
+    if b == 95 {
+        return true;
     }
     b <= 90
 }
@@ -89,11 +90,14 @@ pub fn begins_name(b: u8) -> bool
 pub fn in_name(b: u8) -> bool
     ensures { λ r. ⌜ r ≡ inName b ⌝ }
 {
-    if 97 <= b {
-        return b <= 122;
+    if both(97 <= b, b <= 122) {
+        return true;
+    }
+    if 65 <= b {
+        return begins_name(b);
     }
     if 58 <= b {
-        return begins_name(b);
+        return false;
     }
     if b == 47 {
         return false;

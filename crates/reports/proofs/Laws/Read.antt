@@ -9,3 +9,4 @@ pub mod Tags
 pub mod Texts
 pub mod TokenAt
 pub mod Values
+pub mod Listed

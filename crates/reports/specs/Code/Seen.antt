@@ -1,13 +1,15 @@
 -- What inner functions find at an offset.
-use Prim.Native.Nat.{ℕ, _+_}
-use mathlib.Core.Bool.{Bool, cond}
-use mathlib.Core.List.{List, []}
+use Prim.Native.Nat.{ℕ, _+_, _-_}
+use mathlib.Core.Bool.{Bool, not, _&&_, _||_, cond}
+use mathlib.Core.List.{List, [], _∷_}
 use lib.Dec.{eqb, ltb}
 use lib.ListN.{length, getD, drop}
 use Rattle.text.specs.Names.{Name}
+use Rattle.text.specs.Lists.{every, nonEmpty}
 use Rattle.reports.specs.declared.tokens.Found.{Found}
 use Rattle.reports.specs.declared.tokens.Found.the-variants.{Nothing, Start, Empty, Text}
-use Rattle.documents.specs.Tokens.{Token, declaration, comment, startTag, emptyTag, endTag, text, declarationBytes}
+use Rattle.documents.specs.Tokens.{Part, Token, declaration, comment, startTag, emptyTag, endTag, text, declarationBytes, printParts, blank, inText, occurs}
+use Rattle.documents.specs.Reading.{readParts, textEnds}
 use Rattle.text.specs.Read.{Read, fail, got, thenRead, readWord}
 use Rattle.reports.specs.Seen.{foundOf}
 
@@ -24,6 +26,16 @@ tagEndOf s from to e =
 -- a text from an offset to another, if there is any
 abbrev pub textFound : ℕ → ℕ → Bool → Found
 textFound at end all = cond (ltb at end) (Text end all) Nothing
+
+-- what parts from here on make of a text that began earlier: some says whether it has a part already, all whether it was blank so far
+abbrev pub textOf : ℕ → Bool → Bool → Read (List Part) → Found
+textOf total some all fail = Nothing
+textOf total some all (got ps r) =
+    cond ((some || nonEmpty ps) && (not (occurs (93 ∷ 93 ∷ 62 ∷ []) (printParts ps)) && textEnds r))
+    (Text (total - length r) (all && every blank (printParts ps))) Nothing
+
+abbrev pub textFrom : List ℕ → Bool → Bool → ℕ → Found
+textFrom s some all i = textOf (length s) some all (readParts inText (drop i s))
 
 -- the declaration, at an offset
 abbrev pub declarationAt : List ℕ → ℕ → Found

@@ -3,14 +3,15 @@ use Prim.Native.Nat.{ℕ, suc, _+_, _-_, _≤_, _<_}
 use native.Mathlib.Omega.{arith}
 use native.Mathlib.Numerals.{add-one}
 use mathlib.Core.Path.{_≡_, refl, sym, ap, ap₂, _∙_}
-use mathlib.Core.Bool.{cond}
+use mathlib.Core.Bool.{true, _&&_, cond}
 use mathlib.Core.List.{List, [], _∷_, _++_, append-assoc}
 use lib.Dec.{eqb, ltb}
-use borrow.Author.Tests.{eq-eqb, ne-eqb, eqb-true, eqb-false, ltb-true, ltb-false}
+use borrow.Author.Tests.{eq-eqb, ne-eqb, eqb-true, eqb-false, ltb-true, ltb-false, lt-ltb}
 use lib.ListN.{length, getD, drop, length-append, length-drop, drop-of-length-le}
 use lib.Seq.{drop-cons}
 use Rattle.text.specs.Names.{Name}
-use Rattle.text.proofs.Laws.Tests.{cases}
+use Rattle.text.proofs.Laws.Tests.{cases, and-left, and-right}
+use Rattle.text.proofs.Laws.Scans.{span-no}
 use Rattle.reports.specs.declared.tags.Reach.the-variants.{No, To}
 use Rattle.reports.specs.declared.tokens.Found.the-variants.{Nothing, Start, Empty, End}
 use Rattle.documents.specs.Tokens.{blank, Attribute, printAttributes, emptyTag}
@@ -22,10 +23,12 @@ use Rattle.reports.specs.Code.Seen.{tagEndOf}
 use Rattle.text.proofs.Laws.Reads.{holds-got, then-holds, gotten, name-sound}
 use Rattle.text.proofs.Laws.ReadMany.{many-sound}
 use Rattle.text.proofs.Laws.Fronts.{front-back}
+use Rattle.documents.proofs.Laws.Read.ByteTests.{blank-high}
 use Rattle.documents.proofs.Laws.Read.PartsSound.{attribute-sound}
 use Rattle.reports.proofs.Laws.Read.Reaches.{Suffix, reached}
 use Rattle.reports.proofs.Laws.Read.Values.{reach-no}
-use Rattle.reports.proofs.Laws.Read.Offsets.{name-suffix, mark-suffix, left-at}
+use Rattle.reports.proofs.Laws.Read.Offsets.{name-suffix, mark-suffix, mark-to, left-at}
+use Rattle.reports.proofs.Laws.Read.Inside.{no-blanks}
 
 inside-suffix : (l : List ℕ) → Suffix l (thenRead (readAttributes l) (λ m r. got m (back blank r)))
 inside-suffix l =
@@ -59,6 +62,14 @@ module _ (s : List ℕ) where
 
   left-after : (e : ℕ) → e < length s → e + 1 ≡ length s - length (drop (suc e) s)
   left-after e h = omega (arith, length-drop (suc e) s)
+
+  -- `>` stands at an offset, and no blanks before it
+  pub here : (to : ℕ) → (ltb to (length s) && eqb (getD s to 0) 62) ≡ true
+      → (to < length s) × (getD s to 0 ≡ 62) × (to ≡ to + length (front blank (drop to s)))
+  here to t =
+      let inside = ltb-true to (length s) (and-left _ _ t) in
+      let mark = eqb-true (getD s to 0) 62 (and-right (ltb to (length s)) _ t) in
+      (inside, mark, sym (span-no blank s to inside (blank-high (getD s to 0) (omega arith))))
 
   -- the end of a tag, by its bytes
   slash : (n : Name) (m : List Attribute) (b : List ℕ) (at e : ℕ)
@@ -119,6 +130,12 @@ module _ (s : List ℕ) where
           let (r, some, after) = passed (readAttributes (drop to s)) m (drop e s) all in
           rw (is, some, after) (ap (λ (x : ℕ). tagEndOf s (at + 1) x e) (sym apart) ∙ end-shown n m (front blank r) at e)
 
+      pub tag-here : (ltb to (length s) && eqb (getD s to 0) 62) ≡ true → Start (at + 1) to (to + 1) ≡ foundOf (length s) at (readTag (drop (at + 1) s))
+      tag-here t =
+          let (inside, mark, none) = here to t in
+          let ends : tagEndOf s (at + 1) to to ≡ Start (at + 1) to (to + 1) = rw (lt-ltb to (length s) inside, eq-eqb (getD s to 0) 62 mark) in
+          sym ends ∙ tag-to to (sym (no-blanks s to to (omega arith) none refl))
+
   module _ (at : ℕ) (h : at + 2 ≤ length s) where
     pub end-no : reachOf (length s) (readName (drop (at + 2) s)) ≡ No → Nothing ≡ foundOf (length s) at (readEndTag (drop (at + 2) s))
     unfolding readEndTag
@@ -142,3 +159,8 @@ module _ (s : List ℕ) where
           let (n, is, apart, high) = named (at + 2) to h name in
           let (u, all, low, end) = reached s to high Mark e (mark-suffix s 62 (drop to s)) k in
           rw (is, all) (ap₂ (λ (x y : ℕ). End (at + 2) x y) (sym apart) (left-at s e end))
+
+      pub end-here : (ltb to (length s) && eqb (getD s to 0) 62) ≡ true → End (at + 2) to (to + 1) ≡ foundOf (length s) at (readEndTag (drop (at + 2) s))
+      end-here t =
+          let (inside, mark, none) = here to t in
+          end-to (to + 1) (sym (mark-to s to to (omega arith) none 62 inside mark))

@@ -1,23 +1,24 @@
 -- `scan::listed` meets its contract.
-use mathlib.Core.Path.{sym, ap}
-use Rattle.documents.specs.Tokens.{listed}
-use Rattle.documents.proofs.Laws.Read.ByteTests.{listed-high, listed-last}
+use mathlib.Core.Path.{sym}
+use borrow.Author.Needs.{needs}
+use Rattle.reports.proofs.Laws.Read.Listed.{listed-flat}
 use Rattle.reports.proofs.scan.listed.Statement.{statement}
 use Rattle.reports.proofs.scan.listed.Tie as tie
 
+both-requires : tie.Need-both-requires
+both-requires c κs = search needs
+
+both-requires-2 : tie.Need-both-requires-2
+both-requires-2 c κs = search needs
+
+either-requires : tie.Need-either-requires
+either-requires c κs = search needs
+
+either-requires-2 : tie.Need-either-requires-2
+either-requires-2 c κs = search needs
+
 returns : tie.Need-returns
-returns c = sym (listed-high _ (c .if1 .taken))
-
-returns-2 : tie.Need-returns-2
-unfolding listed
-returns-2 c = sym (ap listed (c .if2 .taken))
-
-returns-3 : tie.Need-returns-3
-unfolding listed
-returns-3 c = sym (ap listed (c .if3 .taken))
-
-returns-4 : tie.Need-returns-4
-returns-4 c = sym (listed-last _ (c .before .before .if1 .left) (c .before .if2 .left) (c .if3 .left))
+returns c = rw (c .either2 .ensures, c .before .either .ensures, c .before .before .both2 .ensures, c .before .before .before .both .ensures) (sym (listed-flat _))
 
 pub listed-spec : {M : Type 1} → statement M
-listed-spec = tie.close (tie.spec returns returns-2 returns-3 returns-4)
+listed-spec = tie.close (tie.spec both-requires both-requires-2 either-requires either-requires-2 returns)

@@ -8,7 +8,7 @@ use lib.Dec.{leb, eqb}
 use lib.ListN.{length, getD, drop}
 use borrow.Author.Tests.{eq-eqb, ne-eqb, le-leb, lt-leb}
 use Rattle.text.specs.Lists.{every}
-use Rattle.text.specs.Names.{letter, digit, beginsName, inName, nameForm}
+use Rattle.text.specs.Names.{within, letter, digit, beginsName, inName, nameForm}
 use Rattle.text.specs.Read.{front}
 use Rattle.text.proofs.Laws.Tests.{cases}
 use Rattle.text.proofs.Laws.Bytes.Table.{values, same-entries}
@@ -58,8 +58,9 @@ module _ (b : ℕ) where
   unfolding inName digit
   in-begins h = rw (le-leb 48 b (omega arith), lt-leb b 57 (omega arith), ne-eqb b 45 (λ e. omega arith), ne-eqb b 46 (λ e. omega arith)) (simp or-false)
 
-  pub in-high : 97 ≤ b → inName b ≡ leb b 122
-  in-high h = in-begins (omega arith) ∙ begins-high h
+  pub in-small : within 97 122 b ≡ true → inName b ≡ true
+  unfolding inName beginsName letter
+  in-small h = rw h
 
 -- below 58, all from 45 on but 47: computed at each
 pub in-last : (b : ℕ) → b < 58 → (b ≡ 47 → ⊥) → inName b ≡ leb 45 b

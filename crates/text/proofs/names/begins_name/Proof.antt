@@ -9,14 +9,14 @@ returns : tie.Need-returns
 returns c = sym (begins-high _ (c .if1 .taken))
 
 returns-2 : tie.Need-returns-2
-unfolding beginsName letter
-returns-2 c = sym (ap beginsName (c .if2 .taken))
+returns-2 c = sym (begins-low _ (c .if2 .taken))
 
 returns-3 : tie.Need-returns-3
-returns-3 c = sym (begins-low _ (c .if3 .taken))
+unfolding beginsName letter
+returns-3 c = sym (ap beginsName (c .if3 .taken))
 
 returns-4 : tie.Need-returns-4
-returns-4 c = sym (begins-last _ (c .before .before .if1 .left) (c .before .if2 .left) (c .if3 .left))
+returns-4 c = sym (begins-last _ (c .before .before .if1 .left) (c .if3 .left) (c .before .if2 .left))
 
 pub begins-name-spec : {M : Type 1} → statement M
 begins-name-spec = tie.close (tie.spec returns returns-2 returns-3 returns-4)
