@@ -115,9 +115,9 @@ noCounters = record { opens = 0; closes = 0; moves = 0 }
 
 -- what an accepted open leaves
 
--- bytes of a row of bits that the automaton's steps use: the first, and whole blocks of sixteen behind it
+-- bytes of a row of bits that the automaton's steps use: whole blocks of sixteen
 abbrev pub usedBytes : List ℕ → ℕ
-usedBytes a = min maskSize (1 + 16 * ((stepCount a + 119) / 128))
+usedBytes a = min maskSize (16 * ((stepCount a + 127) / 128))
 
 -- step i takes e: it is `*`, or one of the labels of that name
 unfoldable pub candidate : List ℕ → Name → ℕ → Bool

@@ -4,7 +4,6 @@ use crate::layout::MASK_SIZE;
 use crate::lookup::first_label;
 use crate::run::candidates;
 use crate::run::layout::DEPTH_AT;
-use crate::run::layout::MATCHES_AT;
 use crate::run::layout::ROW_SIZE;
 use crate::run::lent;
 use crate::run::refusals;
@@ -19,32 +18,28 @@ use stored::counters::Counters;
 use stored::walk::Walk;
 use text::names::name_form;
 use text::refusals::SYNTAX_ERROR;
-use text::store::copy;
-use text::store::put16;
 ghost use mathlib.Core.Path.{_≡_};
 ghost use Prim.Native.Nat.{suc, _≤_, _<_};
-ghost use mathlib.Core.List.{_∷_, _++_};
 ghost use lib.ListN.{length};
 ghost use mathlib.Core.Bool.{true};
 ghost use Rattle.text.specs.Names.{maxName, nameForm};
 ghost use Rattle.notation.specs.Limits.{maxSteps};
-ghost use Rattle.text.specs.Bytes.{le16, padded};
 ghost use Rattle.model.specs.Limits.{maxDepth};
-ghost use Rattle.stored.specs.Automaton.{maskSize};
 ghost use Rattle.stored.specs.Tables.{firstOf};
 ghost use Rattle.stored.specs.RunContracts.{Opens};
 ghost use Rattle.stored.specs.Usable.{Openable, Ready, Usable};
 ghost use Rattle.stored.specs.Run.{runSize};
 ghost use Rattle.stored.specs.RunCalls.{depthOf, withRow, openRun, openWalk};
+ghost use Rattle.stored.specs.Code.OpenSteps.{blankRow};
 
-// The new element's row, a part from the middle of the run, is lent to the function that writes it. d is the depth before.
-fn store(run: &mut [u8], d: usize, e: &[u8], state: usize, active: &[u8], seen: &[u8])
-    requires { ⌜ (d < maxDepth) × ((runSize ≤ length (now run)) × ((length (now e) ≤ maxName) × ((length (now active) ≡ maskSize) × (length (now seen) ≡ maskSize)))) ⌝ }
-    ensures { λ _. ⌜ now (run .exit) ≡ withRow (now (run .entry)) (suc d) (length (now (e .entry)) ∷ (padded maxName (now (e .entry)) ++ (le16 state ++ (now (active .entry) ++ now (seen .entry))))) ⌝ }
+// The new element's row before its bits: a part from the middle of the run, lent to the function that writes it. d is the depth before.
+fn store(run: &mut [u8], d: usize, e: &[u8], state: usize)
+    requires { ⌜ (d < maxDepth) × ((runSize ≤ length (now run)) × (length (now e) ≤ maxName)) ⌝ }
+    ensures { λ _. ⌜ now (run .exit) ≡ withRow (now (run .entry)) (suc d) (blankRow (now (e .entry)) state) ⌝ }
 {
     let at = rows::row_at(d + 1);
     let end = at + ROW_SIZE;
-    row::write_row(&mut run[at..end], e, state, active, seen);
+    row::write_row(&mut run[at..end], e, state);
 }
 
 // What an open writes: the new row, the matches, the depth, which was d. `first` is the place of the first label with the name, `state`
@@ -55,24 +50,10 @@ fn write(a: &[u8], run: &mut [u8], e: &[u8], first: usize, d: usize, state: usiz
     ensures { λ _. ⌜ now (run .exit) ≡ openRun (now (a .entry)) (now (run .entry)) (now (e .entry)) ⌝ }
 {
     let mut taken = [0; MASK_SIZE];
-    let mut active = [0; MASK_SIZE];
-    let mut seen = [0; MASK_SIZE];
-    let mut matched = [0; MASK_SIZE];
-    let used = steps::used_bytes(a);
     candidates::flag_labels(&mut taken, a, first);
-    steps::flag_bits(
-        a,
-        run,
-        &taken,
-        d,
-        used,
-        &mut active,
-        &mut seen,
-        &mut matched,
-    );
-    store(run, d, e, state, &active, &seen);
-    copy(run, MATCHES_AT, &matched[..used]);
-    put16(run, DEPTH_AT, d + 1);
+    store(run, d, e, state);
+    steps::store_bits(a, run, &taken, d, steps::used_blocks(a));
+    row::put_word(run, DEPTH_AT, d + 1);
 }
 
 // An open that is accepted: for callers that know the shape of automaton and run, and that the name may be opened.

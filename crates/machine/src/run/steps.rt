@@ -1,5 +1,6 @@
 // The bits of an open, a byte of eight steps at a time: the active steps, the steps seen, and the matches.
 use crate::bits;
+use crate::labels::word;
 use crate::layout::ANYWHERE_MASK;
 use crate::layout::CHILD_MASK;
 use crate::layout::DESCENDANT_MASK;
@@ -11,28 +12,30 @@ use crate::layout::STAR_MASK;
 use crate::run::layout::ACTIVE_IN;
 use crate::run::layout::MATCHES_AT;
 use crate::run::layout::SEEN_IN;
+use crate::run::row::put;
 use crate::run::rows;
-use notation::reads;
-use text::arith::least;
+use notation::layout::STEP_COUNT_AT;
 ghost use mathlib.Core.Path.{_≡_};
 ghost use mathlib.Core.Bool.{_&&_, _||_};
-ghost use Prim.Native.Nat.{ℕ, _+_, _*_, _≤_, _<_};
+ghost use Prim.Native.Nat.{ℕ, suc, _+_, _*_, _≤_, _<_};
 ghost use lib.Dec.{eqb};
 ghost use lib.ListN.{length, getD};
 ghost use lib.Seq.{sets};
 ghost use Rattle.model.specs.Limits.{maxDepth};
-ghost use Rattle.stored.specs.Automaton.{maskSize, starMask, anywhereMask, rootMask, lastMask, maskCount, automatonSize, bitBytes};
-ghost use Rattle.stored.specs.Bits.{bitOf, bitIn, bitAt};
-ghost use Rattle.stored.specs.Run.{runSize};
-ghost use Rattle.stored.specs.RunCalls.{maskBit, shifted, permitted, seenAt, matchedAt, usedBytes};
-ghost use Rattle.stored.specs.Code.OpenSteps.{takenActive, takenSeen, takenMatched};
+ghost use Rattle.stored.specs.Automaton.{maskSize, anywhereMask, rootMask, lastMask, maskCount, automatonSize, bitBytes};
+ghost use Rattle.stored.specs.Bits.{bitOf, bitIn};
+ghost use Rattle.notation.specs.Limits.{maxPaths, maxSteps};
+ghost use Rattle.notation.specs.Reads.{stepCount};
+ghost use Rattle.stored.specs.Run.{rowAt, activeIn, seenIn, matchesAt, runSize};
+ghost use Rattle.stored.specs.RunCalls.{maskBit, shifted, permitted, activeAt, seenAt, matchedAt, usedBytes};
+ghost use Rattle.stored.specs.Code.OpenSteps.{takenActive, takenSeen, takenMatched, storedBits};
 
-// Bytes of a row of bits that the automaton's steps use: the first, which has no byte before it, and whole blocks of sixteen behind it, so
-// that a loop over them has no odd end.
-pub fn used_bytes(a: &[u8]) -> usize
-    ensures { λ r. ⌜ r ≡ usedBytes (now (a .entry)) ⌝ }
+// A block of a row of bits is sixteen bytes, which the compiler computes at once. So many blocks are used by the automaton's steps.
+pub fn used_blocks(a: &[u8]) -> usize
+    requires { ⌜ (automatonSize ≤ length (now a)) × (stepCount (now a) ≤ maxPaths * maxSteps) ⌝ }
+    ensures { λ r. ⌜ (16 * r ≡ usedBytes (now (a .entry))) × (16 * r ≤ maskSize) ⌝ }
 {
-    least(MASK_SIZE, 1 + 16 * ((reads::steps(a) + 119) / 128))
+    (word(a, STEP_COUNT_AT) + 127) / 128
 }
 
 fn narrow(b: usize) -> u8
@@ -66,19 +69,37 @@ fn bits_byte(run: &[u8], base: usize, j: usize) -> usize
     byte(run, base + j)
 }
 
+// The byte before byte j of the bits from `base` on; zero before the first.
 fn byte_before(run: &[u8], base: usize, j: usize) -> usize
-    requires { ⌜ (base + maskSize ≤ runSize) × ((runSize ≤ length (now run)) × (j < maskSize)) ⌝ }
+    requires { ⌜ (base + maskSize ≤ runSize) × ((runSize ≤ length (now run)) × (j ≤ maskSize)) ⌝ }
     ensures { λ r. ⌜ (r < 256) × (bitOf r 7 ≡ shifted (bitIn (now (run .entry)) base) (8 * j)) ⌝ }
 {
     if j == 0 { 0 } else { byte(run, base + (j - 1)) }
 }
 
+// That byte of the active steps in the row of depth d.
+fn active_before(run: &[u8], d: usize, j: usize) -> usize
+    requires { ⌜ (runSize ≤ length (now run)) × ((d ≤ maxDepth) × (j ≤ maskSize)) ⌝ }
+    ensures { λ r. ⌜ (r < 256) × (bitOf r 7 ≡ shifted (activeAt (now (run .entry)) d) (8 * j)) ⌝ }
+{
+    byte_before(run, rows::row_at(d) + ACTIVE_IN, j)
+}
+
+// That byte of the steps seen in the row of depth d.
+fn seen_before(run: &[u8], d: usize, j: usize) -> usize
+    requires { ⌜ (runSize ≤ length (now run)) × ((d ≤ maxDepth) × (j ≤ maskSize)) ⌝ }
+    ensures { λ r. ⌜ (r < 256) × (bitOf r 7 ≡ shifted (seenAt (now (run .entry)) d) (8 * j)) ⌝ }
+{
+    byte_before(run, rows::row_at(d) + SEEN_IN, j)
+}
+
 // Byte j of the bits from `base` on, each one step on.
-fn shifted_byte(run: &[u8], base: usize, j: usize) -> usize
+fn shifted_byte(run: &[u8], base: usize, j: usize, before: usize) -> usize
     requires { ⌜ (base + maskSize ≤ runSize) × ((runSize ≤ length (now run)) × (j < maskSize)) ⌝ }
+    requires { ⌜ (before < 256) × (bitOf before 7 ≡ shifted (bitIn (now run) base) (8 * j)) ⌝ }
     ensures { λ r. ⌜ (r < 256) × ((k : ℕ) → k < 8 → bitOf r k ≡ shifted (bitIn (now (run .entry)) base) (8 * j + k)) ⌝ }
 {
-    bits::one_on(byte(run, base + j), byte_before(run, base, j))
+    bits::one_on(byte(run, base + j), before)
 }
 
 // Byte j of the first steps that an element may take: those by `//`, and at depth 1 those by `/`.
@@ -93,30 +114,35 @@ fn first_byte(a: &[u8], d: usize, j: usize) -> usize
     anywhere
 }
 
-// Byte j of the steps that the element may take, whatever its name; the row around it is that of depth d.
-fn permitted_byte(a: &[u8], run: &[u8], d: usize, j: usize) -> usize
+// Byte j of the steps that the element may take, whatever its name; the row around it is that of depth d, and x and y are the bytes before
+// byte j of the steps active and seen there.
+fn permitted_byte(a: &[u8], run: &[u8], d: usize, j: usize, x: usize, y: usize) -> usize
     requires { ⌜ (automatonSize ≤ length (now a)) × ((runSize ≤ length (now run)) × ((d ≤ maxDepth) × (j < maskSize))) ⌝ }
+    requires { ⌜ (x < 256) × (bitOf x 7 ≡ shifted (activeAt (now run) d) (8 * j)) ⌝ }
+    requires { ⌜ (y < 256) × (bitOf y 7 ≡ shifted (seenAt (now run) d) (8 * j)) ⌝ }
     ensures { λ r. ⌜ (r < 256) × ((k : ℕ) → k < 8 → bitOf r k ≡ permitted (now (a .entry)) (now (run .entry)) d (8 * j + k)) ⌝ }
 {
     let at = rows::row_at(d);
     let child = bits::both(
         mask_byte(a, CHILD_MASK, j),
-        shifted_byte(run, at + ACTIVE_IN, j),
+        shifted_byte(run, at + ACTIVE_IN, j, x),
     );
     let descendant = bits::both(
         mask_byte(a, DESCENDANT_MASK, j),
-        shifted_byte(run, at + SEEN_IN, j),
+        shifted_byte(run, at + SEEN_IN, j, y),
     );
     bits::either(child, bits::either(descendant, first_byte(a, d, j)))
 }
 
 // Byte j of the active steps: the candidates (`*`, and the labels taken) that are permitted.
-fn active_byte(a: &[u8], run: &[u8], taken: &[u8], d: usize, j: usize) -> usize
+fn active_byte(a: &[u8], run: &[u8], taken: &[u8], d: usize, j: usize, x: usize, y: usize) -> usize
     requires { ⌜ (automatonSize ≤ length (now a)) × ((runSize ≤ length (now run)) × ((maskSize ≤ length (now taken)) × ((d ≤ maxDepth) × (j < maskSize)))) ⌝ }
-    ensures { λ r. ⌜ (r < 256) × ((k : ℕ) → k < 8 → bitOf r k ≡ ((maskBit (now (a .entry)) starMask (8 * j + k) || bitAt (now (taken .entry)) (8 * j + k)) && permitted (now (a .entry)) (now (run .entry)) d (8 * j + k))) ⌝ }
+    requires { ⌜ (x < 256) × (bitOf x 7 ≡ shifted (activeAt (now run) d) (8 * j)) ⌝ }
+    requires { ⌜ (y < 256) × (bitOf y 7 ≡ shifted (seenAt (now run) d) (8 * j)) ⌝ }
+    ensures { λ r. ⌜ (r < 256) × ((k : ℕ) → k < 8 → bitOf r k ≡ takenActive (now (a .entry)) (now (run .entry)) (now (taken .entry)) d (8 * j + k)) ⌝ }
 {
     let candidates = bits::either(mask_byte(a, STAR_MASK, j), byte(taken, j));
-    bits::both(candidates, permitted_byte(a, run, d, j))
+    bits::both(candidates, permitted_byte(a, run, d, j, x, y))
 }
 
 // Byte j of the steps seen: those of the row around the element, of depth d, and the active ones.
@@ -136,29 +162,61 @@ fn match_byte(a: &[u8], run: &[u8], j: usize, active: usize) -> usize
     bits::either(bits_byte(run, MATCHES_AT, j), ended)
 }
 
-// The bits of all steps, in one pass over the bytes used. `taken` has the labels of the new element's name, and d is the depth before.
-pub fn flag_bits(
+// A block of bits from byte `from` on. `taken` has the labels of the new element's name, and d is the depth before.
+fn flag_block(
     a: &[u8],
     run: &[u8],
     taken: &[u8],
     d: usize,
-    used: usize,
+    from: usize,
     active: &mut [u8],
     seen: &mut [u8],
     matched: &mut [u8],
 )
-    requires { ⌜ (automatonSize ≤ length (now a)) × ((runSize ≤ length (now run)) × ((maskSize ≤ length (now taken)) × ((d ≤ maxDepth) × (used ≤ maskSize)))) ⌝ }
-    requires { ⌜ (maskSize ≤ length (now active)) × ((maskSize ≤ length (now seen)) × (maskSize ≤ length (now matched))) ⌝ }
-    ensures { λ _. ⌜ now (active .exit) ≡ sets (now (active .entry)) 0 (bitBytes (takenActive (now (a .entry)) (now (run .entry)) (now (taken .entry)) d) used) ⌝ }
-    ensures { λ _. ⌜ now (seen .exit) ≡ sets (now (seen .entry)) 0 (bitBytes (takenSeen (now (a .entry)) (now (run .entry)) (now (taken .entry)) d) used) ⌝ }
-    ensures { λ _. ⌜ now (matched .exit) ≡ sets (now (matched .entry)) 0 (bitBytes (takenMatched (now (a .entry)) (now (run .entry)) (now (taken .entry)) d) used) ⌝ }
+    requires { ⌜ (automatonSize ≤ length (now a)) × ((runSize ≤ length (now run)) × ((maskSize ≤ length (now taken)) × ((d ≤ maxDepth) × (from + 16 ≤ maskSize)))) ⌝ }
+    requires { ⌜ (16 ≤ length (now active)) × ((16 ≤ length (now seen)) × (16 ≤ length (now matched))) ⌝ }
+    ensures { λ _. ⌜ now (active .exit) ≡ sets (now (active .entry)) 0 (bitBytes (λ i. takenActive (now (a .entry)) (now (run .entry)) (now (taken .entry)) d (8 * from + i)) 16) ⌝ }
+    ensures { λ _. ⌜ now (seen .exit) ≡ sets (now (seen .entry)) 0 (bitBytes (λ i. takenSeen (now (a .entry)) (now (run .entry)) (now (taken .entry)) d (8 * from + i)) 16) ⌝ }
+    ensures { λ _. ⌜ now (matched .exit) ≡ sets (now (matched .entry)) 0 (bitBytes (λ i. takenMatched (now (a .entry)) (now (run .entry)) (now (taken .entry)) d (8 * from + i)) 16) ⌝ }
 {
+    let mut x = active_before(run, d, from);
+    let mut y = seen_before(run, d, from);
     let mut j = 0;
-    while j < used {
-        let here = active_byte(a, run, taken, d, j);
+    while j < 16 {
+        let i = from + j;
+        let here = active_byte(a, run, taken, d, i, x, y);
+        x = active_before(run, d, i + 1);
+        y = seen_before(run, d, i + 1);
         active[j] = narrow(here);
-        seen[j] = narrow(seen_byte(run, d, j, here));
-        matched[j] = narrow(match_byte(a, run, j, here));
+        seen[j] = narrow(seen_byte(run, d, i, here));
+        matched[j] = narrow(match_byte(a, run, i, here));
         j += 1;
+    }
+}
+
+// That block, stored into the new row, of depth d + 1, and into the matches.
+fn store_block(a: &[u8], run: &mut [u8], taken: &[u8], d: usize, from: usize)
+    requires { ⌜ (automatonSize ≤ length (now a)) × ((runSize ≤ length (now run)) × ((maskSize ≤ length (now taken)) × ((d < maxDepth) × (from + 16 ≤ maskSize)))) ⌝ }
+    ensures { λ _. ⌜ now (run .exit) ≡ sets (sets (sets (now (run .entry)) (rowAt (suc d) + activeIn + from) (bitBytes (λ i. takenActive (now (a .entry)) (now (run .entry)) (now (taken .entry)) d (8 * from + i)) 16)) (rowAt (suc d) + seenIn + from) (bitBytes (λ i. takenSeen (now (a .entry)) (now (run .entry)) (now (taken .entry)) d (8 * from + i)) 16)) (matchesAt + from) (bitBytes (λ i. takenMatched (now (a .entry)) (now (run .entry)) (now (taken .entry)) d (8 * from + i)) 16) ⌝ }
+{
+    let mut active = [0; 16];
+    let mut seen = [0; 16];
+    let mut matched = [0; 16];
+    flag_block(a, run, taken, d, from, &mut active, &mut seen, &mut matched);
+    let at = rows::row_at(d + 1);
+    put(run, at + ACTIVE_IN + from, &active);
+    put(run, at + SEEN_IN + from, &seen);
+    put(run, MATCHES_AT + from, &matched);
+}
+
+// The bits of all steps, block by block, stored into the new row and the matches.
+pub fn store_bits(a: &[u8], run: &mut [u8], taken: &[u8], d: usize, blocks: usize)
+    requires { ⌜ (automatonSize ≤ length (now a)) × ((runSize ≤ length (now run)) × ((maskSize ≤ length (now taken)) × ((d < maxDepth) × (16 * blocks ≤ maskSize)))) ⌝ }
+    ensures { λ _. ⌜ now (run .exit) ≡ storedBits (now (run .entry)) d (takenActive (now (a .entry)) (now (run .entry)) (now (taken .entry)) d) (takenSeen (now (a .entry)) (now (run .entry)) (now (taken .entry)) d) (takenMatched (now (a .entry)) (now (run .entry)) (now (taken .entry)) d) (16 * blocks) ⌝ }
+{
+    let mut i = 0;
+    while i < blocks {
+        store_block(a, run, taken, d, 16 * i);
+        i += 1;
     }
 }

@@ -9,6 +9,7 @@ pub mod OpenBits
 pub mod Opening
 pub mod Starting
 pub mod Written
+pub mod Blocks
 pub mod Flagged
 pub mod Answered
 pub mod OpenName

@@ -1,83 +1,132 @@
--- One pass over the bytes used gives the bits of an open.
-use Prim.Native.Nat.{ℕ, suc, _+_, _*_, _≤_, _<_}
+-- The blocks of bits that an open stores are those of its contract.
+use Prim.Native.Nat.{ℕ, suc, _+_, _*_, _/_, _%_, _≤_, _<_}
 use mathlib.Core.Path.{_≡_, refl, sym, _∙_, ap}
 use mathlib.Core.Bool.{Bool, false, _||_}
-use mathlib.Core.List.{List, [], _∷_, _++_, append-nil}
+use mathlib.Core.List.{List, [], _∷_, _++_, append-nil, append-assoc}
 use native.Mathlib.Omega.{arith}
 use native.Mathlib.Numerals.{add-one}
-use lib.ListN.{length, set, take, replicate}
-use lib.Seq.{sets, take-at}
+use lib.ListN.{length, getD, set, take, drop, replicate, length-append, length-replicate}
+use lib.Seq.{sets, length-take-le}
 use Rattle.text.specs.Names.{maxName}
 use Rattle.text.specs.Bytes.{le16, padded}
-use Rattle.notation.proofs.Laws.Fill.Padded.{padded-none, sets-padded}
+use Rattle.notation.proofs.Laws.Fill.Padded.{padded-none, sets-padded, sets-front, length-padded}
 use Rattle.stored.specs.Marked.{marked}
 use Rattle.stored.specs.Automaton.{maskSize, byteOf, bitBytes, tabulate}
 use Rattle.stored.specs.Bits.{bitOf, bitAt}
-use Rattle.stored.specs.Run.{matchesAt, depthAt}
-use Rattle.stored.specs.RunCalls.{depthOf, usedBytes, usedBits, stepBits, candidate, nowActive, nowSeen, nowMatched, openWalk, rowOpened, withRow, openRun}
-use Rattle.stored.specs.Code.OpenSteps.{takenActive, takenSeen, takenMatched}
+use Rattle.stored.specs.Run.{matchesAt, depthAt, rowsAt, rowAt, rowSize, nameIn, stateIn, activeIn, seenIn}
+use Rattle.stored.specs.RunCalls.{depthOf, usedBytes, usedBits, candidate, nowActive, nowSeen, nowMatched, openWalk, rowOpened, withRow, openRun}
+use Rattle.stored.specs.Code.OpenSteps.{takenActive, takenSeen, takenMatched, blankRow, storedBits}
+use Rattle.stored.proofs.Laws.Bytes.Beside.{put-before}
 use Rattle.stored.proofs.Laws.Bytes.Bits.{bits-bit}
 use Rattle.stored.proofs.Laws.Bytes.ByteBits.{packed-from}
 use Rattle.stored.proofs.Laws.Bytes.MaskRows.{bits-same, bits-none}
+use Rattle.stored.proofs.Laws.Bytes.Stores.{past}
 use Rattle.stored.proofs.Laws.Bytes.Tabulate.{tabulate-length}
+use Rattle.stored.proofs.Laws.Running.Blocks.{block, taken-active, taken-seen, taken-matched}
 use Rattle.stored.proofs.Laws.Running.Written.{sets-next}
 
 -- no bits in zeros
 zero-bits : (n i : ℕ) → i < 8 * n → bitAt (replicate n 0) i ≡ false
 zero-bits n i h = ap (λ (l : List ℕ). bitAt l i) (sym (bits-none n)) ∙ bits-bit (λ k. false) n i h
 
--- one turn of the pass: a byte more, from its bits
-pub none-stored : (out : List ℕ) (f : ℕ → Bool) → out ≡ sets out 0 (bitBytes f 0)
+-- one turn within a block: a byte more, from its bits
+pub none-flagged : (out : List ℕ) (f : ℕ → Bool) → out ≡ sets out 0 (bitBytes f 0)
 unfolding tabulate
-none-stored out f = refl
+none-flagged out f = refl
 
-pub one-stored : (out out' : List ℕ) (f : ℕ → Bool) (j x : ℕ) → out' ≡ sets out 0 (bitBytes f j) → x < 256 → ((k : ℕ) → k < 8 → bitOf x k ≡ f (8 * j + k))
-    → set out' j x ≡ sets out 0 (bitBytes f (j + 1))
+pub one-flagged : (out out' : List ℕ) (f : ℕ → Bool) (from j x : ℕ) → out' ≡ sets out 0 (bitBytes (λ i. f (8 * from + i)) j) → x < 256 → ((k : ℕ) → k < 8 → bitOf x k ≡ f (8 * (from + j) + k))
+    → set out' j x ≡ sets out 0 (bitBytes (λ i. f (8 * from + i)) (j + 1))
 unfolding tabulate
-one-stored out out' f j x is h b =
-    rw (is, add-one j, ← packed-from x (λ k. f (8 * j + k)) h b) (sets-next out 0 j (bitBytes f j) (byteOf f j ∷ []) (omega (arith, tabulate-length (byteOf f) j)))
+one-flagged out out' f from j x is h b =
+    let g : ℕ → Bool = λ i. f (8 * from + i) in
+    let bits : (k : ℕ) → k < 8 → bitOf x k ≡ g (8 * j + k) = λ k l. b k l ∙ ap f (omega arith) in
+    rw (is, add-one j, ← packed-from x (λ k. g (8 * j + k)) h bits) (sets-next out 0 j (bitBytes g j) (byteOf g j ∷ []) (omega (arith, tabulate-length (byteOf g) j)))
 
--- stored into zeros, the bits are filled up with zeros
-pub filled : (n : ℕ) (vs : List ℕ) → length vs ≤ n → sets (replicate n 0) 0 vs ≡ padded n vs
-filled n vs h = ap (λ (l : List ℕ). sets l 0 vs) (sym (append-nil (padded n []) ∙ padded-none n)) ∙ sets-padded n [] vs [] (omega arith) ∙ append-nil (padded n vs)
+-- stored over bytes of the same size, a block is all of them
+pub all-flagged : (out : List ℕ) (f : ℕ → Bool) (from : ℕ) → length out ≡ 16 → sets out 0 (block f from) ≡ block f from
+all-flagged out f from e =
+    ap (λ (l : List ℕ). sets l 0 (block f from)) (sym (append-nil out))
+    ∙ sets-front out [] (block f from) (e ∙ sym (tabulate-length (byteOf (λ i. f (8 * from + i))) 16))
+    ∙ append-nil (block f from)
 
-pub used-part : (n k : ℕ) (vs : List ℕ) → length vs ≡ k → take k (padded n vs) ≡ vs
-unfolding padded
-used-part n k vs h = take-at vs _ k h
+-- three blocks of local arrays, stored one after the other
+pub block-put : (run run₁ run₂ run₃ x y z : List ℕ) (f g h : ℕ → Bool) (d from at : ℕ) → at ≡ rowAt (d + 1)
+    → x ≡ sets (replicate 16 0) 0 (block f from) → y ≡ sets (replicate 16 0) 0 (block g from) → z ≡ sets (replicate 16 0) 0 (block h from)
+    → run₁ ≡ sets run (at + activeIn + from) x → run₂ ≡ sets run₁ (at + seenIn + from) y → run₃ ≡ sets run₂ (matchesAt + from) z
+    → run₃ ≡ sets (sets (sets run (rowAt (suc d) + activeIn + from) (block f from)) (rowAt (suc d) + seenIn + from) (block g from)) (matchesAt + from) (block h from)
+block-put run run₁ run₂ run₃ x y z f g h d from at e ex ey ez p q r =
+    let zeros = length-replicate {A = ℕ} 16 0 in
+    let row : at ≡ rowAt (suc d) = e ∙ ap rowAt (add-one d) in
+    r ∙ rw (q, p, ex ∙ all-flagged (replicate 16 0) f from zeros, ey ∙ all-flagged (replicate 16 0) g from zeros, ez ∙ all-flagged (replicate 16 0) h from zeros, row)
 
--- with the labels of a name, the bits are those of an open
-module _ (a run e taken : List ℕ) (d used : ℕ) (h : (i : ℕ) → bitAt taken i ≡ (bitAt (replicate maskSize 0) i || marked a e i))
-    (all : used ≡ usedBytes a) (room : usedBytes a ≤ maskSize) (deep : d ≡ depthOf run) where
-  active-is : (i : ℕ) → i < 8 * usedBytes a → takenActive a run taken d i ≡ nowActive a run e i
+-- what is stored into zeros behind a front is filled up with zeros
+fill : (front rest vs : List ℕ) (at n : ℕ) → length front ≡ at → length vs ≤ n → sets (front ++ (replicate n 0 ++ rest)) at vs ≡ front ++ (padded n vs ++ rest)
+fill front rest vs at n e h =
+    past front (replicate n 0 ++ rest) at at 0 vs e (omega arith)
+    ∙ ap (λ (l : List ℕ). front ++ l) (ap (λ (l : List ℕ). sets (l ++ rest) 0 vs) (sym (padded-none n)) ∙ sets-padded n [] vs rest (omega arith))
+
+regroup : (f p s z y t : List ℕ) (n : ℕ) → f ++ ((n ∷ (p ++ (s ++ (z ++ y)))) ++ t) ≡ (f ++ (n ∷ (p ++ s))) ++ (z ++ (y ++ t))
+regroup f p s z y t n = simp append-assoc
+
+blank-length : (e : List ℕ) (state : ℕ) → length e ≤ maxName → length (blankRow e state) ≡ rowSize
+unfolding rowSize seenIn activeIn stateIn nameIn
+blank-length e state short =
+    let z : List ℕ = replicate maskSize 0 in
+    omega (arith, length-padded maxName e short, length-append (padded maxName e) (le16 state ++ (z ++ z)), length-append z z, length-replicate {A = ℕ} maskSize 0)
+
+-- the bits stored into a blank row
+blank-filled : (front tail e : List ℕ) (state at : ℕ) (x y : List ℕ) → length front ≡ at → length e ≤ maxName → length x ≤ maskSize → length y ≤ maskSize
+    → sets (sets (front ++ (blankRow e state ++ tail)) (at + activeIn) x) (at + seenIn) y ≡ front ++ ((length e ∷ (padded maxName e ++ (le16 state ++ (padded maskSize x ++ padded maskSize y)))) ++ tail)
+unfolding seenIn activeIn stateIn nameIn
+blank-filled front tail e state at x y size short hx hy =
+    let z : List ℕ = replicate maskSize 0 in
+    let head : List ℕ = front ++ (length e ∷ (padded maxName e ++ le16 state)) in
+    let first : length head ≡ at + activeIn = omega (arith, length-append front (length e ∷ (padded maxName e ++ le16 state)), length-append (padded maxName e) (le16 state), length-padded maxName e short) in
+    let second : length (head ++ padded maskSize x) ≡ at + seenIn = omega (arith, first, length-append head (padded maskSize x), length-padded maskSize x hx) in
+    ap (λ (l : List ℕ). sets (sets l (at + activeIn) x) (at + seenIn) y) (regroup front (padded maxName e) (le16 state) z z tail (length e))
+    ∙ ap (λ (l : List ℕ). sets l (at + seenIn) y) (fill head (z ++ tail) x (at + activeIn) maskSize first hx ∙ sym (append-assoc head (padded maskSize x) (z ++ tail)))
+    ∙ fill (head ++ padded maskSize x) tail y (at + seenIn) maskSize second hy
+    ∙ append-assoc head (padded maskSize x) (padded maskSize y ++ tail)
+    ∙ sym (regroup front (padded maxName e) (le16 state) (padded maskSize x) (padded maskSize y) tail (length e))
+
+-- with the labels of a name, the bits are those of an open; `blank` is the run with the new row before its bits
+module _ (a run e taken : List ℕ) (d used state : ℕ) (h : (i : ℕ) → bitAt taken i ≡ (bitAt (replicate maskSize 0) i || marked a e i))
+    (all : used ≡ usedBytes a) (room : usedBytes a ≤ maskSize) (deep : d ≡ depthOf run) (walks : state ≡ openWalk a run e .state) (short : length e ≤ maxName) (fits : rowAt (suc d) + rowSize ≤ length run) where
+  abbrev blank : List ℕ
+  blank = withRow run (suc d) (blankRow e state)
+
+  same : (k : ℕ) → k < rowAt (suc d) → getD blank k 0 ≡ getD run k 0
+  same k l = put-before run (blankRow e state) (rowAt (suc d)) rowSize fits (blank-length e state short) k l
+
+  active-is : (i : ℕ) → i < 8 * maskSize → takenActive a blank taken d i ≡ nowActive a run e i
   unfolding nowActive candidate
-  active-is i l = rw (deep, h i, zero-bits maskSize i (omega arith))
+  active-is i l = taken-active a run blank taken d (λ k lo hi. same k hi) i l ∙ rw (deep, h i, zero-bits maskSize i l)
 
-  seen-is : (i : ℕ) → i < 8 * usedBytes a → takenSeen a run taken d i ≡ nowSeen a run e i
-  unfolding nowSeen
-  seen-is i l = rw (active-is i l, deep)
+  seen-is : (i : ℕ) → i < 8 * maskSize → takenSeen a blank taken d i ≡ nowSeen a run e i
+  unfolding nowSeen nowActive candidate
+  seen-is i l = taken-seen a run blank taken d (λ k lo hi. same k hi) i l ∙ rw (deep, h i, zero-bits maskSize i l)
 
-  match-is : (i : ℕ) → i < 8 * usedBytes a → takenMatched a run taken d i ≡ nowMatched a run e i
-  unfolding nowMatched
-  match-is i l = rw (active-is i l)
+  match-is : (i : ℕ) → i < 8 * maskSize → takenMatched a blank taken d i ≡ nowMatched a run e i
+  unfolding nowMatched nowActive candidate maskSize matchesAt rowsAt rowSize
+  match-is i l =
+      taken-matched a run blank taken d (λ k lo hi. same k hi) i l (ap (λ (b : ℕ). bitOf b (i % 8)) (same (matchesAt + i / 8) (omega arith))) ∙ rw (deep, h i, zero-bits maskSize i l)
 
-  step-bits : (f g : ℕ → Bool) (out : List ℕ) → ((i : ℕ) → i < 8 * usedBytes a → f i ≡ g i) → out ≡ sets (replicate maskSize 0) 0 (bitBytes f used) → out ≡ stepBits a g
-  step-bits f g out same is =
-      rw (is, all, bits-same f g (usedBytes a) same) (filled maskSize (usedBits a g) (omega (arith, tabulate-length (byteOf g) (usedBytes a))))
+  bits-are : (f g : ℕ → Bool) → ((i : ℕ) → i < 8 * maskSize → f i ≡ g i) → bitBytes f used ≡ usedBits a g
+  bits-are f g e = rw all (bits-same f g (usedBytes a) (λ i l. e i (omega arith)))
 
-  pub active-bits : (out : List ℕ) → out ≡ sets (replicate maskSize 0) 0 (bitBytes (takenActive a run taken d) used) → out ≡ stepBits a (nowActive a run e)
-  active-bits out is = step-bits (takenActive a run taken d) (nowActive a run e) out active-is is
+  fits-bits : (g : ℕ → Bool) → length (usedBits a g) ≤ maskSize
+  fits-bits g = omega (arith, tabulate-length (byteOf g) (usedBytes a))
 
-  pub seen-bits : (out : List ℕ) → out ≡ sets (replicate maskSize 0) 0 (bitBytes (takenSeen a run taken d) used) → out ≡ stepBits a (nowSeen a run e)
-  seen-bits out is = step-bits (takenSeen a run taken d) (nowSeen a run e) out seen-is is
-
-  pub match-bits : (out : List ℕ) → out ≡ sets (replicate maskSize 0) 0 (bitBytes (takenMatched a run taken d) used) → take used out ≡ usedBits a (nowMatched a run e)
-  match-bits out is =
-      rw (step-bits (takenMatched a run taken d) (nowMatched a run e) out match-is is)
-      (used-part maskSize used (usedBits a (nowMatched a run e)) (tabulate-length (byteOf (nowMatched a run e)) (usedBytes a) ∙ sym all))
-
--- the run that the code leaves is the one of the contract
-pub opened : (a run e active seen matched : List ℕ) (d state : ℕ) → d ≡ depthOf run → state ≡ openWalk a run e .state
-    → active ≡ stepBits a (nowActive a run e) → seen ≡ stepBits a (nowSeen a run e) → matched ≡ usedBits a (nowMatched a run e)
-    → sets (sets (withRow run (suc d) (length e ∷ (padded maxName e ++ (le16 state ++ (active ++ seen))))) matchesAt matched) depthAt (le16 (d + 1)) ≡ openRun a run e
-unfolding openRun rowOpened
-opened a run e active seen matched d state is q x y z = rw (add-one d, x, y, z, q, is)
+  -- the run that the code leaves is the one of the contract
+  pub opened : sets (storedBits blank d (takenActive a blank taken d) (takenSeen a blank taken d) (takenMatched a blank taken d) used) depthAt (le16 (d + 1)) ≡ openRun a run e
+  unfolding openRun rowOpened
+  opened =
+      rw (
+        bits-are (takenActive a blank taken d) (nowActive a run e) active-is,
+        bits-are (takenSeen a blank taken d) (nowSeen a run e) seen-is,
+        bits-are (takenMatched a blank taken d) (nowMatched a run e) match-is,
+        blank-filled (take (rowAt (suc d)) run) (drop (rowAt (suc d) + rowSize) run) e state (rowAt (suc d)) (usedBits a (nowActive a run e)) (usedBits a (nowSeen a run e)) (length-take-le (rowAt (suc d)) run (omega arith)) short (fits-bits (nowActive a run e)) (fits-bits (nowSeen a run e)),
+        add-one d,
+        walks,
+        deep,
+      )

@@ -4,7 +4,7 @@ use mathlib.Core.Path.{_≡_, refl, sym, _∙_, ap, subst}
 use mathlib.Core.Bool.{Bool}
 use mathlib.Core.List.{List, [], _∷_, _++_, append-assoc, append-nil, List·Memᴰ, List·Memᴰ·head, List·Memᴰ·tail}
 use native.Mathlib.Omega.{arith}
-use native.Mathlib.Nat.{le-of-suc-le-suc, add-zero}
+use native.Mathlib.Nat.{le-of-suc-le-suc, add-zero, mul-suc}
 use lib.ListN.{length, getD, take, drop, replicate, length-append}
 use Rattle.text.specs.Names.{maxName, Name}
 use Rattle.notation.specs.Limits.{maxPaths, maxSteps, maxLabels}
@@ -131,6 +131,9 @@ zerosFrom n = replicate (runSize - n) 0
 pub rows-fit : (d : ℕ) → d ≤ maxDepth → rowAt (suc d) ≤ runSize
 unfolding rowsAt rowSize runSize maxDepth matchesAt maskSize seenIn activeIn stateIn nameIn maxName
 rows-fit d h = omega arith
+
+pub row-room : (d : ℕ) (run : List ℕ) → d < maxDepth → runSize ≤ length run → rowAt (suc d) + rowSize ≤ length run
+row-room d run h size = omega (arith, mul-suc rowSize (suc d), rows-fit (suc d) h)
 
 -- the bytes that the steps of an automaton use are few enough
 pub used-room : (a : List ℕ) → stepCount a ≤ maxPaths * maxSteps → usedBytes a ≤ maskSize

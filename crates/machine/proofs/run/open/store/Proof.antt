@@ -31,7 +31,7 @@ part-write-row-end c = omega arith
 
 write-row-requires : tie.Need-write-row-requires
 unfolding rowSize runSize
-write-row-requires c κs = let b = c .before .before .before .before .before .before in
+write-row-requires c κs = let b = c .before .before .before .before in
     (row-width (b .args .run .now) (c .before .row-at .result) (omega arith), b .pre .1 .1)
 
 same-length : tie.Need-same-length
@@ -41,7 +41,7 @@ returns : tie.Need-returns
 unfolding rowSize
 returns c = let r = c .before .before .before .before .row-at in
     let w = c .before .before .write-row in
-    let a = c .before .before .before .before .before .before .before .before .before .args in
+    let a = c .before .before .before .before .before .before .before .args in
     row-back (a .run .now) (w .last .0) (a .d + 1) (r .result) (r .ensures .0) ∙ rw (w .ensures, add-one (a .d))
 
 pub store-spec : {M : Type 1} → statement M

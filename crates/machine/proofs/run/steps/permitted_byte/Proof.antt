@@ -1,7 +1,7 @@
 use lib.Dec.{eqb}
 use Rattle.stored.specs.RunCalls.{maskBit, activeAt, seenAt, permitted, shifted}
 use native.Mathlib.Omega.{arith}
-use mathlib.Core.Path.{_≡_, _∙_, ap}
+use mathlib.Core.Path.{_≡_, sym, _∙_, ap}
 use mathlib.Core.Bool.{_||_, _&&_}
 use Prim.Native.Nat.{ℕ, _+_, _*_}
 use Rattle.stored.specs.Run.{activeIn, seenIn, rowSize, runSize}
@@ -23,9 +23,9 @@ unfolding rowSize runSize
 add-shifted-byte c = omega arith
 
 shifted-byte-requires : tie.Need-shifted-byte-requires
-unfolding rowSize runSize maskSize
+unfolding rowSize runSize maskSize activeIn
 shifted-byte-requires c κs = let b = c .before .before .before .before in
-    (omega arith, (b .pre .1 .0, b .pre .1 .1 .1))
+    ((omega arith, (b .pre .0 .1 .0, b .pre .0 .1 .1 .1)), (b .pre .1 .0 .0, b .pre .1 .0 .1 ∙ ap (λ (n : ℕ). shifted (bitIn (b .args .run .now) (n + activeIn)) (8 * b .args .j)) (sym (c .before .row-at .ensures .0))))
 
 both-requires : tie.Need-both-requires
 both-requires c κs = search needs
@@ -38,9 +38,9 @@ unfolding rowSize runSize
 add-shifted-byte-2 c = omega arith
 
 shifted-byte-requires-2 : tie.Need-shifted-byte-requires-2
-unfolding rowSize runSize maskSize
+unfolding rowSize runSize maskSize seenIn
 shifted-byte-requires-2 c κs = let b = c .before .before .before .before .before .before .before in
-    (omega arith, (b .pre .1 .0, b .pre .1 .1 .1))
+    ((omega arith, (b .pre .0 .1 .0, b .pre .0 .1 .1 .1)), (b .pre .1 .1 .0, b .pre .1 .1 .1 ∙ ap (λ (n : ℕ). shifted (bitIn (b .args .run .now) (n + seenIn)) (8 * b .args .j)) (sym (c .before .before .before .before .row-at .ensures .0))))
 
 both-requires-2 : tie.Need-both-requires-2
 both-requires-2 c κs = search needs

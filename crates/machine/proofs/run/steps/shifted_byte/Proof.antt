@@ -16,17 +16,14 @@ add-byte c = omega arith
 byte-requires : tie.Need-byte-requires
 byte-requires c κs = search needs
 
-byte-before-requires : tie.Need-byte-before-requires
-byte-before-requires c κs = search needs
-
 one-on-requires : tie.Need-one-on-requires
 one-on-requires c κs = search needs
 
 returns : tie.Need-returns
-returns c = let a = c .before .before .before .before .args in
-    let b = c .before .byte-before in
-    (c .one-on .ensures .0, λ k h. c .one-on .ensures .1 k h ∙ ap (λ (n : ℕ). bitBefore n (b .result) k) (c .before .before .byte .ensures .0) ∙ shifted-bit (a .run .now) (a .base) (a .j) (b .result) k h (b .ensures .1))
+returns c = let b = c .before .before .before in
+    let a = b .args in
+    (c .one-on .ensures .0, λ k h. c .one-on .ensures .1 k h ∙ ap (λ (n : ℕ). bitBefore n (a .before) k) (c .before .byte .ensures .0) ∙ shifted-bit (a .run .now) (a .base) (a .j) (a .before) k h (b .pre .1 .1))
 
 pub shifted-byte-spec : {M : Type 1} → statement M
 shifted-byte-spec =
-    tie.close (tie.spec add-byte byte-requires byte-before-requires one-on-requires returns)
+    tie.close (tie.spec add-byte byte-requires one-on-requires returns)
