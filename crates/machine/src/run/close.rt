@@ -1,16 +1,16 @@
 // A close: the innermost element's row becomes zero.
+use crate::layout::MASK_SIZE;
+use crate::run::layout::ACTIVE_IN;
 use crate::run::layout::DEPTH_AT;
-use crate::run::layout::ROW_SIZE;
+use crate::run::layout::SEEN_IN;
 use crate::run::lent;
 use crate::run::refusals;
 use crate::run::row;
 use crate::run::rows;
-use crate::run::shape;
 use stored::answers::ClosedBy;
 use stored::counters::Counters;
 use text::names::name_form;
 use text::refusals::SYNTAX_ERROR;
-use text::store::put16;
 ghost use mathlib.Core.Path.{_≡_};
 ghost use Prim.Native.Nat.{_≤_, _<_};
 ghost use lib.ListN.{length};
@@ -23,16 +23,17 @@ ghost use Rattle.stored.specs.Run.{runSize};
 ghost use Rattle.stored.specs.RunCalls.{depthOf, closeRun};
 
 // A close that is accepted: for callers that know the size and the depth of the run, and that an element is open. The row of the innermost
-// element, a part from the middle of the run, is lent to the function that clears it.
+// element is cleared part by part: each is small enough to be cleared in place.
 fn close_on(run: &mut [u8])
     requires { ⌜ (runSize ≤ length (now run)) × ((0 < depthOf (now run)) × (depthOf (now run) ≤ maxDepth)) ⌝ }
     ensures { λ _. ⌜ now (run .exit) ≡ closeRun (now (run .entry)) ⌝ }
 {
-    let d = shape::depth(run);
+    let d = rows::depth_in(run);
     let at = rows::row_at(d);
-    let end = at + ROW_SIZE;
-    row::clear_row(&mut run[at..end]);
-    put16(run, DEPTH_AT, d - 1);
+    row::clear_from(run, at + SEEN_IN, MASK_SIZE);
+    row::clear_from(run, at, ACTIVE_IN);
+    row::put_word(run, DEPTH_AT, d - 1);
+    row::clear_from(run, at + ACTIVE_IN, MASK_SIZE);
 }
 
 // The close, for callers that know that automaton, run and counters pass the shape test, and that the name has name form.

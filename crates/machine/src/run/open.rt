@@ -9,7 +9,6 @@ use crate::run::lent;
 use crate::run::refusals;
 use crate::run::row;
 use crate::run::rows;
-use crate::run::shape;
 use crate::run::steps;
 use crate::walk;
 use stored::answers::Opened;
@@ -62,8 +61,8 @@ fn open_on(a: &[u8], run: &mut [u8], e: &[u8]) -> Walk
     ensures { λ r. ⌜ (r ≡ openWalk (now (a .entry)) (now (run .entry)) (now (e .entry))) × ((r .moves ≤ suc maxSteps) × (now (run .exit) ≡ openRun (now (a .entry)) (now (run .entry)) (now (e .entry)))) ⌝ }
 {
     let first = first_label(a, e, hash_of(e));
-    let d = shape::depth(run);
-    let walked = walk::walk_from(a, rows::state_at(run, d), first);
+    let d = rows::depth_in(run);
+    let walked = walk::walk_from(a, rows::state_in(run, d), first);
     write(a, run, e, first, d, walked.state);
     walked
 }

@@ -24,6 +24,7 @@ ghost use lib.ListN.{length};
 ghost use Rattle.text.specs.Names.{nameForm};
 ghost use Rattle.text.specs.Order.{given};
 ghost use Rattle.stored.specs.Automaton.{automatonSize};
+ghost use Rattle.stored.specs.Run.{runSize};
 ghost use Rattle.stored.specs.Shape.{automatonShaped};
 ghost use Rattle.stored.specs.RunCalls.{depthOf, runShaped, rootClosed, nameConditions, openOthers, closeOthers};
 ghost use Rattle.stored.specs.Asking.{askRefusal, RowName};
@@ -52,17 +53,18 @@ fn length_refusal(e: &[u8]) -> u8
 
 // The root is closed.
 fn root_closed(run: &[u8], c: Counters) -> bool
+    requires { ⌜ runSize ≤ length (now run) ⌝ }
     ensures { λ r. ⌜ r ≡ rootClosed (now (run .entry)) c ⌝ }
 {
     if c.opens == 0 {
         return false;
     }
-    shape::depth(run) == 0
+    rows::depth_in(run) == 0
 }
 
 // An open's others, of a name of name form: 5, 10, 11, 7.
 pub fn open_others(run: &[u8], c: Counters, e: &[u8]) -> u8
-    requires { ⌜ nameForm (now e) ≡ true ⌝ }
+    requires { ⌜ (runSize ≤ length (now run)) × (nameForm (now e) ≡ true) ⌝ }
     ensures { λ r. ⌜ r ≡ given (openOthers (now (run .entry)) c (now (e .entry))) ⌝ }
 {
     let first = length_refusal(e);
@@ -72,7 +74,7 @@ pub fn open_others(run: &[u8], c: Counters, e: &[u8]) -> u8
     if root_closed(run, c) {
         return NOT_ONE_ROOT;
     }
-    if MAX_DEPTH <= shape::depth(run) {
+    if MAX_DEPTH <= rows::depth_in(run) {
         return TOO_DEEP;
     }
     if MAX_OPENS <= c.opens {
@@ -90,7 +92,7 @@ pub fn close_others(a: &[u8], run: &[u8], e: &[u8]) -> u8
     if first != 0 {
         return first;
     }
-    let d = shape::depth(run);
+    let d = rows::depth_in(run);
     if d == 0 {
         return NOT_ONE_ROOT;
     }

@@ -1,12 +1,10 @@
-// The row of a depth: a part from the middle of the run, which is lent to the functions that write it.
+// Bytes written where there is room for them, and the new row of an open.
 use crate::layout::MASK_SIZE;
 use crate::run::layout::ACTIVE_IN;
 use crate::run::layout::NAME_IN;
-use crate::run::layout::ROW_SIZE;
 use crate::run::layout::SEEN_IN;
 use crate::run::layout::STATE_IN;
 use text::names::MAX_NAME;
-use text::store::clear;
 ghost use mathlib.Core.Path.{_≡_};
 ghost use Prim.Native.Nat.{_+_, _≤_};
 ghost use mathlib.Core.List.{_∷_};
@@ -19,7 +17,7 @@ ghost use Rattle.stored.specs.Run.{rowSize};
 ghost use Rattle.stored.specs.Code.OpenSteps.{blankRow};
 
 // Zeros from `at` on.
-fn clear_from(row: &mut [u8], at: usize, n: usize)
+pub fn clear_from(row: &mut [u8], at: usize, n: usize)
     requires { ⌜ at + n ≤ length (now row) ⌝ }
     ensures { λ _. ⌜ now (row .exit) ≡ sets (now (row .entry)) at (replicate n 0) ⌝ }
 {
@@ -71,12 +69,4 @@ pub fn write_row(row: &mut [u8], e: &[u8], state: usize)
     clear_from(row, ACTIVE_IN, MASK_SIZE);
     put_word(row, STATE_IN, state);
     clear_from(row, SEEN_IN, MASK_SIZE);
-}
-
-// The row of a close: zeros.
-pub fn clear_row(row: &mut [u8])
-    requires { ⌜ length (now row) ≡ rowSize ⌝ }
-    ensures { λ _. ⌜ now (row .exit) ≡ replicate rowSize 0 ⌝ }
-{
-    clear(row, ROW_SIZE);
 }

@@ -1,61 +1,68 @@
 use native.Mathlib.Omega.{arith}
-use mathlib.Core.Path.{_∙_}
-use Rattle.stored.specs.Run.{rowSize, runSize}
-use Rattle.stored.proofs.Laws.Running.Rows.{row-width, closed}
+use Prim.Native.Nat.{_+_, _≤_}
+use lib.ListN.{length}
+use Rattle.stored.specs.Automaton.{maskSize}
+use Rattle.stored.specs.Run.{activeIn, seenIn, rowSize, runSize}
+use Rattle.stored.proofs.Laws.Running.Rows.{closed}
 use borrow.Author.Needs.{needs}
 use Rattle.machine.proofs.run.close.close_on.Statement.{statement}
 use Rattle.machine.proofs.run.close.close_on.Tie as tie
 
-depth-requires : tie.Need-depth-requires
-depth-requires c κs = search needs
+depth-in-requires : tie.Need-depth-in-requires
+depth-in-requires c κs = search needs
 
 row-at-requires : tie.Need-row-at-requires
 row-at-requires c κs = search needs
 
-add-end : tie.Need-add-end
-add-end c = search needs
+add-clear-from : tie.Need-add-clear-from
+add-clear-from c = search needs
 
-sub-clear-row : tie.Need-sub-clear-row
-sub-clear-row c = search needs
-
-part-clear-row-start : tie.Need-part-clear-row-start
-part-clear-row-start c = search needs
-
-part-clear-row-end : tie.Need-part-clear-row-end
+clear-from-requires : tie.Need-clear-from-requires
 unfolding rowSize runSize
-part-clear-row-end c = omega arith
+clear-from-requires c κs = omega (arith, c .before .before .before .before .before .pre .0, c .before .row-at .ensures .1)
 
-clear-row-requires : tie.Need-clear-row-requires
+clear-from-requires-2 : tie.Need-clear-from-requires-2
 unfolding rowSize runSize
-clear-row-requires c κs = row-width (c .before .before .before .before .before .args .run .now) (c .before .row-at .result) (omega arith)
+clear-from-requires-2 c κs = omega (arith, c .before .before .before .before .before .before .before .before .before .pre .0, c .before .before .before .before .before .row-at .ensures .1, c .before .before .before .clear-from .kept)
 
-sub-put16 : tie.Need-sub-put16
-sub-put16 c = search needs
+sub-put-word : tie.Need-sub-put-word
+sub-put-word c = search needs
 
-put16-requires : tie.Need-put16-requires
-put16-requires c κs = search needs
+put-word-requires : tie.Need-put-word-requires
+unfolding runSize
+put-word-requires c κs = omega (arith, c .before .before .before .before .before .before .before .before .before .before .before .before .before .pre .0, c .before .before .before .before .before .before .before .clear-from .kept, c .before .before .before .clear-from2 .kept)
+
+add-clear-from-2 : tie.Need-add-clear-from-2
+add-clear-from-2 c = search needs
+
+clear-from-requires-3 : tie.Need-clear-from-requires-3
+unfolding rowSize runSize
+clear-from-requires-3 c κs = omega (arith, c .before .before .before .before .before .before .before .before .before .before .before .before .before .before .before .before .before .pre .0, c .before .before .before .before .before .before .before .before .before .before .before .before .before .row-at .ensures .1, c .before .before .before .before .before .before .before .before .before .before .before .clear-from .kept, c .before .before .before .before .before .before .before .clear-from2 .kept, c .before .before .before .put-word .kept)
 
 same-length : tie.Need-same-length
 same-length c = search needs
 
 returns : tie.Need-returns
-unfolding rowSize
-returns c = let b = c .before .before .before .before .before .before .before .before in
-    let run = b .before .before .before .before .args .run .now in
-    c .before .before .put16 .ensures ∙ closed run _ (b .before .depth .result) (b .row-at .result) (b .before .depth .ensures .0) (b .row-at .ensures .0) (c .before .before .before .before .before .before .clear-row .ensures)
+unfolding maskSize activeIn seenIn
+returns c = let b = c .before .before .before .before .before .before .before .before .before .before .before .before .before .before .before .before .before .before .before .before in
+    let R = b .args .run .now in
+    let d = c .before .before .before .before .before .before .before .before .before .before .before .before .before .before .before .before .before .depth-in in
+    let r = c .before .before .before .before .before .before .before .before .before .before .before .before .before .before .before .before .row-at in
+    let fits : r .result + rowSize ≤ length (b .args .run .now) = omega (arith, b .pre .0, r .ensures .1) in
+    closed R (c .before .before .before .before .before .before .before .before .before .before .before .before .before .before .clear-from .last .0) (c .before .before .before .before .before .before .before .before .before .before .clear-from2 .last .0) (c .before .before .before .before .before .before .put-word .last .0) (c .before .before .clear-from3 .last .0) (d .result) (r .result) (d .ensures .0) (r .ensures .0) fits (c .before .before .before .before .before .before .before .before .before .before .before .before .before .before .clear-from .ensures) (c .before .before .before .before .before .before .before .before .before .before .clear-from2 .ensures) (c .before .before .before .before .before .before .put-word .ensures) (c .before .before .clear-from3 .ensures)
 
 pub close-on-spec : {M : Type 1} → statement M
 close-on-spec =
     tie.close
     (tie.spec
-    depth-requires
+    depth-in-requires
     row-at-requires
-    add-end
-    sub-clear-row
-    part-clear-row-start
-    part-clear-row-end
-    clear-row-requires
-    sub-put16
-    put16-requires
+    add-clear-from
+    clear-from-requires
+    clear-from-requires-2
+    sub-put-word
+    put-word-requires
+    add-clear-from-2
+    clear-from-requires-3
     same-length
     returns)

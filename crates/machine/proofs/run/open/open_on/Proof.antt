@@ -19,17 +19,17 @@ first-label-requires : tie.Need-first-label-requires
 first-label-requires c κs = let b = c .before .before .before .before in
     (openable (b .args .a .now) (b .pre .0 .shaped) (b .pre .0 .size) .walkable .searchable, (c .hash-of .ensures .0, b .pre .0 .size))
 
-depth-requires : tie.Need-depth-requires
-depth-requires c κs = search needs
+depth-in-requires : tie.Need-depth-in-requires
+depth-in-requires c κs = search needs
 
-state-at-requires : tie.Need-state-at-requires
-state-at-requires c κs = search needs
+state-in-requires : tie.Need-state-in-requires
+state-in-requires c κs = search needs
 
 walk-from-requires : tie.Need-walk-from-requires
 walk-from-requires c κs = let b = c .before .before .before .before .before .before .before .before .before in
-    let d = c .before .before .depth in
+    let d = c .before .before .depth-in in
     let s = run-shape (b .args .a .now) (b .args .run .now) (b .pre .0 .runIsShaped) in
-    let q : c .state-at .result ≤ suc (labelCount (b .args .a .now)) = rw (c .state-at .ensures .0) (s .state (d .result) (omega (arith, d .ensures .0))) in
+    let q : c .state-in .result ≤ suc (labelCount (b .args .a .now)) = rw (c .state-in .ensures .0) (s .state (d .result) (omega (arith, d .ensures .0))) in
     (openable (b .args .a .now) (b .pre .0 .shaped) (b .pre .0 .size) .walkable, (q, (c .before .before .before .before .first-label .ensures .1, b .pre .0 .size)))
 
 write-requires : tie.Need-write-requires
@@ -37,8 +37,8 @@ write-requires c κs = let b = c .before .before .before .before .before .before
     let A = b .args .a .now in
     let R = b .args .run .now in
     let E = b .args .e .now in
-    let d = c .before .before .before .before .depth in
-    let q = c .before .before .state-at in
+    let d = c .before .before .before .before .depth-in in
+    let q = c .before .before .state-in in
     let f = c .before .before .before .before .before .before .first-label in
     let at : q .result ≡ stateAt R (depthOf R) = q .ensures .0 ∙ ap (λ (n : ℕ). stateAt R n) (d .ensures .0) in
     let w : c .before .walk-from .result ≡ openWalk A R E = c .before .walk-from .ensures .0 ∙ ap₂ (walkBy A) at (f .ensures .0) in (
@@ -54,8 +54,8 @@ returns c = let b = c .before .before .before .before .before .before .before .b
     let A = b .args .a .now in
     let R = b .args .run .now in
     let E = b .args .e .now in
-    let d = c .before .before .before .before .before .before .before .depth in
-    let q = c .before .before .before .before .before .state-at in
+    let d = c .before .before .before .before .before .before .before .depth-in in
+    let q = c .before .before .before .before .before .state-in in
     let w = c .before .before .before .before .walk-from in
     let f = c .before .before .before .before .before .before .before .before .before .first-label in
     let at : q .result ≡ stateAt R (depthOf R) = q .ensures .0 ∙ ap (λ (n : ℕ). stateAt R n) (d .ensures .0) in
@@ -70,8 +70,8 @@ open-on-spec =
     (tie.spec
     hash-of-requires
     first-label-requires
-    depth-requires
-    state-at-requires
+    depth-in-requires
+    state-in-requires
     walk-from-requires
     write-requires
     same-length

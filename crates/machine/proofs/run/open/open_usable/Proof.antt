@@ -17,7 +17,7 @@ use Rattle.machine.proofs.run.open.open_usable.Statement.{statement}
 use Rattle.machine.proofs.run.open.open_usable.Tie as tie
 
 open-others-requires : tie.Need-open-others-requires
-open-others-requires c κs = c .before .before .before .before .pre .1
+open-others-requires c κs = let p = c .before .before .before .before .pre in (p .0 .ready .runLength, p .1)
 
 same-length : tie.Need-same-length
 same-length c = search needs

@@ -22,23 +22,23 @@ unfolding given first
 returns-2 c = let b = c .before .before .before .before .before .before .args in
     rw (open-named (b .run .now) (b .c) (b .e .now) (sym (c .before .before .before .length-refusal .ensures) ∙ c .before .before .if1 .left), sym (c .before .root-closed .ensures) ∙ c .if2 .taken)
 
-depth-requires : tie.Need-depth-requires
-depth-requires c κs = search needs
+depth-in-requires : tie.Need-depth-in-requires
+depth-in-requires c κs = search needs
 
 returns-3 : tie.Need-returns-3
 unfolding given first maxDepth
 returns-3 c = let b = c .before .before .before .before .before .before .before .before .args in
-    rw (open-named (b .run .now) (b .c) (b .e .now) (sym (c .before .before .before .before .before .length-refusal .ensures) ∙ c .before .before .before .before .if1 .left), sym (c .before .before .before .root-closed .ensures) ∙ c .before .before .if2 .left, ← c .before .depth .ensures .0, le-leb _ _ (c .if3 .taken))
+    rw (open-named (b .run .now) (b .c) (b .e .now) (sym (c .before .before .before .before .before .length-refusal .ensures) ∙ c .before .before .before .before .if1 .left), sym (c .before .before .before .root-closed .ensures) ∙ c .before .before .if2 .left, ← c .before .depth-in .ensures .0, le-leb _ _ (c .if3 .taken))
 
 returns-4 : tie.Need-returns-4
 unfolding given first maxDepth maxOpens
 returns-4 c = let b = c .before .before .before .before .before .before .before .before .before .before .args in
-    rw (open-named (b .run .now) (b .c) (b .e .now) (sym (c .before .before .before .before .before .before .before .length-refusal .ensures) ∙ c .before .before .before .before .before .before .if1 .left), sym (c .before .before .before .before .before .root-closed .ensures) ∙ c .before .before .before .before .if2 .left, ← c .before .before .before .depth .ensures .0, lt-leb _ _ (c .before .before .if3 .left), le-leb _ _ (c .if4 .taken))
+    rw (open-named (b .run .now) (b .c) (b .e .now) (sym (c .before .before .before .before .before .before .before .length-refusal .ensures) ∙ c .before .before .before .before .before .before .if1 .left), sym (c .before .before .before .before .before .root-closed .ensures) ∙ c .before .before .before .before .if2 .left, ← c .before .before .before .depth-in .ensures .0, lt-leb _ _ (c .before .before .if3 .left), le-leb _ _ (c .if4 .taken))
 
 returns-5 : tie.Need-returns-5
 unfolding given first maxDepth maxOpens
 returns-5 c = let b = c .before .before .before .before .before .before .before .before .before .before .args in
-    rw (open-named (b .run .now) (b .c) (b .e .now) (sym (c .before .before .before .before .before .before .before .length-refusal .ensures) ∙ c .before .before .before .before .before .before .if1 .left), sym (c .before .before .before .before .before .root-closed .ensures) ∙ c .before .before .before .before .if2 .left, ← c .before .before .before .depth .ensures .0, lt-leb _ _ (c .before .before .if3 .left), lt-leb _ _ (c .if4 .left))
+    rw (open-named (b .run .now) (b .c) (b .e .now) (sym (c .before .before .before .before .before .before .before .length-refusal .ensures) ∙ c .before .before .before .before .before .before .if1 .left), sym (c .before .before .before .before .before .root-closed .ensures) ∙ c .before .before .before .before .if2 .left, ← c .before .before .before .depth-in .ensures .0, lt-leb _ _ (c .before .before .if3 .left), lt-leb _ _ (c .if4 .left))
 
 pub open-others-spec : {M : Type 1} → statement M
 open-others-spec =
@@ -48,7 +48,7 @@ open-others-spec =
     returns
     root-closed-requires
     returns-2
-    depth-requires
+    depth-in-requires
     returns-3
     returns-4
     returns-5)
