@@ -16,10 +16,10 @@ use crate::run::row::put;
 use crate::run::rows;
 use notation::layout::STEP_COUNT_AT;
 ghost use mathlib.Core.Path.{_≡_};
-ghost use mathlib.Core.Bool.{_&&_, _||_};
+ghost use mathlib.Core.Bool.{not, _&&_, _||_};
 ghost use Prim.Native.Nat.{ℕ, suc, _+_, _*_, _≤_, _<_};
 ghost use lib.Dec.{eqb};
-ghost use lib.ListN.{length, getD};
+ghost use lib.ListN.{length, getD, replicate};
 ghost use lib.Seq.{sets};
 ghost use Rattle.model.specs.Limits.{maxDepth};
 ghost use Rattle.stored.specs.Automaton.{maskSize, anywhereMask, rootMask, lastMask, maskCount, automatonSize, bitBytes};
@@ -69,28 +69,32 @@ fn bits_byte(run: &[u8], base: usize, j: usize) -> usize
     byte(run, base + j)
 }
 
-// The byte before byte j of the bits from `base` on; zero before the first.
-fn byte_before(run: &[u8], base: usize, j: usize) -> usize
-    requires { ⌜ (base + maskSize ≤ runSize) × ((runSize ≤ length (now run)) × (j ≤ maskSize)) ⌝ }
+// The byte before byte j of the bits from `base` on. The edge clears the one before the first, which is another's: read with the others, it
+// needs no branch.
+fn byte_before(run: &[u8], base: usize, j: usize, edge: usize) -> usize
+    requires { ⌜ (0 < base) × ((base + maskSize ≤ runSize) × ((runSize ≤ length (now run)) × (j < maskSize))) ⌝ }
+    requires { ⌜ (edge < 256) × (bitOf edge 7 ≡ not (eqb j 0)) ⌝ }
     ensures { λ r. ⌜ (r < 256) × (bitOf r 7 ≡ shifted (bitIn (now (run .entry)) base) (8 * j)) ⌝ }
 {
-    if j == 0 { 0 } else { byte(run, base + (j - 1)) }
+    bits::both(byte(run, base + j - 1), edge)
 }
 
 // That byte of the active steps in the row of depth d.
-fn active_before(run: &[u8], d: usize, j: usize) -> usize
-    requires { ⌜ (runSize ≤ length (now run)) × ((d ≤ maxDepth) × (j ≤ maskSize)) ⌝ }
+fn active_before(run: &[u8], d: usize, j: usize, edge: usize) -> usize
+    requires { ⌜ (runSize ≤ length (now run)) × ((d ≤ maxDepth) × (j < maskSize)) ⌝ }
+    requires { ⌜ (edge < 256) × (bitOf edge 7 ≡ not (eqb j 0)) ⌝ }
     ensures { λ r. ⌜ (r < 256) × (bitOf r 7 ≡ shifted (activeAt (now (run .entry)) d) (8 * j)) ⌝ }
 {
-    byte_before(run, rows::row_at(d) + ACTIVE_IN, j)
+    byte_before(run, rows::row_at(d) + ACTIVE_IN, j, edge)
 }
 
 // That byte of the steps seen in the row of depth d.
-fn seen_before(run: &[u8], d: usize, j: usize) -> usize
-    requires { ⌜ (runSize ≤ length (now run)) × ((d ≤ maxDepth) × (j ≤ maskSize)) ⌝ }
+fn seen_before(run: &[u8], d: usize, j: usize, edge: usize) -> usize
+    requires { ⌜ (runSize ≤ length (now run)) × ((d ≤ maxDepth) × (j < maskSize)) ⌝ }
+    requires { ⌜ (edge < 256) × (bitOf edge 7 ≡ not (eqb j 0)) ⌝ }
     ensures { λ r. ⌜ (r < 256) × (bitOf r 7 ≡ shifted (seenAt (now (run .entry)) d) (8 * j)) ⌝ }
 {
-    byte_before(run, rows::row_at(d) + SEEN_IN, j)
+    byte_before(run, rows::row_at(d) + SEEN_IN, j, edge)
 }
 
 // Byte j of the bits from `base` on, each one step on.
@@ -162,6 +166,16 @@ fn match_byte(a: &[u8], run: &[u8], j: usize, active: usize) -> usize
     bits::either(bits_byte(run, MATCHES_AT, j), ended)
 }
 
+// The edge of a block: no byte is before the first of a row. A branch, so that the compiler makes the first block apart.
+fn cut_edge(edge: &mut [u8], from: usize)
+    requires { ⌜ now edge ≡ replicate 16 255 ⌝ }
+    ensures { λ _. ⌜ ((j : ℕ) → j < 16 → bitOf (getD (now (edge .exit)) j 0) 7 ≡ not (eqb (from + j) 0)) ⌝ }
+{
+    if from == 0 {
+        edge[0] = 0;
+    }
+}
+
 // A block of bits from byte `from` on. `taken` has the labels of the new element's name, and d is the depth before.
 fn flag_block(
     a: &[u8],
@@ -169,24 +183,25 @@ fn flag_block(
     taken: &[u8],
     d: usize,
     from: usize,
+    edge: &[u8],
     active: &mut [u8],
     seen: &mut [u8],
     matched: &mut [u8],
 )
     requires { ⌜ (automatonSize ≤ length (now a)) × ((runSize ≤ length (now run)) × ((maskSize ≤ length (now taken)) × ((d ≤ maxDepth) × (from + 16 ≤ maskSize)))) ⌝ }
     requires { ⌜ (16 ≤ length (now active)) × ((16 ≤ length (now seen)) × (16 ≤ length (now matched))) ⌝ }
+    requires { ⌜ (16 ≤ length (now edge)) × ((j : ℕ) → j < 16 → bitOf (getD (now edge) j 0) 7 ≡ not (eqb (from + j) 0)) ⌝ }
     ensures { λ _. ⌜ now (active .exit) ≡ sets (now (active .entry)) 0 (bitBytes (λ i. takenActive (now (a .entry)) (now (run .entry)) (now (taken .entry)) d (8 * from + i)) 16) ⌝ }
     ensures { λ _. ⌜ now (seen .exit) ≡ sets (now (seen .entry)) 0 (bitBytes (λ i. takenSeen (now (a .entry)) (now (run .entry)) (now (taken .entry)) d (8 * from + i)) 16) ⌝ }
     ensures { λ _. ⌜ now (matched .exit) ≡ sets (now (matched .entry)) 0 (bitBytes (λ i. takenMatched (now (a .entry)) (now (run .entry)) (now (taken .entry)) d (8 * from + i)) 16) ⌝ }
 {
-    let mut x = active_before(run, d, from);
-    let mut y = seen_before(run, d, from);
     let mut j = 0;
     while j < 16 {
         let i = from + j;
+        let mask = byte(edge, j);
+        let x = active_before(run, d, i, mask);
+        let y = seen_before(run, d, i, mask);
         let here = active_byte(a, run, taken, d, i, x, y);
-        x = active_before(run, d, i + 1);
-        y = seen_before(run, d, i + 1);
         active[j] = narrow(here);
         seen[j] = narrow(seen_byte(run, d, i, here));
         matched[j] = narrow(match_byte(a, run, i, here));
@@ -202,7 +217,19 @@ fn store_block(a: &[u8], run: &mut [u8], taken: &[u8], d: usize, from: usize)
     let mut active = [0; 16];
     let mut seen = [0; 16];
     let mut matched = [0; 16];
-    flag_block(a, run, taken, d, from, &mut active, &mut seen, &mut matched);
+    let mut edge = [255; 16];
+    cut_edge(&mut edge, from);
+    flag_block(
+        a,
+        run,
+        taken,
+        d,
+        from,
+        &edge,
+        &mut active,
+        &mut seen,
+        &mut matched,
+    );
     let at = rows::row_at(d + 1);
     put(run, at + ACTIVE_IN + from, &active);
     put(run, at + SEEN_IN + from, &seen);

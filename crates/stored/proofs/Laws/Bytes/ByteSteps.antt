@@ -1,10 +1,12 @@
 -- Steps 8 j to 8 j + 7 are byte j of a row.
 use Prim.Native.Nat.{ℕ, zero, suc, _+_, _*_, _-_, _/_, _%_, _<_}
-use mathlib.Core.Path.{_≡_, refl}
-use mathlib.Core.Bool.{Bool, false, _&&_, _||_}
+use mathlib.Core.Path.{_≡_, refl, sym, _∙_, ap}
+use mathlib.Core.Bool.{Bool, true, false, not, _&&_, _||_}
 use mathlib.Core.List.{List}
 use native.Mathlib.Omega.{arith}
-use lib.ListN.{getD}
+use borrow.Author.Tests.{ne-eqb}
+use lib.Dec.{eqb}
+use lib.ListN.{length, getD, set, replicate, getD-replicate}
 use Rattle.stored.specs.Bits.{bitOf, bitIn, bitAt, bitBefore}
 use Rattle.stored.specs.RunCalls.{shifted}
 
@@ -20,18 +22,53 @@ byte-at-bit bytes j k h =
     let r : (8 * j + k) % 8 ≡ k = omega arith in
     rw (q, r)
 
+-- the last bit of the byte before
+last-before : (bytes : List ℕ) (base j : ℕ) → bitOf (getD bytes (base + j) 0) 7 ≡ shifted (bitIn bytes base) (8 * suc j)
+last-before bytes base j =
+    let e : 8 * suc j ≡ suc (8 * j + 7) = omega arith in
+    rw e (byte-bit bytes base j 7 (omega arith))
+
+and-yes : (b : Bool) → (b && true) ≡ b
+and-yes true = refl
+and-yes false = refl
+
+and-no : (b : Bool) → (b && false) ≡ false
+and-no true = refl
+and-no false = refl
+
+-- where an edge clears what is before the first
+pub before-edge : (bytes : List ℕ) (base j : ℕ) (b m : Bool) → b ≡ (bitOf (getD bytes (base + j - 1) 0) 7 && m) → m ≡ not (eqb j 0) → b ≡ shifted (bitIn bytes base) (8 * j)
+before-edge bytes base zero b m p q = p ∙ ap (λ (x : Bool). bitOf (getD bytes (base + 0 - 1) 0) 7 && x) q ∙ and-no (bitOf (getD bytes (base + 0 - 1) 0) 7)
+before-edge bytes base (suc j) b m p q =
+    let at : base + suc j - 1 ≡ base + j = omega arith in
+    p
+    ∙ ap (λ (x : Bool). bitOf (getD bytes (base + suc j - 1) 0) 7 && x) (q ∙ ap not (ne-eqb (suc j) 0 (λ z. absurd (omega arith))))
+    ∙ and-yes (bitOf (getD bytes (base + suc j - 1) 0) 7)
+    ∙ ap (λ (n : ℕ). bitOf (getD bytes n 0) 7) at
+    ∙ last-before bytes base j
+
+-- the edge of a block
+all-bits : bitOf 255 7 ≡ true
+unfolding bitOf
+all-bits = refl
+
 no-bit : bitOf 0 7 ≡ false
 unfolding bitOf
 no-bit = refl
 
--- the last bit of the byte before
-pub last-before-none : (f : ℕ → Bool) (j : ℕ) → j ≡ 0 → bitOf 0 7 ≡ shifted f (8 * j)
-last-before-none f j e = rw e no-bit
+behind-edge : (from j : ℕ) → bitOf 255 7 ≡ not (eqb (from + suc j) 0)
+behind-edge from j = all-bits ∙ ap not (sym (ne-eqb (from + suc j) 0 (λ z. absurd (omega arith))))
 
-pub last-before : (bytes : List ℕ) (base j : ℕ) → (j ≡ 0 → ⊥) → bitOf (getD bytes (base + (j - 1)) 0) 7 ≡ shifted (bitIn bytes base) (8 * j)
-last-before bytes base j z =
-    let e : 8 * j ≡ suc (8 * (j - 1) + 7) = omega arith in
-    rw e (byte-bit bytes base (j - 1) 7 (omega arith))
+pub edge-room : (edge : List ℕ) → edge ≡ replicate 16 255 → 0 < length edge
+edge-room edge e = rw e (omega arith)
+
+pub edge-cut : (edge : List ℕ) (from : ℕ) → edge ≡ replicate 16 255 → from ≡ 0 → (j : ℕ) → j < 16 → bitOf (getD (set edge 0 0) j 0) 7 ≡ not (eqb (from + j) 0)
+edge-cut edge from e z zero h = rw (e, z) no-bit
+edge-cut edge from e z (suc j) h = rw e (ap (λ (n : ℕ). bitOf n 7) (getD-replicate 15 j 255 0 (omega arith)) ∙ behind-edge from j)
+
+pub edge-kept : (edge : List ℕ) (from : ℕ) → edge ≡ replicate 16 255 → (from ≡ 0 → ⊥) → (j : ℕ) → j < 16 → bitOf (getD edge j 0) 7 ≡ not (eqb (from + j) 0)
+edge-kept edge from e z j h =
+    rw e (ap (λ (n : ℕ). bitOf n 7) (getD-replicate 16 j 255 0 h) ∙ all-bits ∙ ap not (sym (ne-eqb (from + j) 0 (λ k. absurd (omega (arith, z))))))
 
 pub shifted-bit : (bytes : List ℕ) (base j before k : ℕ) → k < 8 → bitOf before 7 ≡ shifted (bitIn bytes base) (8 * j)
     → bitBefore (getD bytes (base + j) 0) before k ≡ shifted (bitIn bytes base) (8 * j + k)

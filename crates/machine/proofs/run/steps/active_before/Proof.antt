@@ -18,7 +18,7 @@ add-byte-before c = search needs
 byte-before-requires : tie.Need-byte-before-requires
 unfolding rowSize runSize maskSize
 byte-before-requires c κs = let b = c .before .before in
-    (omega arith, (b .pre .0, b .pre .1 .1))
+    ((omega arith, (omega arith, (b .pre .0 .0, b .pre .0 .1 .1))), b .pre .1)
 
 returns : tie.Need-returns
 unfolding activeIn

@@ -1,31 +1,32 @@
 use native.Mathlib.Omega.{arith}
+use mathlib.Core.Bool.{_&&_}
 use mathlib.Core.Path.{_∙_, ap}
-use Prim.Native.Nat.{ℕ}
+use Prim.Native.Nat.{ℕ, _-_}
 use Rattle.stored.specs.Automaton.{maskSize}
 use Rattle.stored.specs.Run.{runSize}
-use Rattle.stored.specs.Bits.{bitOf, bitIn}
-use Rattle.stored.proofs.Laws.Bytes.ByteSteps.{last-before-none, last-before}
+use Rattle.stored.specs.Bits.{bitOf}
+use Rattle.stored.proofs.Laws.Bytes.ByteSteps.{before-edge}
 use borrow.Author.Needs.{needs}
 use Rattle.machine.proofs.run.steps.byte_before.Statement.{statement}
 use Rattle.machine.proofs.run.steps.byte_before.Tie as tie
-
-sub-byte : tie.Need-sub-byte
-sub-byte c = search needs
 
 add-byte : tie.Need-add-byte
 unfolding maskSize runSize
 add-byte c = omega arith
 
+sub-byte : tie.Need-sub-byte
+sub-byte c = search needs
+
 byte-requires : tie.Need-byte-requires
 byte-requires c κs = search needs
 
-returns : tie.Need-returns
-returns c = let a = c .before .before .args in
-    (omega arith, last-before-none (bitIn (a .run .now) (a .base)) (a .j) (c .if1 .taken))
+both-requires : tie.Need-both-requires
+both-requires c κs = search needs
 
-returns-2 : tie.Need-returns-2
-returns-2 c = let a = c .before .before .before .args in
-    (c .byte .ensures .1, ap (λ (b : ℕ). bitOf b 7) (c .byte .ensures .0) ∙ last-before (a .run .now) (a .base) (a .j) (c .before .if1 .left))
+returns : tie.Need-returns
+returns c = let b = c .before .before .before in
+    let a = b .args in
+    (c .both .ensures .0, before-edge (a .run .now) (a .base) (a .j) (bitOf (c .both .result) 7) (bitOf (a .edge) 7) (c .both .ensures .1 7 ∙ ap (λ (n : ℕ). bitOf n 7 && bitOf (a .edge) 7) (c .before .byte .ensures .0)) (b .pre .1 .1))
 
 pub byte-before-spec : {M : Type 1} → statement M
-byte-before-spec = tie.close (tie.spec sub-byte add-byte byte-requires returns returns-2)
+byte-before-spec = tie.close (tie.spec add-byte sub-byte byte-requires both-requires returns)
