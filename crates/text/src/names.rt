@@ -70,7 +70,47 @@ pub fn class_of(b: u8) -> u8
     }
 }
 
-// A letter or `_`. By comparisons, small letters first: most bytes of names are those, and the table would be laid out for each name.
+// The name test (paper 01), by the table: of its first byte, and how far the name bytes go from an offset. The table is taken once for the scan.
+fn begins_class(b: u8) -> bool
+    ensures { λ r. ⌜ r ≡ beginsName b ⌝ }
+{
+    class_of(b) <= START
+}
+
+fn class_end(s: &[u8], at: usize) -> usize
+    ensures { λ r. ⌜ r ≡ at + length (front inName (drop at (now (s .entry)))) ⌝ }
+{
+    let classes = CLASSES;
+    let mut i = at;
+    while i < s.len() {
+        let b = s[i];
+        if 128 <= b {
+            return i;
+        }
+        let k = b as usize;
+        if DOT < classes[k] {
+            return i;
+        }
+        i += 1;
+    }
+    i
+}
+
+// Name form, length aside.
+pub fn name_form(s: &[u8]) -> bool
+    ensures { λ r. ⌜ r ≡ nameForm (now (s .entry)) ⌝ }
+{
+    if s.len() == 0 {
+        return false;
+    }
+    if !begins_class(s[0]) {
+        return false;
+    }
+    class_end(s, 1) == s.len()
+}
+
+// The same for readers, who meet many names. A letter or `_`: by comparisons, small letters first, since most bytes of names are those and
+// the table would be laid out for each name.
 pub fn begins_name(b: u8) -> bool
     ensures { λ r. ⌜ r ≡ beginsName b ⌝ }
 {
@@ -103,19 +143,6 @@ pub fn in_name(b: u8) -> bool
         return false;
     }
     45 <= b
-}
-
-// Name form, length aside.
-pub fn name_form(s: &[u8]) -> bool
-    ensures { λ r. ⌜ r ≡ nameForm (now (s .entry)) ⌝ }
-{
-    if s.len() == 0 {
-        return false;
-    }
-    if !begins_name(s[0]) {
-        return false;
-    }
-    name_end(s, 1) == s.len()
 }
 
 // Where the name bytes that begin at an offset end.

@@ -10,8 +10,10 @@ use borrow.Author.Tests.{eq-eqb, ne-eqb, le-leb, lt-leb}
 use Rattle.text.specs.Lists.{every}
 use Rattle.text.specs.Names.{within, letter, digit, beginsName, inName, nameForm}
 use Rattle.text.specs.Read.{front}
+use Rattle.text.specs.Classes.{classOf, dotClass}
 use Rattle.text.proofs.Laws.Tests.{cases}
-use Rattle.text.proofs.Laws.Bytes.Table.{values, same-entries}
+use Rattle.text.proofs.Laws.Bytes.Table.{values, entry, same-entries}
+use Rattle.text.proofs.Laws.Bytes.Classes.{in-class, class-past}
 
 pub form-empty : (s : List ℕ) → length s ≡ 0 → nameForm s ≡ false
 unfolding nameForm
@@ -39,6 +41,21 @@ form-run [] h e = absurd (omega arith)
 form-run (b ∷ bs) h e =
     let one : 1 + length bs ≡ suc (length bs) = omega arith in
     rw e (all-run bs 1 ∙ ap (eqb (1 + length (front inName bs))) one)
+
+-- a byte past the table is of no name
+pub past-no : (b : ℕ) → 128 ≤ b → inName b ≡ false
+past-no b h = in-class b ∙ ap (λ (k : ℕ). leb k dotClass) (class-past b h)
+
+-- a byte of the table is a name byte by its entry
+module _ (t : List ℕ) (b : ℕ) where
+  by-entry : t ≡ values classOf 0 128 → b < 128 → inName b ≡ leb (getD t b 0) dotClass
+  by-entry e h = in-class b ∙ ap (λ (k : ℕ). leb k dotClass) (sym (ap (λ (u : List ℕ). getD u b 0) e ∙ entry classOf 0 128 b h))
+
+  pub entry-no : t ≡ values classOf 0 128 → b < 128 → dotClass < getD t b 0 → inName b ≡ false
+  entry-no e h l = by-entry e h ∙ lt-leb (getD t b 0) dotClass l
+
+  pub entry-yes : t ≡ values classOf 0 128 → b < 128 → getD t b 0 ≤ dotClass → inName b ≡ true
+  entry-yes e h l = by-entry e h ∙ le-leb (getD t b 0) dotClass l
 
 -- the tests of a byte, by the comparisons that the code makes
 module _ (b : ℕ) where

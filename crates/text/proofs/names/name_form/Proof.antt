@@ -10,28 +10,28 @@ use Rattle.text.proofs.names.name_form.Tie as tie
 returns : tie.Need-returns
 returns c = sym (form-empty _ (c .if1 .taken))
 
-shared-slice-read-begins-name : tie.Need-shared-slice-read-begins-name
-shared-slice-read-begins-name c = omega arith
+shared-slice-read-begins-class : tie.Need-shared-slice-read-begins-class
+shared-slice-read-begins-class c = omega arith
 
-begins-name-requires : tie.Need-begins-name-requires
-begins-name-requires c κs = search needs
+begins-class-requires : tie.Need-begins-class-requires
+begins-class-requires c κs = search needs
 
 returns-2 : tie.Need-returns-2
-returns-2 c = sym (form-no _ (sym (c .before .begins-name .ensures) ∙ not-true _ (c .if2 .taken)))
+returns-2 c = sym (form-no _ (sym (c .before .begins-class .ensures) ∙ not-true _ (c .if2 .taken)))
 
-name-end-requires : tie.Need-name-end-requires
-name-end-requires c κs = search needs
+class-end-requires : tie.Need-class-end-requires
+class-end-requires c κs = search needs
 
 returns-3 : tie.Need-returns-3
-returns-3 c = rw (c .name-end .ensures) (sym (form-run _ (omega arith) (sym (c .before .before .begins-name .ensures) ∙ not-false _ (c .before .if2 .left))))
+returns-3 c = rw (c .class-end .ensures) (sym (form-run _ (omega arith) (sym (c .before .before .begins-class .ensures) ∙ not-false _ (c .before .if2 .left))))
 
 pub name-form-spec : {M : Type 1} → statement M
 name-form-spec =
     tie.close
     (tie.spec
     returns
-    shared-slice-read-begins-name
-    begins-name-requires
+    shared-slice-read-begins-class
+    begins-class-requires
     returns-2
-    name-end-requires
+    class-end-requires
     returns-3)
