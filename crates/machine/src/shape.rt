@@ -123,16 +123,16 @@ fn chain_shaped(a: &[u8], l: usize, top: usize) -> bool
     ensures { λ r. ⌜ r ≡ chainShaped (now (a .entry)) l ⌝ }
 {
     let at = LINKS_AT + LINK_SIZE * l;
-    both(
-        later_place(a, l, word(a, at), top),
-        both(
-            later_place(a, l, word(a, at + OTHER_IN), top),
-            both(
-                later_place(a, l, word(a, at + FAR_IN), top),
-                word(a, at + FIRST_IN) <= top,
-            ),
-        ),
-    )
+    if !later_place(a, l, word(a, at), top) {
+        return false;
+    }
+    if !later_place(a, l, word(a, at + OTHER_IN), top) {
+        return false;
+    }
+    if !later_place(a, l, word(a, at + FAR_IN), top) {
+        return false;
+    }
+    word(a, at + FIRST_IN) <= top
 }
 
 // The length of the word of a state: of a label's, of `#` or of the empty word.
