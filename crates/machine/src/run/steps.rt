@@ -19,11 +19,11 @@ ghost use mathlib.Core.Path.{_≡_};
 ghost use mathlib.Core.Bool.{not, _&&_, _||_};
 ghost use Prim.Native.Nat.{ℕ, suc, _+_, _*_, _≤_, _<_};
 ghost use lib.Dec.{eqb};
-ghost use lib.ListN.{length, getD, replicate};
+ghost use lib.ListN.{length, getD};
 ghost use lib.Seq.{sets};
 ghost use Rattle.model.specs.Limits.{maxDepth};
 ghost use Rattle.stored.specs.Automaton.{maskSize, anywhereMask, rootMask, lastMask, maskCount, automatonSize, bitBytes};
-ghost use Rattle.stored.specs.Bits.{bitOf, bitIn};
+ghost use Rattle.stored.specs.Bits.{bitOf, bitAt, bitIn};
 ghost use Rattle.notation.specs.Limits.{maxPaths, maxSteps};
 ghost use Rattle.notation.specs.Reads.{stepCount};
 ghost use Rattle.stored.specs.Run.{rowAt, activeIn, seenIn, matchesAt, runSize};
@@ -167,69 +167,79 @@ fn match_byte(a: &[u8], run: &[u8], j: usize, active: usize) -> usize
 }
 
 // The edge of a block: no byte is before the first of a row. A branch, so that the compiler makes the first block apart.
-fn cut_edge(edge: &mut [u8], from: usize)
-    requires { ⌜ now edge ≡ replicate 16 255 ⌝ }
-    ensures { λ _. ⌜ ((j : ℕ) → j < 16 → bitOf (getD (now (edge .exit)) j 0) 7 ≡ not (eqb (from + j) 0)) ⌝ }
+fn edge_of(from: usize) -> [u8; 16]
+    ensures { λ r. ⌜ ((j : ℕ) → j < 16 → bitOf (getD r j 0) 7 ≡ not (eqb (from + j) 0)) ⌝ }
 {
+    let mut edge = [255; 16];
     if from == 0 {
         edge[0] = 0;
     }
+    edge
 }
 
-// A block of bits from byte `from` on. `taken` has the labels of the new element's name, and d is the depth before.
-fn flag_block(
+// A block of the active steps, from byte `from` on. `taken` has the labels of the new element's name, and d is the depth before. Blocks go
+// by value: the compiler then knows that they lie apart.
+fn active_block(
     a: &[u8],
     run: &[u8],
     taken: &[u8],
     d: usize,
     from: usize,
-    edge: &[u8],
-    active: &mut [u8],
-    seen: &mut [u8],
-    matched: &mut [u8],
-)
+    edge: [u8; 16],
+) -> [u8; 16]
     requires { ⌜ (automatonSize ≤ length (now a)) × ((runSize ≤ length (now run)) × ((maskSize ≤ length (now taken)) × ((d ≤ maxDepth) × (from + 16 ≤ maskSize)))) ⌝ }
-    requires { ⌜ (16 ≤ length (now active)) × ((16 ≤ length (now seen)) × (16 ≤ length (now matched))) ⌝ }
-    requires { ⌜ (16 ≤ length (now edge)) × ((j : ℕ) → j < 16 → bitOf (getD (now edge) j 0) 7 ≡ not (eqb (from + j) 0)) ⌝ }
-    ensures { λ _. ⌜ now (active .exit) ≡ sets (now (active .entry)) 0 (bitBytes (λ i. takenActive (now (a .entry)) (now (run .entry)) (now (taken .entry)) d (8 * from + i)) 16) ⌝ }
-    ensures { λ _. ⌜ now (seen .exit) ≡ sets (now (seen .entry)) 0 (bitBytes (λ i. takenSeen (now (a .entry)) (now (run .entry)) (now (taken .entry)) d (8 * from + i)) 16) ⌝ }
-    ensures { λ _. ⌜ now (matched .exit) ≡ sets (now (matched .entry)) 0 (bitBytes (λ i. takenMatched (now (a .entry)) (now (run .entry)) (now (taken .entry)) d (8 * from + i)) 16) ⌝ }
+    requires { ⌜ ((j : ℕ) → j < 16 → bitOf (getD edge j 0) 7 ≡ not (eqb (from + j) 0)) ⌝ }
+    ensures { λ r. ⌜ r ≡ bitBytes (λ i. takenActive (now (a .entry)) (now (run .entry)) (now (taken .entry)) d (8 * from + i)) 16 ⌝ }
 {
+    let mut out = [0; 16];
     let mut j = 0;
     while j < 16 {
         let i = from + j;
-        let mask = byte(edge, j);
+        let mask = edge[j] as usize;
         let x = active_before(run, d, i, mask);
         let y = seen_before(run, d, i, mask);
-        let here = active_byte(a, run, taken, d, i, x, y);
-        active[j] = narrow(here);
-        seen[j] = narrow(seen_byte(run, d, i, here));
-        matched[j] = narrow(match_byte(a, run, i, here));
+        out[j] = narrow(active_byte(a, run, taken, d, i, x, y));
         j += 1;
     }
+    out
 }
 
-// That block, stored into the new row, of depth d + 1, and into the matches.
+// That block of the steps seen.
+fn seen_block(run: &[u8], d: usize, from: usize, active: [u8; 16]) -> [u8; 16]
+    requires { ⌜ (runSize ≤ length (now run)) × ((d ≤ maxDepth) × (from + 16 ≤ maskSize)) ⌝ }
+    ensures { λ r. ⌜ r ≡ bitBytes (λ i. seenAt (now (run .entry)) d (8 * from + i) || bitAt active i) 16 ⌝ }
+{
+    let mut out = [0; 16];
+    let mut j = 0;
+    while j < 16 {
+        out[j] = narrow(seen_byte(run, d, from + j, active[j] as usize));
+        j += 1;
+    }
+    out
+}
+
+// That block of the matches.
+fn match_block(a: &[u8], run: &[u8], from: usize, active: [u8; 16]) -> [u8; 16]
+    requires { ⌜ (automatonSize ≤ length (now a)) × ((runSize ≤ length (now run)) × (from + 16 ≤ maskSize)) ⌝ }
+    ensures { λ r. ⌜ r ≡ bitBytes (λ i. matchedAt (now (run .entry)) (8 * from + i) || (bitAt active i && maskBit (now (a .entry)) lastMask (8 * from + i))) 16 ⌝ }
+{
+    let mut out = [0; 16];
+    let mut j = 0;
+    while j < 16 {
+        out[j] = narrow(match_byte(a, run, from + j, active[j] as usize));
+        j += 1;
+    }
+    out
+}
+
+// Those blocks, stored into the new row, of depth d + 1, and into the matches.
 fn store_block(a: &[u8], run: &mut [u8], taken: &[u8], d: usize, from: usize)
     requires { ⌜ (automatonSize ≤ length (now a)) × ((runSize ≤ length (now run)) × ((maskSize ≤ length (now taken)) × ((d < maxDepth) × (from + 16 ≤ maskSize)))) ⌝ }
     ensures { λ _. ⌜ now (run .exit) ≡ sets (sets (sets (now (run .entry)) (rowAt (suc d) + activeIn + from) (bitBytes (λ i. takenActive (now (a .entry)) (now (run .entry)) (now (taken .entry)) d (8 * from + i)) 16)) (rowAt (suc d) + seenIn + from) (bitBytes (λ i. takenSeen (now (a .entry)) (now (run .entry)) (now (taken .entry)) d (8 * from + i)) 16)) (matchesAt + from) (bitBytes (λ i. takenMatched (now (a .entry)) (now (run .entry)) (now (taken .entry)) d (8 * from + i)) 16) ⌝ }
 {
-    let mut active = [0; 16];
-    let mut seen = [0; 16];
-    let mut matched = [0; 16];
-    let mut edge = [255; 16];
-    cut_edge(&mut edge, from);
-    flag_block(
-        a,
-        run,
-        taken,
-        d,
-        from,
-        &edge,
-        &mut active,
-        &mut seen,
-        &mut matched,
-    );
+    let active = active_block(a, run, taken, d, from, edge_of(from));
+    let seen = seen_block(run, d, from, active);
+    let matched = match_block(a, run, from, active);
     let at = rows::row_at(d + 1);
     put(run, at + ACTIVE_IN + from, &active);
     put(run, at + SEEN_IN + from, &seen);

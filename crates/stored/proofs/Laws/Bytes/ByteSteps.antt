@@ -6,7 +6,7 @@ use mathlib.Core.List.{List}
 use native.Mathlib.Omega.{arith}
 use borrow.Author.Tests.{ne-eqb}
 use lib.Dec.{eqb}
-use lib.ListN.{length, getD, set, replicate, getD-replicate}
+use lib.ListN.{getD, set, replicate, getD-replicate}
 use Rattle.stored.specs.Bits.{bitOf, bitIn, bitAt, bitBefore}
 use Rattle.stored.specs.RunCalls.{shifted}
 
@@ -59,16 +59,13 @@ no-bit = refl
 behind-edge : (from j : ℕ) → bitOf 255 7 ≡ not (eqb (from + suc j) 0)
 behind-edge from j = all-bits ∙ ap not (sym (ne-eqb (from + suc j) 0 (λ z. absurd (omega arith))))
 
-pub edge-room : (edge : List ℕ) → edge ≡ replicate 16 255 → 0 < length edge
-edge-room edge e = rw e (omega arith)
+pub edge-cut : (from : ℕ) → from ≡ 0 → (j : ℕ) → j < 16 → bitOf (getD (set (replicate 16 255) 0 0) j 0) 7 ≡ not (eqb (from + j) 0)
+edge-cut from z zero h = rw z no-bit
+edge-cut from z (suc j) h = ap (λ (n : ℕ). bitOf n 7) (getD-replicate 15 j 255 0 (omega arith)) ∙ behind-edge from j
 
-pub edge-cut : (edge : List ℕ) (from : ℕ) → edge ≡ replicate 16 255 → from ≡ 0 → (j : ℕ) → j < 16 → bitOf (getD (set edge 0 0) j 0) 7 ≡ not (eqb (from + j) 0)
-edge-cut edge from e z zero h = rw (e, z) no-bit
-edge-cut edge from e z (suc j) h = rw e (ap (λ (n : ℕ). bitOf n 7) (getD-replicate 15 j 255 0 (omega arith)) ∙ behind-edge from j)
-
-pub edge-kept : (edge : List ℕ) (from : ℕ) → edge ≡ replicate 16 255 → (from ≡ 0 → ⊥) → (j : ℕ) → j < 16 → bitOf (getD edge j 0) 7 ≡ not (eqb (from + j) 0)
-edge-kept edge from e z j h =
-    rw e (ap (λ (n : ℕ). bitOf n 7) (getD-replicate 16 j 255 0 h) ∙ all-bits ∙ ap not (sym (ne-eqb (from + j) 0 (λ k. absurd (omega (arith, z))))))
+pub edge-kept : (from : ℕ) → (from ≡ 0 → ⊥) → (j : ℕ) → j < 16 → bitOf (getD (replicate 16 255) j 0) 7 ≡ not (eqb (from + j) 0)
+edge-kept from z j h =
+    ap (λ (n : ℕ). bitOf n 7) (getD-replicate 16 j 255 0 h) ∙ all-bits ∙ ap not (sym (ne-eqb (from + j) 0 (λ k. absurd (omega (arith, z)))))
 
 pub shifted-bit : (bytes : List ℕ) (base j before k : ℕ) → k < 8 → bitOf before 7 ≡ shifted (bitIn bytes base) (8 * j)
     → bitBefore (getD bytes (base + j) 0) before k ≡ shifted (bitIn bytes base) (8 * j + k)

@@ -1,7 +1,7 @@
 -- The blocks of bits that an open stores are those of its contract.
 use Prim.Native.Nat.{ℕ, suc, _+_, _*_, _/_, _%_, _≤_, _<_}
-use mathlib.Core.Path.{_≡_, refl, sym, _∙_, ap}
-use mathlib.Core.Bool.{Bool, false, _||_}
+use mathlib.Core.Path.{_≡_, refl, sym, _∙_, ap, ap₂}
+use mathlib.Core.Bool.{Bool, false, _&&_, _||_}
 use mathlib.Core.List.{List, [], _∷_, _++_, append-nil, append-assoc}
 use native.Mathlib.Omega.{arith}
 use native.Mathlib.Numerals.{add-one}
@@ -19,6 +19,7 @@ use Rattle.stored.specs.Code.OpenSteps.{takenActive, takenSeen, takenMat
 use Rattle.stored.proofs.Laws.Bytes.Beside.{put-before}
 use Rattle.stored.proofs.Laws.Bytes.Bits.{bits-bit}
 use Rattle.stored.proofs.Laws.Bytes.ByteBits.{packed-from}
+use Rattle.stored.proofs.Laws.Bytes.ByteSteps.{byte-at-bit}
 use Rattle.stored.proofs.Laws.Bytes.MaskRows.{bits-same, bits-none}
 use Rattle.stored.proofs.Laws.Bytes.Stores.{past}
 use Rattle.stored.proofs.Laws.Bytes.Tabulate.{tabulate-length}
@@ -29,35 +30,53 @@ use Rattle.stored.proofs.Laws.Running.Written.{sets-next}
 zero-bits : (n i : ℕ) → i < 8 * n → bitAt (replicate n 0) i ≡ false
 zero-bits n i h = ap (λ (l : List ℕ). bitAt l i) (sym (bits-none n)) ∙ bits-bit (λ k. false) n i h
 
--- one turn within a block: a byte more, from its bits
-pub none-flagged : (out : List ℕ) (f : ℕ → Bool) → out ≡ sets out 0 (bitBytes f 0)
+-- a block of bits is made in zeros, a byte more with each turn, from its bits
+abbrev pub made : (ℕ → Bool) → ℕ → List ℕ
+made f j = sets (replicate 16 0) 0 (bitBytes f j)
+
+pub none-made : (f : ℕ → Bool) → replicate 16 0 ≡ made f 0
 unfolding tabulate
-none-flagged out f = refl
+none-made f = refl
 
-pub one-flagged : (out out' : List ℕ) (f : ℕ → Bool) (from j x : ℕ) → out' ≡ sets out 0 (bitBytes (λ i. f (8 * from + i)) j) → x < 256 → ((k : ℕ) → k < 8 → bitOf x k ≡ f (8 * (from + j) + k))
-    → set out' j x ≡ sets out 0 (bitBytes (λ i. f (8 * from + i)) (j + 1))
+pub one-made : (out : List ℕ) (f : ℕ → Bool) (j x : ℕ) → out ≡ made f j → x < 256 → ((k : ℕ) → k < 8 → bitOf x k ≡ f (8 * j + k)) → set out j x ≡ made f (j + 1)
 unfolding tabulate
-one-flagged out out' f from j x is h b =
-    let g : ℕ → Bool = λ i. f (8 * from + i) in
-    let bits : (k : ℕ) → k < 8 → bitOf x k ≡ g (8 * j + k) = λ k l. b k l ∙ ap f (omega arith) in
-    rw (is, add-one j, ← packed-from x (λ k. g (8 * j + k)) h bits) (sets-next out 0 j (bitBytes g j) (byteOf g j ∷ []) (omega (arith, tabulate-length (byteOf g) j)))
+one-made out f j x is h bits = rw (is, add-one j, ← packed-from x (λ k. f (8 * j + k)) h bits) (sets-next (replicate 16 0) 0 j (bitBytes f j) (byteOf f j ∷ []) (omega (arith, tabulate-length (byteOf f) j)))
 
--- stored over bytes of the same size, a block is all of them
-pub all-flagged : (out : List ℕ) (f : ℕ → Bool) (from : ℕ) → length out ≡ 16 → sets out 0 (block f from) ≡ block f from
-all-flagged out f from e =
-    ap (λ (l : List ℕ). sets l 0 (block f from)) (sym (append-nil out))
-    ∙ sets-front out [] (block f from) (e ∙ sym (tabulate-length (byteOf (λ i. f (8 * from + i))) 16))
-    ∙ append-nil (block f from)
+pub all-made : (out : List ℕ) (f : ℕ → Bool) (j : ℕ) → out ≡ made f j → j ≡ 16 → out ≡ bitBytes f 16
+all-made out f j is e =
+    is
+    ∙ ap (made f) e
+    ∙ ap (λ (l : List ℕ). sets l 0 (bitBytes f 16)) (sym (append-nil (replicate 16 0)))
+    ∙ sets-front (replicate 16 0) [] (bitBytes f 16) (length-replicate {A = ℕ} 16 0 ∙ sym (tabulate-length (byteOf f) 16))
+    ∙ append-nil (bitBytes f 16)
 
--- three blocks of local arrays, stored one after the other
-pub block-put : (run run₁ run₂ run₃ x y z : List ℕ) (f g h : ℕ → Bool) (d from at : ℕ) → at ≡ rowAt (d + 1)
-    → x ≡ sets (replicate 16 0) 0 (block f from) → y ≡ sets (replicate 16 0) 0 (block g from) → z ≡ sets (replicate 16 0) 0 (block h from)
+-- the step of a bit in a block from byte `from` on, and its bits
+step-in : (from j k : ℕ) → 8 * (from + j) + k ≡ 8 * from + (8 * j + k)
+step-in from j k = omega arith
+
+pub active-in : (f : ℕ → Bool) (from j k : ℕ) (b : Bool) → b ≡ f (8 * (from + j) + k) → b ≡ f (8 * from + (8 * j + k))
+active-in f from j k b e = e ∙ ap f (step-in from j k)
+
+pub seen-in : (active : List ℕ) (s : ℕ → Bool) (from j k : ℕ) (b : Bool) → k < 8 → b ≡ (s (8 * (from + j) + k) || bitOf (getD active j 0) k) → b ≡ (s (8 * from + (8 * j + k)) || bitAt active (8 * j + k))
+seen-in active s from j k b h e = e ∙ ap₂ (λ (p q : Bool). p || q) (ap s (step-in from j k)) (byte-at-bit active j k h)
+
+pub match-in : (active : List ℕ) (s m : ℕ → Bool) (from j k : ℕ) (b : Bool) → k < 8 → b ≡ (s (8 * (from + j) + k) || (bitOf (getD active j 0) k && m (8 * (from + j) + k)))
+    → b ≡ (s (8 * from + (8 * j + k)) || (bitAt active (8 * j + k) && m (8 * from + (8 * j + k))))
+match-in active s m from j k b h e =
+    e ∙ ap₂ (λ (p q : Bool). p || q) (ap s (step-in from j k)) (ap₂ (λ (p q : Bool). p && q) (byte-at-bit active j k h) (ap m (step-in from j k)))
+
+-- three blocks, the later two made of the first, stored one after the other
+pub block-put : (run run₁ run₂ run₃ x y z : List ℕ) (f s t m : ℕ → Bool) (d from at : ℕ) → at ≡ rowAt (d + 1)
+    → x ≡ block f from → y ≡ bitBytes (λ i. s (8 * from + i) || bitAt x i) 16 → z ≡ bitBytes (λ i. t (8 * from + i) || (bitAt x i && m (8 * from + i))) 16
     → run₁ ≡ sets run (at + activeIn + from) x → run₂ ≡ sets run₁ (at + seenIn + from) y → run₃ ≡ sets run₂ (matchesAt + from) z
-    → run₃ ≡ sets (sets (sets run (rowAt (suc d) + activeIn + from) (block f from)) (rowAt (suc d) + seenIn + from) (block g from)) (matchesAt + from) (block h from)
-block-put run run₁ run₂ run₃ x y z f g h d from at e ex ey ez p q r =
-    let zeros = length-replicate {A = ℕ} 16 0 in
+    → run₃ ≡ sets (sets (sets run (rowAt (suc d) + activeIn + from) (block f from)) (rowAt (suc d) + seenIn + from) (block (λ i. s i || f i) from)) (matchesAt + from) (block (λ i. t i || (f i && m i)) from)
+block-put run run₁ run₂ run₃ x y z f s t m d from at e ex ey ez p q r =
     let row : at ≡ rowAt (suc d) = e ∙ ap rowAt (add-one d) in
-    r ∙ rw (q, p, ex ∙ all-flagged (replicate 16 0) f from zeros, ey ∙ all-flagged (replicate 16 0) g from zeros, ez ∙ all-flagged (replicate 16 0) h from zeros, row)
+    let bit : (i : ℕ) → i < 8 * 16 → bitAt x i ≡ f (8 * from + i) = λ i h. ap (λ (l : List ℕ). bitAt l i) ex ∙ bits-bit (λ k. f (8 * from + k)) 16 i h in
+    let seen : y ≡ block (λ i. s i || f i) from = ey ∙ bits-same (λ i. s (8 * from + i) || bitAt x i) (λ i. s (8 * from + i) || f (8 * from + i)) 16 (λ i h. ap (λ (b : Bool). s (8 * from + i) || b) (bit i h)) in
+    let matched : z ≡ block (λ i. t i || (f i && m i)) from = ez
+    ∙ bits-same (λ i. t (8 * from + i) || (bitAt x i && m (8 * from + i))) (λ i. t (8 * from + i) || (f (8 * from + i) && m (8 * from + i))) 16 (λ i h. ap (λ (b : Bool). t (8 * from + i) || (b && m (8 * from + i))) (bit i h)) in
+    r ∙ rw (q, p, seen, matched, ex, row)
 
 -- what is stored into zeros behind a front is filled up with zeros
 fill : (front rest vs : List ℕ) (at n : ℕ) → length front ≡ at → length vs ≤ n → sets (front ++ (replicate n 0 ++ rest)) at vs ≡ front ++ (padded n vs ++ rest)
