@@ -2,6 +2,7 @@
 ghost use mathlib.Core.Path.{_≡_};
 ghost use Prim.Native.Nat.{suc, _+_, _≤_, _<_};
 ghost use lib.ListN.{length};
+ghost use Rattle.notation.specs.Limits.{maxLabels};
 ghost use Rattle.notation.specs.Reads.{word16, labelCount};
 ghost use Rattle.stored.specs.Automaton.{automatonSize, linkEntryAt};
 ghost use Rattle.stored.specs.Tables.{sizeOf, failOf, gotoBy, walkBy};
@@ -15,7 +16,7 @@ use crate::layout::SIZE_IN;
 use notation::reads::word_at;
 use stored::walk::Walk;
 
-// A field of the links of label `l`, other than the first.
+// A field of the links of label `l`.
 pub fn link_field(a: &[u8], l: usize, field: usize) -> usize
     requires { ⌜ (l ≤ 65536) × (field ≤ 65536) ⌝ }
     ensures { λ r. ⌜ (r ≡ word16 (now (a .entry)) (linkEntryAt l + field)) × (r < 65536) ⌝ }
@@ -53,13 +54,13 @@ pub fn goto_state(a: &[u8], q: usize, first: usize) -> usize
 
 // The state of the failure move from state `q`.
 pub fn fail_of(a: &[u8], q: usize) -> usize
-    requires { ⌜ q ≤ 65536 ⌝ }
+    requires { ⌜ (q ≤ suc maxLabels) × (automatonSize ≤ length (now a)) ⌝ }
     ensures { λ r. ⌜ r ≡ failOf (now (a .entry)) q ⌝ }
 {
     if q < 2 {
         0
     } else {
-        link_field(a, q - 2, FAIL_IN)
+        word(a, LINKS_AT + LINK_SIZE * (q - 2) + FAIL_IN)
     }
 }
 

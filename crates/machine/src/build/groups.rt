@@ -1,6 +1,7 @@
 // Labels of one name whose steps stand in one byte of a mask, taken together.
 use crate::bits::with_bit;
 use crate::build::chains::label_count;
+use crate::labels::word;
 use crate::layout::BITS_IN;
 use crate::layout::FAR_IN;
 use crate::layout::LINK_SIZE;
@@ -79,7 +80,7 @@ fn group_label(part: &mut [u8], l: usize)
     ensures { λ _. ⌜ now (part .exit) ≡ grouped l (now (part .entry)) ⌝ }
 {
     let step = step_of(part, l);
-    let next = link_field(part, l, 0);
+    let next = word(part, LINKS_AT + LINK_SIZE * l);
     let byte = step / 8;
     let on = joins_byte(part, byte, next);
     let far = far_over(part, on, next);

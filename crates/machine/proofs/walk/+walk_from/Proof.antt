@@ -85,7 +85,7 @@ unfolding maxLabels
 walk-from-fail-of-requires t c κs = let a = c .before .before .before .before .args .a .now in
     let i : c .before .before .before .before .args .q ≤ suc (labelCount a) = c .before .before .before .before .pre .1 .1 .0 in
     let n : labelCount a ≤ maxLabels = c .before .before .before .before .pre .1 .0 .searchable .lookable .few in
-    omega arith
+    (omega arith, c .before .before .before .before .pre .1 .1 .1 .1)
 
 walk-from-walk-from-requires : (t : ℕ) → walk-from-lts.Need-walk-from-requires (
   goto-state-reads.Asked,

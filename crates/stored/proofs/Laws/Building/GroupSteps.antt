@@ -1,26 +1,25 @@
 -- A label's group from that of the next label of its name.
-use Prim.Native.Nat.{ℕ, zero, suc, _+_, _*_, _/_, _%_, _≤_, _<_}
+use Prim.Native.Nat.{ℕ, suc, _+_, _*_, _/_, _%_, _<_}
 use native.Mathlib.Omega.{arith}
 use mathlib.Core.Path.{_≡_, refl, sym, ap, ap₂, _∙_}
-use mathlib.Core.Bool.{Bool, true, false, _&&_, _||_}
-use mathlib.Core.Logic.{_⊎_, inl, inr}
+use mathlib.Core.Bool.{Bool, true, false, _&&_, _||_, or-false, and-false, or-comm}
+use mathlib.Core.Logic.{inl, inr}
 use mathlib.Core.List.{List, [], _∷_, _++_, List·Memᴰ, List·Memᴰ·head, List·Memᴰ·tail, List·Memᴰ·not-nil, List·Memᴰ·cases-cons, List·Memᴰ·append-cases}
-use borrow.Author.Tests.{eqb-true, eqb-false, eq-eqb, le-leb, lt-leb}
-use lib.Dec.{eqb, leb}
+use borrow.Author.Tests.{eqb-true, eq-eqb, le-leb, lt-leb}
+use lib.Dec.{eqb}
 use lib.ListN.{length}
 use Rattle.text.specs.Names.{Name}
 use Rattle.text.specs.Lists.{any}
-use Rattle.stored.specs.Automaton.{named, find, packed, byteOf, Mark, takes, reaches, Group, groupOf}
+use Rattle.stored.specs.Automaton.{named, find, packed, byteOf, Mark, takes, reaches, groupOf}
 use Rattle.stored.specs.Bits.{bitOf, withBit}
 use Rattle.text.proofs.Laws.Tests.{cases, clash, both, both-true}
 use Rattle.text.proofs.Laws.Lists.{any-is}
-use Rattle.model.proofs.Laws.Keywords.Words.{same-name, name-same}
+use Rattle.model.proofs.Laws.Keywords.Words.{name-same}
 use Rattle.stored.proofs.Laws.Bytes.Bits.{packed-small, packed-bit}
 use Rattle.stored.proofs.Laws.Bytes.ByteBits.{packed-from}
 use Rattle.stored.proofs.Laws.Bytes.Finding.{find-here, find-later, find-empty, find-none}
 use Rattle.stored.proofs.Laws.Bytes.WithBit.{with-bit, with-small}
 use Rattle.stored.proofs.Laws.Tables.Goto.{same-test}
-use Rattle.stored.proofs.Laws.Tables.Marked.{Rising}
 
 -- no label of these has the name
 abbrev None : Name → List Mark → Type 0
@@ -90,12 +89,6 @@ takes-first : (m : Mark) (later : List Mark) (i : ℕ) → takes (m .name) (m �
 unfolding takes any
 takes-first m later i = rw (name-same (m .name))
 
-or-swap : (x y : Bool) → (x || y) ≡ (y || x)
-or-swap true true = refl
-or-swap true false = refl
-or-swap false true = refl
-or-swap false false = refl
-
 module _ (k : ℕ) (m : Mark) where
   -- its own bit, where no later label of the name has a step in this byte
   own-bits : (later : List Mark) → ((x : Mark) → List·Memᴰ x later → named (m .name) (x .name) ≡ true → x .step / 8 ≡ m .step / 8 → ⊥)
@@ -107,10 +100,6 @@ module _ (k : ℕ) (m : Mark) where
           let i = 8 * (m .step / 8) + j in
           let z : takes (m .name) later i ≡ false = takes-not (m .name) i later (λ x h t q. f x h t (rw q (omega arith))) in
           takes-first m later i ∙ rw (z, bit-none j l) (or-false (eqb (m .step) i))
-        where
-          or-false : (b : Bool) → (b || false) ≡ b
-          or-false true = refl
-          or-false false = refl
 
   -- the last label of its name
   pub last-far : (later : List Mark) → None (m .name) later → groupOf k m later .far ≡ 0
@@ -138,10 +127,6 @@ module _ (k : ℕ) (m : Mark) where
       joined-far =
           let no : reaches (m .name) (suc (m .step / 8)) y ≡ false = rw (lt-leb (suc (m .step / 8)) (y .step / 8) (omega arith)) (and-false (named (m .name) (y .name))) in
           far-past ∙ find-later (reaches (m .name) (suc (m .step / 8))) (suc r) y after no ∙ rw (same, on)
-        where
-          and-false : (b : Bool) → (b && false) ≡ false
-          and-false true = refl
-          and-false false = refl
 
       pub joined-bits : groupOf k m later .bits ≡ withBit (groupOf r y after .bits % 256) (m .step % 8) + 256 * (m .step / 8)
       joined-bits = ap (λ (n : ℕ). n + 256 * (m .step / 8)) (with-step (takes (m .name) (m ∷ later)) (groupOf r y after .bits % 256) (m .step) (omega arith) bit-at)
@@ -156,7 +141,7 @@ module _ (k : ℕ) (m : Mark) where
           bit-at j l =
               let i = 8 * (m .step / 8) + j in
               takes-first m later i ∙ rw (low, packed-bit (λ j. takes (m .name) (y ∷ after) (8 * (m .step / 8) + j)) j l, takes-past (m .name) i before (y ∷ after) others)
-              (or-swap (eqb (m .step) i) (takes (m .name) (y ∷ after) i))
+              (or-comm (eqb (m .step) i) (takes (m .name) (y ∷ after) i))
 
     -- in a later byte: a group of its own
     module _ (off : m .step / 8 < y .step / 8) (rise : (x : Mark) → List·Memᴰ x after → y .step < x .step) where

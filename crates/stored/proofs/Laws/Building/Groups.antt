@@ -3,19 +3,17 @@ use Prim.Native.Nat.{ℕ, zero, suc, _+_, _*_, _/_, _%_, _≤_, _<_}
 use native.Mathlib.Nat.{le-refl}
 use native.Mathlib.Omega.{arith}
 use mathlib.Core.Path.{_≡_, refl, sym, ap, ap₂, _∙_}
-use mathlib.Core.Bool.{Bool, true, false}
-use mathlib.Core.List.{List, [], _∷_, _++_, map, List·Memᴰ, List·Memᴰ·head, Memᴰ·append-right}
-use borrow.Author.Tests.{eqb-true, eqb-false, eq-eqb, ne-eqb, ltb-true, ltb-false}
+use mathlib.Core.List.{List, [], _∷_, _++_, List·Memᴰ, List·Memᴰ·head, Memᴰ·append-right}
+use borrow.Author.Tests.{eqb-true, eqb-false, ltb-true, ltb-false}
 use lib.Dec.{eqb, ltb}
 use lib.ListN.{length, getD, set, drop, length-append, length-drop, length-set, List·getD-map}
-use lib.Seq.{sets, drop-drop, getD-drop, getD-append-seam, drop-append-add, getD-set-same, getD-set-other, set-set, ext-getD}
+use lib.Seq.{drop-drop, getD-drop, getD-append-seam, drop-append-add, getD-set-same, getD-set-other, ext-getD}
 use Rattle.text.specs.Names.{Name}
-use Rattle.text.specs.Bytes.{le16}
 use Rattle.notation.specs.Limits.{maxPaths, maxSteps, maxLabels}
 use Rattle.notation.specs.Sets.{FolderSet}
 use Rattle.notation.specs.Reads.{labelStep}
 use Rattle.notation.proofs.Laws.Refused.Fitting.{Fitting}
-use Rattle.stored.specs.Automaton.{hashes, find, allSteps, allLabels, named, heads, Chain, chains, Mark, marks, Group, groupOf, groups, Link, link, assembled, allMasks, byteOf, takes, farIn, bitsIn, linkEntryAt}
+use Rattle.stored.specs.Automaton.{hashes, find, allSteps, allLabels, named, heads, Chain, chains, Mark, marks, Group, groupOf, groups, Link, link, assembled, allMasks, takes}
 use Rattle.stored.specs.Bits.{withBit}
 use Rattle.stored.specs.Tables.{nextAt, farAt, bitsAt}
 use Rattle.stored.specs.Code.Groups.{joins, farOver, bitsOver, groupStored, grouped, groupedBelow}

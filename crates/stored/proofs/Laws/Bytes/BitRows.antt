@@ -1,14 +1,13 @@
 -- Bits of a row of bytes: those of one byte joined to it.
 use Prim.Native.Nat.{ℕ, _/_, _%_, _<_}
-use mathlib.Core.Path.{_≡_, sym, _∙_}
-use mathlib.Core.Bool.{Bool, _&&_, _||_, or-false}
+use mathlib.Core.Path.{_≡_, sym}
+use mathlib.Core.Bool.{_&&_, _||_, or-false}
 use mathlib.Core.List.{List}
-use native.Mathlib.Omega.{arith}
 use lib.Bits.{bitOr}
 use lib.Dec.{eqb}
 use lib.ListN.{length, getD, set}
 use lib.Seq.{getD-set-same, getD-set-other}
-use borrow.Author.Tests.{eqb-true, eqb-false, eq-eqb, ne-eqb}
+use borrow.Author.Tests.{eqb-true, eqb-false}
 use Rattle.stored.specs.Bits.{bitOf, bitAt}
 use Rattle.text.proofs.Laws.Tests.{cases}
 use Rattle.stored.proofs.Laws.Bytes.ByteBits.{or-bit}

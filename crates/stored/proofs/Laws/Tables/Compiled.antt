@@ -7,16 +7,14 @@ use mathlib.Core.List.{List, [], _∷_, _++_, List·Memᴰ, List·Memᴰ·not-ni
 use native.Mathlib.Omega.{arith}
 use lib.ListN.{length, getD, length-append}
 use Rattle.text.specs.Names.{Name}
-use Rattle.notation.specs.Limits.{maxPaths, maxSteps, maxLabels}
+use Rattle.notation.specs.Limits.{maxPaths, maxSteps}
 use Rattle.notation.specs.Sets.{child, descendant, label, star, step, Path, FolderSet}
 use Rattle.notation.specs.Form.{pathsOf, stepsOf}
 use Rattle.notation.specs.Layout.{setPart}
-use Rattle.notation.specs.Reads.{labelAt, labelStep}
+use Rattle.notation.specs.Reads.{labelStep}
 use Rattle.notation.specs.Accepted.{Accepted}
-use Rattle.notation.specs.declared.reads.LabelAt.{LabelAt}
 use Rattle.notation.proofs.Laws.Refused.Fitting.{Fitting}
-use Rattle.notation.proofs.Laws.Stored.Reads.{paths-read, steps-read, labels-read, there}
-use Rattle.notation.proofs.Laws.Stored.ReadPaths.{label-read}
+use Rattle.notation.proofs.Laws.Stored.Reads.{paths-read, steps-read, labels-read}
 use Rattle.notation.proofs.Laws.Refused.AcceptedSet.{accepted-fits}
 use Rattle.model.specs.Words.{document, name, Word, before, labelWords, begins}
 use Rattle.model.specs.Prefix.{IsPrefix, failure}

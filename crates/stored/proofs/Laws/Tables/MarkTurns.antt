@@ -1,7 +1,7 @@
 -- The steps that the labels of a name mark, group by group: the bound of the definition is enough where the tables have the right shape.
 use Prim.Native.Nat.{ℕ, zero, suc, _-_, _≤_}
 use mathlib.Core.Path.{_≡_, refl, sym, _∙_, ap}
-use mathlib.Core.Bool.{Bool, true, false, _||_}
+use mathlib.Core.Bool.{Bool, true, false, _||_, or-assoc}
 use mathlib.Core.List.{List}
 use lib.ListN.{length}
 use Rattle.notation.specs.Limits.{maxLabels}
@@ -21,10 +21,6 @@ pub marked-none : (more : ℕ) (a : List ℕ) (i : ℕ) → markedFrom more a 0 
 unfolding markedFrom
 marked-none zero a i = refl
 marked-none (suc more) a i = refl
-
-or-assoc : (a b c : Bool) → ((a || b) || c) ≡ (a || (b || c))
-or-assoc true b c = refl
-or-assoc false b c = refl
 
 -- the bits of a label joined to those before, and those of the labels behind it
 pub flagged : (a : List ℕ) → Openable a → (k : ℕ) → (k ≡ 0 → ⊥) → k ≤ labelCount a → (i : ℕ) (b before : Bool) → b ≡ (before || hasBit a (k - 1) i)

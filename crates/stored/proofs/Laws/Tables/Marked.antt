@@ -1,9 +1,9 @@
 -- The groups of a name's labels have exactly the steps of those labels.
 use Prim.Native.Nat.{ℕ, zero, suc, _+_, _*_, _/_, _%_, _≤_, _<_}
-use mathlib.Core.Path.{_≡_, refl, sym, _∙_, ap, ap₂}
-use mathlib.Core.Bool.{Bool, true, false, _&&_, _||_}
-use mathlib.Core.Logic.{_⊎_, inl, inr}
-use mathlib.Core.List.{List, [], _∷_, map, List·Memᴰ, List·Memᴰ·head, List·Memᴰ·tail, List·Memᴰ·not-nil, List·Memᴰ·cases-cons}
+use mathlib.Core.Path.{_≡_, refl, sym, _∙_, ap}
+use mathlib.Core.Bool.{Bool, true, false, _&&_, _||_, and-true}
+use mathlib.Core.Logic.{inl, inr}
+use mathlib.Core.List.{List, [], _∷_, map, List·Memᴰ, List·Memᴰ·tail, List·Memᴰ·not-nil, List·Memᴰ·cases-cons}
 use native.Mathlib.Omega.{arith}
 use borrow.Author.Tests.{eqb-true, eqb-false, eq-eqb, leb-true, le-leb}
 use lib.Dec.{eqb, leb}
@@ -198,10 +198,6 @@ module _ (ms : List Mark) (a : List ℕ) (g : Grouped ms a) (rise : Rising ms) (
 -- from byte 0 on are all labels of a name
 reaches-all : (e : Name) (m : Mark) → reaches e 0 m ≡ named e (m .name)
 reaches-all e m = rw (le-leb 0 (m .step / 8) (omega arith)) (and-true (named e (m .name)))
-  where
-    and-true : (b : Bool) → (b && true) ≡ b
-    and-true true = refl
-    and-true false = refl
 
 abbrev pub names : List Mark → List Name
 names ms = map (λ (m : Mark). m .name) ms

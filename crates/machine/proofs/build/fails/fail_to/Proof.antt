@@ -37,7 +37,10 @@ first-label-requires : tie.Need-first-label-requires
 first-label-requires c κs = let p = c .before .before .before .before .before .pre in (p .0 .walkable .searchable, (c .hash-of .ensures .0, p .0 .room))
 
 fail-of-requires : tie.Need-fail-of-requires
-fail-of-requires c κs = search needs
+fail-of-requires c κs =
+    let b = c .before .before .before .before .before .before in
+    let g : Growing (b .args .a .now) = b .pre .0 in
+    (omega (arith, c .before .before .before .before .link-field .ensures .0, g .parent (b .args .l) (b .pre .1), g .walkable .searchable .lookable .few), g .room)
 
 walk-from-requires : tie.Need-walk-from-requires
 walk-from-requires c κs =

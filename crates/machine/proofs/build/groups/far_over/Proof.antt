@@ -7,7 +7,7 @@ use Rattle.stored.specs.Code.Groups.{farOver}
 use native.Mathlib.Omega.{arith}
 use borrow.Author.Needs.{needs}
 use Rattle.notation.specs.Limits.{maxLabels}
-use Rattle.stored.specs.Automaton.{linksAt, linkSize, automatonSize}
+use Rattle.stored.specs.Automaton.{linksAt, linkSize}
 use Rattle.machine.proofs.build.groups.far_over.Statement.{statement}
 use Rattle.machine.proofs.build.groups.far_over.Tie as tie
 

@@ -1,4 +1,3 @@
-use native.Mathlib.Nat.{add-zero}
 use mathlib.Core.Path.{_∙_}
 use Rattle.stored.specs.Code.Groups.{grouped}
 use native.Mathlib.Omega.{arith}
@@ -12,9 +11,17 @@ step-of-requires : tie.Need-step-of-requires
 unfolding maxLabels
 step-of-requires c κs = omega arith
 
-link-field-requires : tie.Need-link-field-requires
+mul-word : tie.Need-mul-word
 unfolding maxLabels
-link-field-requires c κs = (omega arith, omega arith)
+mul-word c = omega arith
+
+add-word : tie.Need-add-word
+unfolding maxLabels
+add-word c = omega arith
+
+word-requires : tie.Need-word-requires
+unfolding automatonSize maxLabels
+word-requires c κs = omega arith
 
 joins-byte-requires : tie.Need-joins-byte-requires
 joins-byte-requires c κs = search needs
@@ -45,14 +52,13 @@ same-length c = search needs
 returns : tie.Need-returns
 unfolding grouped linksAt linkSize
 returns c =
-    let next = rw add-zero at (c .before .before .before .before .before .before .before .before .before .before .before .link-field .ensures .0) in
     c .before .before .store-group .ensures
     ∙ rw (
       c .before .before .before .before .with-bit .ensures .0,
       c .before .before .before .before .before .bits-over .ensures .0,
       c .before .before .before .before .before .before .before .far-over .ensures .0,
       c .before .before .before .before .before .before .before .before .before .joins-byte .ensures,
-      next,
+      c .before .before .before .before .before .before .before .before .before .before .before .word .ensures .0,
       c .before .before .before .before .before .before .before .before .before .before .before .before .before .step-of .ensures .0,
     )
 
@@ -61,7 +67,9 @@ group-label-spec =
     tie.close
     (tie.spec
     step-of-requires
-    link-field-requires
+    mul-word
+    add-word
+    word-requires
     joins-byte-requires
     far-over-requires
     bits-over-requires

@@ -7,7 +7,6 @@ use Rattle.stored.specs.Code.Groups.{joins}
 use native.Mathlib.Omega.{arith}
 use borrow.Author.Needs.{needs}
 use Rattle.notation.specs.Limits.{maxLabels}
-use Rattle.stored.specs.Automaton.{linksAt, linkSize, automatonSize}
 use Rattle.machine.proofs.build.groups.joins_byte.Statement.{statement}
 use Rattle.machine.proofs.build.groups.joins_byte.Tie as tie
 

@@ -2,7 +2,6 @@ use Rattle.notation.specs.Layout.{labelsAt, labelSize}
 use native.Mathlib.Omega.{arith}
 use borrow.Author.Needs.{needs}
 use Rattle.notation.specs.Limits.{maxLabels}
-use Rattle.stored.specs.Automaton.{linksAt, linkSize, automatonSize}
 use Rattle.machine.proofs.build.groups.step_of.Statement.{statement}
 use Rattle.machine.proofs.build.groups.step_of.Tie as tie
 

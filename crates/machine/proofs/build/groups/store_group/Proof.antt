@@ -1,7 +1,7 @@
 use native.Mathlib.Omega.{arith}
 use borrow.Author.Needs.{needs}
 use Rattle.notation.specs.Limits.{maxLabels}
-use Rattle.stored.specs.Automaton.{linksAt, linkSize, automatonSize}
+use Rattle.stored.specs.Automaton.{linksAt, linkSize}
 use Rattle.machine.proofs.build.groups.store_group.Statement.{statement}
 use Rattle.machine.proofs.build.groups.store_group.Tie as tie
 
