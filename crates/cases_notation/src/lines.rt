@@ -91,7 +91,8 @@ fn name(s: &[u8]) {
 
 fn byte(b: u8) {
     say::count(b"byte ", b as usize);
-    say::yes_no(b": begins ", names::begins_name(b));
+    say::count(b": class ", names::class_of(b) as usize);
+    say::yes_no(b", begins ", names::begins_name(b));
     say::yes_no(b", inside ", names::in_name(b));
     say::bytes(b"\n");
 }

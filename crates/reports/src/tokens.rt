@@ -313,7 +313,7 @@ pub struct Span {
 }
 
 // Where the name of a tag stands.
-pub fn name_span(f: Found) -> Span
+fn name_span(f: Found) -> Span
     ensures { λ r. ⌜ (r .from ≡ nameFrom f) × (r .to ≡ nameTo f) ⌝ }
 {
     match f {
@@ -372,7 +372,7 @@ pub fn end_of(f: Found) -> usize
 }
 
 // A declaration.
-pub fn is_declaration(f: Found) -> bool
+fn is_declaration(f: Found) -> bool
     ensures { λ r. ⌜ r ≡ declares f ⌝ }
 {
     match f {

@@ -196,12 +196,12 @@ abbrev pub lastOfHash : ℕ → Name → List Name → Bool
 lastOfHash h n later = hasHash h n && isLast n later
 
 -- the number of the first name that passes the test, which sees the names behind it as well, counted from k; 0 for none
-unfoldable pub findLast : (Name → List Name → Bool) → ℕ → List Name → ℕ
-findLast test k [] = 0
-findLast test k (n ∷ later) = cond (test n later) k (findLast test (suc k) later)
+unfoldable pub findWithLater : (Name → List Name → Bool) → ℕ → List Name → ℕ
+findWithLater test k [] = 0
+findWithLater test k (n ∷ later) = cond (test n later) k (findWithLater test (suc k) later)
 
 abbrev pub headOf : List Name → ℕ → ℕ
-headOf names h = findLast (lastOfHash h) 1 names
+headOf names h = findWithLater (lastOfHash h) 1 names
 
 abbrev pub heads : List Name → List ℕ
 heads names = tabulate (headOf names) hashes
@@ -218,7 +218,7 @@ ifLast n later v = cond (isLast n later) v 0
 abbrev pub chainOf : List Name → ℕ → Name → List Name → Chain
 chainOf names k n later = record {
   next = find (named n) (suc (suc k)) later;
-  other = ifLast n later (findLast (lastOfHash (hash n)) (suc (suc k)) later);
+  other = ifLast n later (findWithLater (lastOfHash (hash n)) (suc (suc k)) later);
   first = ifLast n later (find (named n) 1 names);
 }
 
@@ -297,6 +297,7 @@ abbrev pub linkEntry : Link → List ℕ
 linkEntry k = le16 (k .next) ++ (le16 (k .parent) ++ (le16 (k .fail) ++ (le16 (k .size) ++ (le16 (k .other) ++ (le16 (k .first)
     ++ (le16 (k .far) ++ le16 (k .bits)))))))
 
+-- the three lists have one length, that of the labels (law)
 unfoldable pub linksOf : FolderSet → List Chain → List Group → List Word → List Link
 linksOf s [] gs words = []
 linksOf s (c ∷ cs) [] words = []

@@ -1,4 +1,4 @@
--- What an automaton's tables mean: the laws of the bytes that were built from a set. The calls on a run use these and nothing else of the
+-- What an automaton's tables mean: the laws of the bytes that were built from a set. The calls on a run use nothing else of the
 -- build.
 use Prim.Native.Nat.{ℕ, suc, _*_, _≤_, _<_}
 use mathlib.Core.Path.{_≡_}
@@ -19,12 +19,6 @@ use Rattle.stored.specs.Bits.{bitIn}
 use Rattle.stored.specs.Marked.{marked}
 use Rattle.stored.specs.declared.walk.Walk.{Walk}
 
--- label l is the test of this step, with l labels before it
-pub record LabelStep (s : FolderSet) (l owner : ℕ) : Type 0 where
-  pub below : owner < length (allSteps s)
-  pub test : testOf (getD (allSteps s) owner (step child star)) ≡ label (getD (allLabels s) l [])
-  pub nth : length (labelsOf (take owner (allSteps s))) ≡ l
-
 -- a walk as the tables give it
 abbrev pub storedWalk : FolderSet → Walked → Walk
 storedWalk s x = record { moves = movesOf x; state = stateOf s (arrivedAt x) }
@@ -33,7 +27,6 @@ pub record Compiled (s : FolderSet) (a : List ℕ) : Type 0 where
   pub paths : pathCount a ≡ length (pathsOf s)
   pub steps : stepCount a ≡ length (allSteps s)
   pub labels : labelCount a ≡ length (allLabels s)
-  pub owner : (l : ℕ) → l < length (allLabels s) → LabelStep s l (labelStep a l)
   -- goto finds the word with one symbol more exactly when it begins a keyword
   pub goes : (w : Word) → IsPrefix s w → (e : Name) → begins s (followedBy w e) ≡ true → goto a (stateOf s w) e ≡ stateOf s (followedBy w e)
   pub stops : (w : Word) → IsPrefix s w → (e : Name) → begins s (followedBy w e) ≡ false → goto a (stateOf s w) e ≡ 0

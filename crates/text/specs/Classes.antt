@@ -1,5 +1,5 @@
 -- Byte classes (paper 01: the constant table of 128 entries that gives each byte its class is this rule at 0 .. 127).
--- Every byte that a format of the paper treats specially has a class, so that a reader goes by one number.
+-- Every byte that a format of the paper treats specially has a class.
 use Prim.Native.Nat.{ℕ}
 use mathlib.Core.Bool.{cond}
 use mathlib.Core.List.{List, [], _∷_}

@@ -1,4 +1,4 @@
-// Byte classes, and the name test, which goes by them.
+// Byte classes, and the name test, which goes by them; readers test the same bytes by comparisons.
 use crate::truth::both;
 ghost use mathlib.Core.Path.{_≡_};
 ghost use Prim.Native.Nat.{_+_};

@@ -1,4 +1,4 @@
-// The bits of an open, a byte of eight steps at a time: the active steps, the steps seen, and the matches.
+// The bits of an open, a block of sixteen bytes at a time, eight steps a byte: the active steps, the steps seen, and the matches.
 use crate::bits;
 use crate::labels::word;
 use crate::layout::ANYWHERE_MASK;

@@ -87,9 +87,6 @@ pub decimal-value : (n : ℕ) → valueOf 0 (decimal n) ≡ n
 unfolding decimal
 decimal-value n = digits-value (suc n) n (omega arith)
 
-pub decimal-same : (m n : ℕ) → decimal m ≡ decimal n → m ≡ n
-decimal-same m n e = sym (decimal-value m) ∙ ap (valueOf 0) e ∙ decimal-value n
-
 pub decimal-small : (n : ℕ) → n < 10 → (48 + n) ∷ [] ≡ decimal n
 decimal-small n h = sym (decimal-one n h)
 

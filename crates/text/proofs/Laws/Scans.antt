@@ -13,14 +13,6 @@ use Rattle.text.specs.Lists.{every}
 use Rattle.text.specs.Read.{startsWith, front}
 
 module _ (ok : ℕ → Bool) (s : List ℕ) (i : ℕ) where
-  pub every-no : i < length s → ok (getD s i 0) ≡ false → every ok (drop i s) ≡ false
-  unfolding every
-  every-no h e = rw (drop-cons s i 0 h, e)
-
-  pub every-yes : i < length s → ok (getD s i 0) ≡ true → every ok (drop i s) ≡ every ok (drop (suc i) s)
-  unfolding every
-  every-yes h e = ap (every ok) (drop-cons s i 0 h) ∙ ap (λ (t : Bool). t && every ok (drop (suc i) s)) e
-
   pub every-at : i < length s → every ok (drop i s) ≡ (ok (getD s i 0) && every ok (drop (suc i) s))
   unfolding every
   every-at h = ap (every ok) (drop-cons s i 0 h)

@@ -20,10 +20,6 @@ module _ (b : ℕ) where
   unfolding listed
   listed-high h = rw (ne-eqb b 9 (λ e. omega arith), ne-eqb b 10 (λ e. omega arith), ne-eqb b 13 (λ e. omega arith), le-leb 32 b h)
 
-  pub listed-last : b < 32 → (b ≡ 9 → ⊥) → (b ≡ 10 → ⊥) → listed b ≡ eqb b 13
-  unfolding listed
-  listed-last l h k = rw (ne-eqb b 9 h, ne-eqb b 10 k, lt-leb 32 b l) (or-false (eqb b 13))
-
   pub text-last : (b ≡ 60 → ⊥) → (b ≡ 38 → ⊥) → inText b ≡ listed b
   unfolding inText
   text-last h k = rw (ne-eqb b 60 h, ne-eqb b 38 k) (and-true (listed b))

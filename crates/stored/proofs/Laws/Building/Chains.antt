@@ -17,7 +17,7 @@ use Rattle.notation.specs.Limits.{maxLabels}
 use Rattle.notation.specs.Sets.{FolderSet}
 use Rattle.notation.specs.Reads.{labelName}
 use Rattle.notation.proofs.Laws.Refused.Fitting.{Fitting}
-use Rattle.stored.specs.Automaton.{hashes, hash, find, findLast, allLabels, named, isLast, hasHash, lastOfHash, ifLast, tabulate, heads, Chain, chains, Link, link, assembled, allMasks, otherIn, firstIn, headEntryAt, linkEntryAt}
+use Rattle.stored.specs.Automaton.{hashes, hash, find, findWithLater, allLabels, named, isLast, hasHash, lastOfHash, ifLast, tabulate, heads, Chain, chains, Link, link, assembled, allMasks, otherIn, firstIn, headEntryAt, linkEntryAt}
 use Rattle.stored.specs.Tables.{headAt, otherAt, firstAt, lookUp}
 use Rattle.stored.specs.Usable.{After, Lookable}
 use Rattle.stored.specs.Code.Chains.{entered, preceded, linkedAt, linked, chained, Linkable}
@@ -33,7 +33,7 @@ use Rattle.stored.proofs.Laws.Tables.LookedUp.{ChainedFrom, LookedUp, m
 
 -- with only the labels from k on: the chain of a hash, and how label l is linked
 abbrev headFrom : List Name → ℕ → ℕ → ℕ
-headFrom names k h = findLast (lastOfHash h) (suc k) (drop k names)
+headFrom names k h = findWithLater (lastOfHash h) (suc k) (drop k names)
 
 abbrev headsFrom : List Name → ℕ → List ℕ
 headsFrom names k = tabulate (headFrom names k) hashes
@@ -122,7 +122,7 @@ module _ (names : List Name) (l : ℕ) (h : l < length names) where
   -- a new name
   module _ (none : any (named n) later ≡ false) where
     new-heads : set (headsFrom names (suc l)) (hash n) (suc l) ≡ headsFrom names l
-    unfolding findLast later
+    unfolding findWithLater later
     new-heads =
         tabulate-set (headFrom names (suc l)) (headFrom names l) hashes (hash n) (suc l) (hash-small n)
         (rw (split, none, eq-eqb (hash n) (hash n) refl))
@@ -321,11 +321,11 @@ module _ (s : FolderSet) (fit : Fitting s) (ms : List ℕ) (f : ℕ) (rest : Lis
 
   -- no label yet
   start : stage (length (allLabels s)) (replicate (length (allLabels s)) noLink) ≡ assembled s (replicate hashes 0) (replicate (length (allLabels s)) noLink) ms f ++ rest
-  unfolding stage findLast
+  unfolding stage findWithLater
   start =
       let names : List Name = allLabels s in
       let hs : headsFrom names (length names) ≡ replicate hashes 0 =
-      ap (λ (l : List Name). tabulate (λ h. findLast (lastOfHash h) (suc (length names)) l) hashes) (drop-length names) ∙ tabulate-constant hashes 0 in
+      ap (λ (l : List Name). tabulate (λ h. findWithLater (lastOfHash h) (suc (length names)) l) hashes) (drop-length names) ∙ tabulate-constant hashes 0 in
       rw hs
 
   blanks : LinksFrom (allLabels s) (length (allLabels s)) (replicate (length (allLabels s)) noLink)

@@ -1,4 +1,4 @@
--- What `find` finds, and `findLast`: the first element that passes, and 0 where none does.
+-- What `find` finds, and `findWithLater`: the first element that passes, and 0 where none does.
 use Prim.Native.Nat.{ℕ, suc, _+_, _≤_, _<_}
 use mathlib.Core.Path.{_≡_, refl, sym, _∙_, ap}
 use mathlib.Core.Bool.{Bool, true, false}
@@ -8,7 +8,7 @@ use native.Mathlib.Omega.{arith}
 use lib.ListN.{length, getD}
 use Rattle.text.specs.Names.{Name}
 use Rattle.text.specs.Lists.{any}
-use Rattle.stored.specs.Automaton.{find, findLast}
+use Rattle.stored.specs.Automaton.{find, findWithLater}
 use Rattle.text.proofs.Laws.Tests.{cases, clash}
 use Rattle.text.proofs.Laws.Lists.{is-any}
 
@@ -33,16 +33,16 @@ module _ {A : Type 0} (test : A → Bool) where
   find-missing k l h = find-none k l (λ x m. cases (test x) (λ t. clash (is-any test l m t) h) (λ t. t))
 
 module _ (test : Name → List Name → Bool) where
-  pub last-here : (k : ℕ) (n : Name) (later : List Name) → test n later ≡ true → findLast test k (n ∷ later) ≡ k
-  unfolding findLast
+  pub last-here : (k : ℕ) (n : Name) (later : List Name) → test n later ≡ true → findWithLater test k (n ∷ later) ≡ k
+  unfolding findWithLater
   last-here k n later h = rw h
 
-  pub last-later : (k : ℕ) (n : Name) (later : List Name) → test n later ≡ false → findLast test k (n ∷ later) ≡ findLast test (suc k) later
-  unfolding findLast
+  pub last-later : (k : ℕ) (n : Name) (later : List Name) → test n later ≡ false → findWithLater test k (n ∷ later) ≡ findWithLater test (suc k) later
+  unfolding findWithLater
   last-later k n later h = rw h
 
-  pub last-empty : (k : ℕ) → findLast test k [] ≡ 0
-  unfolding findLast
+  pub last-empty : (k : ℕ) → findWithLater test k [] ≡ 0
+  unfolding findWithLater
   last-empty k = refl
 
 -- what is found is 0 or one of the places
@@ -61,7 +61,7 @@ find-range test k (a ∷ l) =
     (λ h. rw (find-here test k a l h) (somewhere (omega arith) (omega arith)))
     (λ h. rw (find-later test k a l h) (ranged-later (find-range test (suc k) l)))
 
-pub last-range : (test : Name → List Name → Bool) (k : ℕ) (l : List Name) → Ranged k (length l) (findLast test k l)
+pub last-range : (test : Name → List Name → Bool) (k : ℕ) (l : List Name) → Ranged k (length l) (findWithLater test k l)
 last-range test k [] = nowhere (last-empty test k)
 last-range test k (n ∷ l) =
     cases (test n l)

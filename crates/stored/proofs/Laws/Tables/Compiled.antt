@@ -24,7 +24,7 @@ use Rattle.stored.specs.Automaton.{hashes, maskSize, masksAt, allSteps, 
 use Rattle.stored.specs.Tables.{startOf, sizeAt, farAt, bitsAt, sizeOf}
 use Rattle.stored.specs.Marked.{marked}
 use Rattle.stored.specs.Bits.{bitOf, bitIn}
-use Rattle.stored.specs.Compiled.{LabelStep, Compiled}
+use Rattle.stored.specs.Compiled.{Compiled}
 use Rattle.text.proofs.Laws.Tests.{cases}
 use Rattle.model.proofs.Laws.Keywords.Prefix.{longest-end}
 use Rattle.model.proofs.Laws.Keywords.Labels.{LabelWord}
@@ -41,7 +41,7 @@ use Rattle.stored.proofs.Laws.Building.Masked.{bit-in, byte-in, all-rol
 use Rattle.stored.proofs.Laws.Tables.LookedUp.{first-of}
 use Rattle.stored.proofs.Laws.Tables.Marked.{noMark, groupAt, Grouped, marks-rise, marks-names, label-mark, marked-first}
 use Rattle.stored.proofs.Laws.Tables.Searched.{behind-within}
-use Rattle.stored.proofs.Laws.Tables.SetReads.{label-owner}
+use Rattle.stored.proofs.Laws.Tables.SetReads.{LabelStep, label-owner}
 use Rattle.stored.proofs.Laws.Building.Groups.{far-behind, bits-small}
 
 -- a label's word has at most its path's steps and `#`
@@ -192,7 +192,6 @@ module _ (s : FolderSet) (fit : Fitting s) (rest : List ℕ) where
         paths = rw (x .1) (paths-read s fit (x .0));
         steps = rw (x .1) (steps-read s fit (x .0));
         labels = rw (x .1) (labels-read s fit (x .0));
-        owner = owner-here;
         goes = λ w p e h. goto-is s (automatonOf s ++ rest) automaton-linked w p e;
         stops = λ w p e h. goto-is s (automatonOf s ++ rest) automaton-linked w p e ∙ state-none s w e h;
         one = state-one s;

@@ -12,7 +12,7 @@ use Rattle.text.specs.Lists.{any}
 use Rattle.notation.specs.Limits.{maxLabels}
 use Rattle.notation.specs.Reads.{labelName}
 use Rattle.notation.specs.Sets.{FolderSet}
-use Rattle.stored.specs.Automaton.{hashes, hash, find, allLabels, hasHash, named, isLast, lastOfHash, findLast}
+use Rattle.stored.specs.Automaton.{hashes, hash, find, allLabels, hasHash, named, isLast, lastOfHash, findWithLater}
 use Rattle.stored.specs.Tables.{headAt, otherAt, lookFrom, lookUp, firstAfter, firstOf}
 use Rattle.text.proofs.Laws.Tests.{cases, clash, both, both-true}
 use Rattle.model.proofs.Laws.Keywords.Words.{same-name}
@@ -21,7 +21,7 @@ use Rattle.stored.proofs.Laws.Tables.Chained.{Chained, chainAt, hash-sm
 
 pub record ChainedFrom (names : List Name) (k : ℕ) (a : List ℕ) : Type 0 where
   pub few : length names ≤ maxLabels
-  pub head : (h : ℕ) → h < hashes → headAt a h ≡ findLast (lastOfHash h) (suc k) (drop k names)
+  pub head : (h : ℕ) → h < hashes → headAt a h ≡ findWithLater (lastOfHash h) (suc k) (drop k names)
   pub label : (l : ℕ) → k ≤ l → l < length names → labelName a l ≡ getD names l []
   pub other : (l : ℕ) → k ≤ l → l < length names → otherAt a l ≡ chainAt names l .other
 
@@ -65,7 +65,7 @@ module _ (names : List Name) (k : ℕ) (a : List ℕ) (c : ChainedFrom names k a
   passed j p h unlike (found r z i b n l) = found r z (omega arith) b n l
 
   along : (left j more : ℕ) → k ≤ j → left ≡ length names - j → left ≤ more
-      → LookedUp names j e (lookFrom more a e (findLast (lastOfHash (hash e)) (suc j) (drop j names)))
+      → LookedUp names j e (lookFrom more a e (findWithLater (lastOfHash (hash e)) (suc j) (drop j names)))
   along zero j more i size room =
       let d : drop j names ≡ [] = past-end names j (omega arith) in
       rw (d, last-empty (lastOfHash (hash e)) (suc j)) (missing (look-end more a e) (rw d (any-empty e)))
@@ -80,7 +80,7 @@ module _ (names : List Name) (k : ℕ) (a : List ℕ) (c : ChainedFrom names k a
       rw (last-here (lastOfHash (hash e)) (suc j) n later t)
       (cases (named e n)
       (λ q. let is : n ≡ e = same-name n e q in found j (look-here more a e j (rw (c .label j i h) q)) (omega arith) h is (rw is at (b .1)))
-      (λ q. let other : otherAt a j ≡ findLast (lastOfHash (hash e)) (suc (suc j)) later = c .other j i h ∙ rw (b .1, eqb-true (hash n) (hash e) (b .0)) in
+      (λ q. let other : otherAt a j ≡ findWithLater (lastOfHash (hash e)) (suc (suc j)) later = c .other j i h ∙ rw (b .1, eqb-true (hash n) (hash e) (b .0)) in
       rw (look-on more a e j (rw (c .label j i h) q), other) (passed j _ h (λ m. q) (along left (suc j) more (omega arith) (omega arith) (omega arith))))))
       (λ t. rw (last-later (lastOfHash (hash e)) (suc j) n later t)
       (passed j _ h (not-named e n later t) (along left (suc j) (suc more) (omega arith) (omega arith) (omega arith)))))

@@ -12,7 +12,7 @@ use lib.Seq.{drop-cons}
 use Rattle.text.specs.Names.{Name}
 use Rattle.text.specs.Lists.{any}
 use Rattle.notation.specs.Limits.{maxLabels}
-use Rattle.stored.specs.Compiled.{LabelStep}
+use Rattle.stored.proofs.Laws.Tables.SetReads.{LabelStep}
 use Rattle.notation.specs.Sets.{FolderSet, Test, label, star, Step, step, testOf}
 use Rattle.notation.specs.Form.{labelsOf}
 use Rattle.notation.specs.Reads.{isStar}

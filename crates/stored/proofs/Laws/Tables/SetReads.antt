@@ -3,10 +3,11 @@ use Prim.Native.Nat.{ℕ, _<_}
 use native.Mathlib.Omega.{arith}
 use mathlib.Core.Path.{_≡_, sym, ap, subst}
 use mathlib.Core.List.{List, [], _++_}
-use lib.ListN.{length, getD}
+use lib.ListN.{length, getD, take}
 use Rattle.notation.specs.Limits.{maxLabels}
 use Rattle.notation.specs.Print.{print}
-use Rattle.notation.specs.Sets.{FolderSet, axisOf, testOf}
+use Rattle.notation.specs.Sets.{label, FolderSet, axisOf, testOf}
+use Rattle.notation.specs.Form.{labelsOf}
 use Rattle.notation.specs.Layout.{setPart}
 use Rattle.notation.specs.Reads.{stepCount, labelCount, labelName, labelAt, labelStep, stepAt, isDescendant, isStar}
 use Rattle.notation.specs.declared.reads.LabelAt.{LabelAt}
@@ -17,8 +18,13 @@ use Rattle.notation.proofs.Laws.Stored.Reads.{steps-read, labels-read, there}
 use Rattle.notation.proofs.Laws.Stored.ReadSteps.{step-read}
 use Rattle.notation.proofs.Laws.Stored.ReadPaths.{LabelRead, label-read}
 use Rattle.stored.specs.Automaton.{Link, allSteps, allLabels, assembled}
-use Rattle.stored.specs.Compiled.{LabelStep}
 use Rattle.stored.proofs.Laws.Tables.Assembled.{after-set}
+
+-- label l is the test of this step, with l labels before it
+pub record LabelStep (s : FolderSet) (l owner : ℕ) : Type 0 where
+  pub below : owner < length (allSteps s)
+  pub test : testOf (getD (allSteps s) owner noStep) ≡ label (getD (allLabels s) l [])
+  pub nth : length (labelsOf (take owner (allSteps s))) ≡ l
 
 ownerIn : LabelAt → ℕ
 ownerIn (LabelAt.Label at size owner) = owner
