@@ -49,8 +49,8 @@ fn make(part: &mut [u8])
 }
 
 // Builds the automaton of a set's text. Answers 0, or the number of the refusal: 1 for a short buffer, then 2 to 7. A refusal changes
-// nothing. Two passes over the text, one over the buffer, one over the labels or
-// steps for each of links, groups, parents and masks, and one for each length of a word.
+// nothing. Two passes over the text, one over the buffer, one over the labels or steps for each of links, groups, parents and masks, and one over
+// the labels for each length of a word.
 pub fn build(text: &[u8], automaton: &mut [u8]) -> u8
     ensures { λ r. ⌜ Built (now (text .entry)) (now (automaton .entry)) r (now (automaton .exit)) ⌝ }
 {

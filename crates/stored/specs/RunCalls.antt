@@ -116,7 +116,7 @@ noCounters = record { opens = 0; closes = 0; moves = 0 }
 -- what an accepted open leaves
 
 -- bytes of a row of bits that an open makes; those behind are zero. How many is the program's choice: whole blocks of sixteen, enough for all
--- steps; of a built automaton no bit behind its steps is ever set
+-- steps; of a built automaton no bit behind its steps is ever set. The bound shows on no bytes that pass the shape test
 abbrev pub usedBytes : List ℕ → ℕ
 usedBytes a = min maskSize (16 * ((stepCount a + 127) / 128))
 

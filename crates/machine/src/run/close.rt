@@ -23,7 +23,7 @@ ghost use Rattle.stored.specs.Run.{runSize};
 ghost use Rattle.stored.specs.RunCalls.{depthOf, closeRun};
 
 // A close that is accepted: for callers that know the size and the depth of the run, and that an element is open. The row of the innermost
-// element is cleared part by part: each is small enough to be cleared in place.
+// element is cleared part by part, each small enough to be cleared in place; not in their order, or the compiler would join them to one call.
 fn close_on(run: &mut [u8])
     requires { ⌜ (runSize ≤ length (now run)) × ((0 < depthOf (now run)) × (depthOf (now run) ≤ maxDepth)) ⌝ }
     ensures { λ _. ⌜ now (run .exit) ≡ closeRun (now (run .entry)) ⌝ }

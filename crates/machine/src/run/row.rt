@@ -60,7 +60,8 @@ fn write_name(row: &mut [u8], e: &[u8])
     put(row, NAME_IN, &name);
 }
 
-// The new row of an open before its bits, all of it. The two rows of bits are cleared apart: each is small enough to be cleared in place.
+// The new row of an open before its bits, all of it. The two rows of bits are cleared apart, each small enough to be cleared in place, with the
+// state between them, or the compiler would join them to one call.
 pub fn write_row(row: &mut [u8], e: &[u8], state: usize)
     requires { ⌜ (length (now row) ≡ rowSize) × (length (now e) ≤ maxName) ⌝ }
     ensures { λ _. ⌜ now (row .exit) ≡ blankRow (now (e .entry)) state ⌝ }
