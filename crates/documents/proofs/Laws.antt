@@ -1,3 +1,4 @@
 pub mod Printed
 pub mod Read
 pub mod Trees
+pub mod Repeats

@@ -39,3 +39,6 @@ pub const NOT_FOUND: u8 = 13;
 
 // An automaton, a run or counters fail the shape test.
 pub const BAD_SHAPE: u8 = 14;
+
+// A tag has two attributes of the same name.
+pub const REPEATED_ATTRIBUTE: u8 = 15;

@@ -1,14 +1,14 @@
--- The numbers of the refusals: from 1 to 14, each that of one refusal only.
+-- The numbers of the refusals: from 1 to 15, each that of one refusal only.
 use Prim.Native.Nat.{ℕ, _≤_}
 use native.Mathlib.Omega.{arith}
 use mathlib.Core.Path.{_≡_, refl, sym, ap, _∙_}
 use mathlib.Core.List.{List, [], _∷_}
 use lib.ListN.{getD}
-use Rattle.text.specs.Refusals.{Refusal, shortBuffer, tooLarge, malformedSet, outOfOrder, nameTooLong, pathTooLong, overCapacity, invalidByte, syntaxError, notOneRoot, tooDeep, mismatchedClose, notFound, badShape, numberOf}
+use Rattle.text.specs.Refusals.{Refusal, shortBuffer, tooLarge, malformedSet, outOfOrder, nameTooLong, pathTooLong, overCapacity, invalidByte, syntaxError, notOneRoot, tooDeep, mismatchedClose, notFound, badShape, repeatedAttribute, numberOf}
 
 byNumber : List Refusal
 byNumber =
-    shortBuffer ∷ shortBuffer ∷ tooLarge ∷ malformedSet ∷ outOfOrder ∷ nameTooLong ∷ pathTooLong ∷ overCapacity ∷ invalidByte ∷ syntaxError ∷ notOneRoot ∷ tooDeep ∷ mismatchedClose ∷ notFound ∷ badShape ∷ []
+    shortBuffer ∷ shortBuffer ∷ tooLarge ∷ malformedSet ∷ outOfOrder ∷ nameTooLong ∷ pathTooLong ∷ overCapacity ∷ invalidByte ∷ syntaxError ∷ notOneRoot ∷ tooDeep ∷ mismatchedClose ∷ notFound ∷ badShape ∷ repeatedAttribute ∷ []
 
 number-back : (r : Refusal) → getD byNumber (numberOf r) shortBuffer ≡ r
 unfolding byNumber
@@ -26,11 +26,12 @@ number-back tooDeep = refl
 number-back mismatchedClose = refl
 number-back notFound = refl
 number-back badShape = refl
+number-back repeatedAttribute = refl
 
 pub one-refusal : (q r : Refusal) → numberOf q ≡ numberOf r → q ≡ r
 one-refusal q r e = sym (number-back q) ∙ ap (λ (n : ℕ). getD byNumber n shortBuffer) e ∙ number-back r
 
-pub number-within : (r : Refusal) → (1 ≤ numberOf r) × (numberOf r ≤ 14)
+pub number-within : (r : Refusal) → (1 ≤ numberOf r) × (numberOf r ≤ 15)
 number-within shortBuffer = (omega arith, omega arith)
 number-within tooLarge = (omega arith, omega arith)
 number-within malformedSet = (omega arith, omega arith)
@@ -45,6 +46,7 @@ number-within tooDeep = (omega arith, omega arith)
 number-within mismatchedClose = (omega arith, omega arith)
 number-within notFound = (omega arith, omega arith)
 number-within badShape = (omega arith, omega arith)
+number-within repeatedAttribute = (omega arith, omega arith)
 
 pub some-number : (r : Refusal) → numberOf r ≡ 0 → ⊥
 some-number r e = omega (arith, number-within r .0)
