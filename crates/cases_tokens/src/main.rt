@@ -1,5 +1,6 @@
 // Prints, for each case, its bytes, its tokens with the names of tags, and whether they are a run of tokens or not; then, for some bytes and
-// offsets, from where to where the name of the tag stands. A byte that does not print stands as `?`. d: declaration, c: comment, s: start tag, x: empty-element tag, e: end tag, t: text, b: blank text.
+// offsets, from where to where the name of the tag stands. A byte that does not print stands as `?`. d: declaration, c: comment, s: start tag, x: empty-element tag, ss and xx: one
+// that repeats the name of an attribute, e: end tag, t: text, b: blank text.
 use reports::tokens::Found;
 use reports::tokens::end_of;
 use reports::tokens::is_run;
@@ -25,6 +26,14 @@ fn put(s: &[u8]) {
     }
 }
 
+fn tag(twice: bool, once: &[u8], again: &[u8]) {
+    if twice {
+        io::write_all(1, again);
+    } else {
+        io::write_all(1, once);
+    }
+}
+
 fn letter(f: Found) {
     match f {
         Found::Nothing => {
@@ -40,15 +49,17 @@ fn letter(f: Found) {
             from: _,
             to: _,
             end: _,
+            twice,
         } => {
-            io::write_all(1, b" s:");
+            tag(twice, b" s:", b" ss:");
         }
         Found::Empty {
             from: _,
             to: _,
             end: _,
+            twice,
         } => {
-            io::write_all(1, b" x:");
+            tag(twice, b" x:", b" xx:");
         }
         Found::End {
             from: _,
@@ -152,6 +163,7 @@ fn attributes() {
     show(b"<a b=\"]]>\"/>");
     show(b"<a b=\"\"/>");
     show(b"<a b=\"1\" b=\"2\"/>");
+    show(b"<a b='' c='' b=''><a b='' B=''>");
     show(b"<a =\"1\"/>");
     show(b"<a b=\"\x7f\"/>");
 }
@@ -207,6 +219,7 @@ fn spans() {
     span(b"<!--ab-->", 0);
     span(b"<ab/>", 5);
     span(b"<ab/>", 6);
+    span(b"<ab c='' c=''/>", 0);
 }
 
 fn main() {

@@ -13,7 +13,7 @@ ghost use Rattle.documents.specs.Tokens.{inValue, blank as blankByte};
 ghost use mathlib.Core.List.{[], _∷_};
 ghost use Rattle.text.specs.Read.{back, readWord, readName};
 ghost use Rattle.documents.specs.Reading.{readReference, readParts, readAttributeFrom};
-ghost use Rattle.reports.specs.Code.Reaches.{reachOf, quotedReach, valueReach, insideReach};
+ghost use Rattle.reports.specs.Code.Reaches.{reachOf, quotedReach, valueReach};
 
 // Nothing that can be read begins there, or where it ends.
 pub enum Reach {
@@ -165,29 +165,5 @@ pub fn attribute_end(s: &[u8], at: usize) -> Reach
             Reach::No => Reach::No,
             Reach::To(v) => value_after(s, v),
         },
-    }
-}
-
-// The attributes of a tag and the blanks after them.
-pub fn inside_end(s: &[u8], at: usize) -> Reach
-    requires { ⌜ at ≤ length (now s) ⌝ }
-    ensures { λ r. ⌜ r ≡ insideReach (now (s .entry)) at ⌝ }
-{
-    let mut i = at;
-    loop {
-        let n = blanks_end(s, i);
-        if n == i {
-            return Reach::To(n);
-        }
-        if s.len() <= n {
-            return Reach::To(n);
-        }
-        if !names::begins_name(s[n]) {
-            return Reach::To(n);
-        }
-        match attribute_end(s, n) {
-            Reach::No => return Reach::No,
-            Reach::To(e) => i = e,
-        }
     }
 }

@@ -1,11 +1,11 @@
 // The token at an offset of a report (paper 01: a piece), by value.
+use crate::attributes::attributes;
 use crate::scan::blank;
 use crate::scan::in_text;
 use crate::scan::listed;
 use crate::tags::Reach;
 use crate::tags::byte_at;
 use crate::tags::byte_end;
-use crate::tags::inside_end;
 use crate::tags::name_reach;
 use crate::tags::reference_end;
 use text::truth::both;
@@ -27,16 +27,33 @@ ghost use Rattle.reports.specs.Seen.{foundOf, nameFrom, nameTo, foundEnd
 ghost use Rattle.reports.specs.Code.Seen.{tagEndOf, textFound, textFrom, declarationAt};
 ghost use Rattle.reports.specs.NamePart.{NamePart};
 
-// What begins at an offset: nothing that can be read, or a token with its end. Of a tag also where its name begins and ends, of a text
-// whether it is blank.
+// What begins at an offset: nothing that can be read, or a token with its end. Of a tag also where its name begins and ends, and whether it
+// has an attribute's name twice, told of bytes that a report may have; of a text whether it is blank.
 pub enum Found {
     Nothing,
     Declaration(usize),
     Comment(usize),
-    Start { from: usize, to: usize, end: usize },
-    Empty { from: usize, to: usize, end: usize },
-    End { from: usize, to: usize, end: usize },
-    Text { end: usize, blank: bool },
+    Start {
+        from: usize,
+        to: usize,
+        end: usize,
+        twice: bool,
+    },
+    Empty {
+        from: usize,
+        to: usize,
+        end: usize,
+        twice: bool,
+    },
+    End {
+        from: usize,
+        to: usize,
+        end: usize,
+    },
+    Text {
+        end: usize,
+        blank: bool,
+    },
 }
 
 // Whether every byte of a report is listed; without that, refusal 8. It goes over all bytes, so that many are tested at once.
@@ -66,20 +83,23 @@ fn tag(s: &[u8], at: usize) -> Found
                     from,
                     to,
                     end: to + 1,
+                    twice: false,
                 };
             }
-            match inside_end(s, to) {
+            let inside = attributes(s, to);
+            let reach = inside.reach;
+            match reach {
                 Reach::No => Found::Nothing,
-                Reach::To(e) => tag_end(s, from, to, e),
+                Reach::To(e) => tag_end(s, from, to, e, inside.twice),
             }
         }
     }
 }
 
 // The end of such a tag: `>` or `/>`.
-fn tag_end(s: &[u8], from: usize, to: usize, e: usize) -> Found
+fn tag_end(s: &[u8], from: usize, to: usize, e: usize, twice: bool) -> Found
     requires { ⌜ e ≤ length (now s) ⌝ }
-    ensures { λ r. ⌜ r ≡ tagEndOf (now (s .entry)) from to e ⌝ }
+    ensures { λ r. ⌜ r ≡ tagEndOf (now (s .entry)) from to e twice ⌝ }
 {
     if s.len() <= e {
         return Found::Nothing;
@@ -89,6 +109,7 @@ fn tag_end(s: &[u8], from: usize, to: usize, e: usize) -> Found
             from,
             to,
             end: e + 1,
+            twice,
         };
     }
     if s[e] != 47 {
@@ -105,6 +126,7 @@ fn tag_end(s: &[u8], from: usize, to: usize, e: usize) -> Found
         from,
         to,
         end: g + 1,
+        twice,
     }
 }
 
@@ -317,8 +339,18 @@ fn name_span(f: Found) -> Span
     ensures { λ r. ⌜ (r .from ≡ nameFrom f) × (r .to ≡ nameTo f) ⌝ }
 {
     match f {
-        Found::Start { from, to, end: _ } => Span { from, to },
-        Found::Empty { from, to, end: _ } => Span { from, to },
+        Found::Start {
+            from,
+            to,
+            end: _,
+            twice: _,
+        } => Span { from, to },
+        Found::Empty {
+            from,
+            to,
+            end: _,
+            twice: _,
+        } => Span { from, to },
         Found::End { from, to, end: _ } => Span { from, to },
         Found::Nothing => Span { from: 0, to: 0 },
         Found::Declaration(_) => Span { from: 0, to: 0 },
@@ -356,11 +388,13 @@ pub fn end_of(f: Found) -> usize
             from: _,
             to: _,
             end,
+            twice: _,
         } => end,
         Found::Empty {
             from: _,
             to: _,
             end,
+            twice: _,
         } => end,
         Found::End {
             from: _,
@@ -383,11 +417,13 @@ fn is_declaration(f: Found) -> bool
             from: _,
             to: _,
             end: _,
+            twice: _,
         } => false,
         Found::Empty {
             from: _,
             to: _,
             end: _,
+            twice: _,
         } => false,
         Found::End {
             from: _,

@@ -1,3 +1,4 @@
+pub mod Attributes
 pub mod Comments
 pub mod Inside
 pub mod Next

@@ -3,8 +3,10 @@ use Prim.Native.Nat.{ℕ, _-_}
 use lib.ListN.{length, drop}
 use Rattle.reports.specs.declared.tags.Reach.{Reach}
 use Rattle.reports.specs.declared.tags.Reach.the-variants.{No, To}
-use mathlib.Core.List.{List, [], _∷_}
-use Rattle.documents.specs.Tokens.{quoteByte, blank, inValue}
+use mathlib.Core.List.{List, [], _∷_, map}
+use Rattle.text.specs.Names.{Name}
+use Rattle.documents.specs.Tokens.{Attribute, quoteByte, blank, inValue}
+use Rattle.documents.specs.Repeats.{attributeName}
 use Rattle.text.specs.Read.{Read, fail, got, thenRead, back, readWord}
 use Rattle.documents.specs.Reading.{readQuote, readParts, readAttributes}
 
@@ -26,3 +28,12 @@ valueReach s at =
 -- the attributes and the blanks after them, from an offset
 abbrev pub insideReach : List ℕ → ℕ → Reach
 insideReach s at = reachOf (length s) (thenRead (readAttributes (drop at s)) (λ l r. got l (back blank r)))
+
+-- the names of attributes, if they were read
+abbrev pub namesIn : Read (List Attribute) → List Name
+namesIn fail = []
+namesIn (got l r) = map attributeName l
+
+-- those of the attributes from an offset
+abbrev pub namesFrom : List ℕ → ℕ → List Name
+namesFrom s at = namesIn (readAttributes (drop at s))

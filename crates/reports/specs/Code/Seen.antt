@@ -13,13 +13,13 @@ use Rattle.documents.specs.Reading.{readParts, textEnds}
 use Rattle.text.specs.Read.{Read, fail, got, thenRead, readWord}
 use Rattle.reports.specs.Seen.{foundOf}
 
--- `>` or `/>` at e, of a tag whose name stands from .. to
-abbrev pub tagEndOf : List ℕ → ℕ → ℕ → ℕ → Found
-tagEndOf s from to e =
+-- `>` or `/>` at e, of a tag whose name stands from .. to and that repeats an attribute's name or not
+abbrev pub tagEndOf : List ℕ → ℕ → ℕ → ℕ → Bool → Found
+tagEndOf s from to e twice =
     cond (ltb e (length s))
-    (cond (eqb (getD s e 0) 62) (Start from to (e + 1))
+    (cond (eqb (getD s e 0) 62) (Start from to (e + 1) twice)
     (cond (eqb (getD s e 0) 47)
-    (cond (ltb (e + 1) (length s)) (cond (eqb (getD s (e + 1) 0) 62) (Empty from to (e + 1 + 1)) Nothing) Nothing)
+    (cond (ltb (e + 1) (length s)) (cond (eqb (getD s (e + 1) 0) 62) (Empty from to (e + 1 + 1) twice) Nothing) Nothing)
     Nothing))
     Nothing
 

@@ -32,21 +32,21 @@ run-is bytes = (λ t. from (readReport bytes) refl t, λ run. ap isGot (run-foun
 pub run-said : (bytes : List ℕ) (b : Bool) → b ≡ isGot (readReport bytes) → (b ≡ true) ↔ RunOfTokens bytes
 run-said bytes b e = (λ t. run-is bytes .0 (sym e ∙ t), λ run. e ∙ run-is bytes .1 run)
 
-pub shown-end : (t : Token) (at e : ℕ) → foundEnd (shown t at e) ≡ e
-shown-end declaration at e = refl
-shown-end (comment c) at e = refl
-shown-end (startTag n l b) at e = refl
-shown-end (emptyTag n l b) at e = refl
-shown-end (endTag n b) at e = refl
-shown-end (text ps) at e = refl
+pub shown-end : (total : ℕ) (t : Token) (at e : ℕ) → foundEnd (shown total t at e) ≡ e
+shown-end total declaration at e = refl
+shown-end total (comment c) at e = refl
+shown-end total (startTag n l b) at e = refl
+shown-end total (emptyTag n l b) at e = refl
+shown-end total (endTag n b) at e = refl
+shown-end total (text ps) at e = refl
 
-pub shown-declares : (t : Token) (at e : ℕ) → declares (shown t at e) ≡ isDeclaration t
-shown-declares declaration at e = refl
-shown-declares (comment c) at e = refl
-shown-declares (startTag n l b) at e = refl
-shown-declares (emptyTag n l b) at e = refl
-shown-declares (endTag n b) at e = refl
-shown-declares (text ps) at e = refl
+pub shown-declares : (total : ℕ) (t : Token) (at e : ℕ) → declares (shown total t at e) ≡ isDeclaration t
+shown-declares total declaration at e = refl
+shown-declares total (comment c) at e = refl
+shown-declares total (startTag n l b) at e = refl
+shown-declares total (emptyTag n l b) at e = refl
+shown-declares total (endTag n b) at e = refl
+shown-declares total (text ps) at e = refl
 
 got-map : (t : Token) (m : Read (List Token)) → isGot (thenRead m (λ ts r. got (t ∷ ts) r)) ≡ isGot m
 got-map t fail = refl
@@ -65,7 +65,7 @@ module _ (s : List ℕ) (i : ℕ) (f : Found) (is : f ≡ foundOf (length s) i (
       by fail e = sym (ap isGot (from-none s i (eqb i 0) h e))
       by (got t r) e =
           let (rest, low, high) = token-next s i t r e in
-          let end : foundEnd f ≡ length s - length r = ap foundEnd (is ∙ ap (foundOf (length s) i) e) ∙ shown-end t i (length s - length r) in
+          let end : foundEnd f ≡ length s - length r = ap foundEnd (is ∙ ap (foundOf (length s) i) e) ∙ shown-end (length s) t i (length s - length r) in
           absurd (omega arith)
 
   pub run-late : i < length s → i < foundEnd f → (i ≡ 0 → ⊥) → declares f ≡ true → false ≡ RunFrom s i
@@ -75,7 +75,7 @@ module _ (s : List ℕ) (i : ℕ) (f : Found) (is : f ≡ foundOf (length s) i (
       by fail e = sym (ap isGot (from-none s i (eqb i 0) h e))
       by (got t r) e =
           let late : isDeclaration t ≡ true =
-          sym (shown-declares t i (length s - length r)) ∙ sym (ap declares (is ∙ ap (foundOf (length s) i) e)) ∙ d in
+          sym (shown-declares (length s) t i (length s - length r)) ∙ sym (ap declares (is ∙ ap (foundOf (length s) i) e)) ∙ d in
           rw (ne-eqb i 0 n) (sym (ap isGot (from-late s i t r h e late)))
 
   onward : i < length s → i < foundEnd f → ((t : Token) → isDeclaration t ≡ declares f → (eqb i 0 || not (isDeclaration t)) ≡ true)
@@ -88,9 +88,9 @@ module _ (s : List ℕ) (i : ℕ) (f : Found) (is : f ≡ foundOf (length s) i (
           absurd (omega arith)
       by (got t r) e =
           let (rest, low, high) = token-next s i t r e in
-          let end : foundEnd f ≡ length s - length r = ap foundEnd (is ∙ ap (foundOf (length s) i) e) ∙ shown-end t i (length s - length r) in
+          let end : foundEnd f ≡ length s - length r = ap foundEnd (is ∙ ap (foundOf (length s) i) e) ∙ shown-end (length s) t i (length s - length r) in
           let same : isDeclaration t ≡ declares f =
-          sym (shown-declares t i (length s - length r)) ∙ sym (ap declares (is ∙ ap (foundOf (length s) i) e)) in
+          sym (shown-declares (length s) t i (length s - length r)) ∙ sym (ap declares (is ∙ ap (foundOf (length s) i) e)) in
           let past : eqb (length s - length r) 0 ≡ false = ne-eqb (length s - length r) 0 (omega arith) in (
             omega arith,
             ap isGot (from-next s i (eqb i 0) t r h e (may t same)) ∙ got-map t (tokensFrom s false (length s - length r))

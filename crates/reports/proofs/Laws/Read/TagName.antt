@@ -22,7 +22,7 @@ pub record Spans (s : List ℕ) (at from to : ℕ) (n : Name) : Type 0 where
 
 module _ (s : List ℕ) (at : ℕ) where
   shown-spans : (e : ℕ) (t : Token) (r : List ℕ) → readToken (drop at s) ≡ got t r → Good (drop at s) t r
-      → Spans s at (nameFrom (shown t at e)) (nameTo (shown t at e)) (nameOfToken t)
+      → Spans s at (nameFrom (shown (length s) t at e)) (nameTo (shown (length s) t at e)) (nameOfToken t)
   shown-spans e declaration r is g = record { stands = none (other-read s at is (λ k n. elim [ ])) refl refl; cut = nowhere s }
   shown-spans e (comment c) r is g = record { stands = none (other-read s at is (λ k n. elim [ ])) refl refl; cut = nowhere s }
   shown-spans e (startTag n l b) r is g =

@@ -3,9 +3,9 @@ use Prim.Native.Nat.{ℕ, suc, _+_, _-_, _≤_, _<_}
 use native.Mathlib.Omega.{arith}
 use native.Mathlib.Numerals.{add-one}
 use mathlib.Core.Path.{_≡_, refl, sym, ap, ap₂, _∙_}
-use mathlib.Core.Bool.{true, _&&_, cond}
-use mathlib.Core.List.{List, [], _∷_, _++_, append-assoc}
-use lib.Dec.{eqb, ltb}
+use mathlib.Core.Bool.{Bool, true, false, _&&_, cond, and-false}
+use mathlib.Core.List.{List, [], _∷_, _++_, append-assoc, map}
+use lib.Dec.{eqb, leb, ltb}
 use borrow.Author.Tests.{eq-eqb, ne-eqb, eqb-true, eqb-false, ltb-true, ltb-false, lt-ltb}
 use lib.ListN.{length, getD, drop, length-append, length-drop, drop-of-length-le}
 use lib.Seq.{drop-cons}
@@ -17,8 +17,10 @@ use Rattle.reports.specs.declared.tokens.Found.the-variants.{Nothing, St
 use Rattle.documents.specs.Tokens.{blank, Attribute, printAttributes, emptyTag}
 use Rattle.text.specs.Read.{Read, fail, got, thenRead, front, back, readWord, readName}
 use Rattle.documents.specs.Reading.{readAttributes, readTagEnd, readTag, readEndTag}
-use Rattle.reports.specs.Code.Reaches.{reachOf, insideReach}
-use Rattle.reports.specs.Seen.{foundOf}
+use Rattle.reports.specs.Code.Reaches.{reachOf, insideReach, namesIn, namesFrom}
+use Rattle.documents.specs.Limits.{maxReportBytes}
+use Rattle.documents.specs.Repeats.{attributeName, repeated}
+use Rattle.reports.specs.Seen.{judged, foundOf}
 use Rattle.reports.specs.Code.Seen.{tagEndOf}
 use Rattle.text.proofs.Laws.Reads.{holds-got, then-holds, gotten, name-sound}
 use Rattle.text.proofs.Laws.ReadMany.{many-sound}
@@ -71,9 +73,13 @@ module _ (s : List ℕ) where
       let mark = eqb-true (getD s to 0) 62 (and-right (ltb to (length s)) _ t) in
       (inside, mark, sym (span-no blank s to inside (blank-high (getD s to 0) (omega arith))))
 
+  -- what is told of a tag's attributes
+  abbrev told : List Attribute → Bool
+  told m = judged (length s) (map attributeName m)
+
   -- the end of a tag, by its bytes
   slash : (n : Name) (m : List Attribute) (b : List ℕ) (at e : ℕ)
-      → cond (ltb e (length s)) (cond (eqb (getD s e 0) 62) (Empty (at + 1) (at + 1 + length n) (e + 1)) Nothing) Nothing
+      → cond (ltb e (length s)) (cond (eqb (getD s e 0) 62) (Empty (at + 1) (at + 1 + length n) (e + 1) (told m)) Nothing) Nothing
       ≡ foundOf (length s) at (thenRead (readWord (62 ∷ []) (drop e s)) (λ w r. got (emptyTag n m b) r))
   unfolding readWord
   slash n m b at e =
@@ -82,19 +88,19 @@ module _ (s : List ℕ) where
       let i : e < length s = ltb-true e (length s) t in
       rw (t, drop-cons s e 0 i)
       (cases (eqb (getD s e 0) 62)
-      (λ x. rw (x, eq-eqb 62 (getD s e 0) (sym (eqb-true (getD s e 0) 62 x))) (ap (Empty (at + 1) (at + 1 + length n)) (left-after e i)))
+      (λ x. rw (x, eq-eqb 62 (getD s e 0) (sym (eqb-true (getD s e 0) 62 x))) (ap (λ (x : ℕ). Empty (at + 1) (at + 1 + length n) x (told m)) (left-after e i)))
       (λ x. rw (x, ne-eqb 62 (getD s e 0) (λ y. eqb-false (getD s e 0) 62 x (sym y))))))
       (λ f. rw (f, drop-of-length-le s (ltb-false e (length s) f)))
 
   end-shown : (n : Name) (m : List Attribute) (b : List ℕ) (at e : ℕ)
-      → tagEndOf s (at + 1) (at + 1 + length n) e ≡ foundOf (length s) at (readTagEnd n m b (drop e s))
+      → tagEndOf s (at + 1) (at + 1 + length n) e (told m) ≡ foundOf (length s) at (readTagEnd n m b (drop e s))
   end-shown n m b at e =
       cases (ltb e (length s))
       (λ t.
       let i : e < length s = ltb-true e (length s) t in
       rw (t, drop-cons s e 0 i)
       (cases (eqb (getD s e 0) 62)
-      (λ x. rw x (ap (Start (at + 1) (at + 1 + length n)) (left-after e i)))
+      (λ x. rw x (ap (λ (x : ℕ). Start (at + 1) (at + 1 + length n) x (told m)) (left-after e i)))
       (λ x. rw x
       (cases (eqb (getD s e 0) 47)
       (λ y. rw (y, add-one e) (slash n m b at (suc e)))
@@ -122,19 +128,23 @@ module _ (s : List ℕ) where
           let (n, is, apart, high) = named (at + 1) to (omega arith) name in
           reached s to high Inside e (inside-suffix (drop to s)) k .3
 
-      pub tag-to : (e : ℕ) → insideReach s to ≡ To e → tagEndOf s (at + 1) to e ≡ foundOf (length s) at (readTag (drop (at + 1) s))
+      pub tag-to : (e : ℕ) → insideReach s to ≡ To e → (twice : Bool) → twice ≡ judged (length s) (namesFrom s to)
+          → tagEndOf s (at + 1) to e twice ≡ foundOf (length s) at (readTag (drop (at + 1) s))
       unfolding readTag Inside
-      tag-to e k =
+      tag-to e k twice t =
           let (n, is, apart, high) = named (at + 1) to (omega arith) name in
           let (m, all, low, end) = reached s to high Inside e (inside-suffix (drop to s)) k in
           let (r, some, after) = passed (readAttributes (drop to s)) m (drop e s) all in
-          rw (is, some, after) (ap (λ (x : ℕ). tagEndOf s (at + 1) x e) (sym apart) ∙ end-shown n m (front blank r) at e)
+          let repeats : twice ≡ told m = t ∙ ap (λ (x : Read (List Attribute)). judged (length s) (namesIn x)) some in
+          rw (is, some, after) (ap₂ (λ (x : ℕ) (b : Bool). tagEndOf s (at + 1) x e b) (sym apart) repeats ∙ end-shown n m (front blank r) at e)
 
-      pub tag-here : (ltb to (length s) && eqb (getD s to 0) 62) ≡ true → Start (at + 1) to (to + 1) ≡ foundOf (length s) at (readTag (drop (at + 1) s))
+      pub tag-here : (ltb to (length s) && eqb (getD s to 0) 62) ≡ true → Start (at + 1) to (to + 1) false ≡ foundOf (length s) at (readTag (drop (at + 1) s))
+      unfolding repeated
       tag-here t =
           let (inside, mark, none) = here to t in
-          let ends : tagEndOf s (at + 1) to to ≡ Start (at + 1) to (to + 1) = rw (lt-ltb to (length s) inside, eq-eqb (getD s to 0) 62 mark) in
-          sym ends ∙ tag-to to (sym (no-blanks s to to (omega arith) none refl))
+          let ends : tagEndOf s (at + 1) to to false ≡ Start (at + 1) to (to + 1) false = rw (lt-ltb to (length s) inside, eq-eqb (getD s to 0) 62 mark) in
+          let (reach, names) = no-blanks s to to (omega arith) none refl in
+          sym ends ∙ tag-to to (sym reach) false (sym (ap (judged (length s)) names ∙ and-false (leb (length s) maxReportBytes)))
 
   module _ (at : ℕ) (h : at + 2 ≤ length s) where
     pub end-no : reachOf (length s) (readName (drop (at + 2) s)) ≡ No → Nothing ≡ foundOf (length s) at (readEndTag (drop (at + 2) s))

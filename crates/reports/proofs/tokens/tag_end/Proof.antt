@@ -10,8 +10,8 @@ returns c = rw (le-ltb _ _ (c .if1 .taken))
 shared-slice-read-if2 : tie.Need-shared-slice-read-if2
 shared-slice-read-if2 c = search needs
 
-add-t10 : tie.Need-add-t10
-add-t10 c = search needs
+add-t11 : tie.Need-add-t11
+add-t11 c = search needs
 
 returns-2 : tie.Need-returns-2
 returns-2 c = rw (lt-ltb _ _ (c .before .before .if1 .left), eq-eqb _ _ (c .if2 .taken))
@@ -34,8 +34,8 @@ shared-slice-read-if5 c = search needs
 returns-5 : tie.Need-returns-5
 returns-5 c = rw (lt-ltb _ _ (c .before .before .before .before .before .before .before .if1 .left), ne-eqb _ 62 (c .before .before .before .before .before .if2 .left), eq-eqb _ 47 (c .before .before .before .if3 .left), lt-ltb _ _ (c .before .before .if4 .left), ne-eqb _ 62 (c .if5 .taken))
 
-add-t6 : tie.Need-add-t6
-add-t6 c = search needs
+add-t7 : tie.Need-add-t7
+add-t7 c = search needs
 
 returns-6 : tie.Need-returns-6
 returns-6 c = rw (lt-ltb _ _ (c .before .before .before .before .before .before .before .if1 .left), ne-eqb _ 62 (c .before .before .before .before .before .if2 .left), eq-eqb _ 47 (c .before .before .before .if3 .left), lt-ltb _ _ (c .before .before .if4 .left), eq-eqb _ 62 (c .if5 .left))
@@ -46,7 +46,7 @@ tag-end-spec =
     (tie.spec
     returns
     shared-slice-read-if2
-    add-t10
+    add-t11
     returns-2
     shared-slice-read-if3
     returns-3
@@ -54,5 +54,5 @@ tag-end-spec =
     returns-4
     shared-slice-read-if5
     returns-5
-    add-t6
+    add-t7
     returns-6)
