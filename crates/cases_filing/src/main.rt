@@ -4,6 +4,8 @@ mod texts;
 
 use say::judge;
 use say::show;
+use texts::alike;
+use texts::attributes;
 use texts::nested;
 use texts::sized;
 
@@ -92,6 +94,60 @@ fn both() {
     );
 }
 
+// 15: a tag has two attributes of the same name. In a start tag, an empty tag, the last tag, a tag after the root closed.
+fn repeats() {
+    judge(b"<a b='1' b='2'></a>");
+    judge(b"<a b='1' c='' b=\"1\"/>");
+    judge(b"<a b = ''\n\tb\t=\"\" ><c/></a>");
+    judge(b"<a b=''><c b=''/><d c='' d='' c=''/></a>");
+    judge(b"<a/><c b='' b=''/>");
+    judge(b"<a abcdefghijklmnopqrstuvwxyz0123456='' b='' abcdefghijklmnopqrstuvwxyz0123456=''/>");
+}
+
+// It comes after 8 and 9, wherever these are; after 1 and 14: left().
+fn repeats_later() {
+    judge(b"<a b='' b=''>\x7f</a>");
+    judge(b"<a b='' b=''>]]></a>");
+    judge(b"<a>]]><c b='' b=''/></a>");
+    judge(b"<a><?xml version=\"1.0\"?><c b='' b=''/></a>");
+    judge(b"<a b='' b='");
+}
+
+// It comes before 5, 10, 11 and 12, also where these stand first.
+fn repeats_first() {
+    judge(b"<a b='' b=''><abcdefghijklmnopqrstuvwxyz0123456/></a>");
+    judge(b"<abcdefghijklmnopqrstuvwxyz0123456/><c b='' b=''/>");
+    judge(b"x<a b='' b=''/>");
+    judge(b"</a><c b='' b=''/>");
+    judge(b"<a></c><d b='' b=''/>");
+    nested(b"65 nested, then a repeat", 65, b"<c b='' b=''/>", 65);
+}
+
+// Names differ by case, by their ends, by one byte at any length; equal ones may stand in two tags, and in values.
+fn different() {
+    judge(b"<a b='' B=''/>");
+    judge(b"<a b='' bb='' b.=''/>");
+    judge(b"<a bb='' b=''/>");
+    judge(b"<a b=''><c b=''/><c b=''></c></a>");
+    judge(b"<a b=\"c='1' b='2'\" c=' b='/>");
+    judge(b"<a abcdefghijklmnopqrstuvwxyz0123456='' abcdefghijklmnopqrstuvwxyz0123457=''/>");
+}
+
+// So many attributes of different names, and then one more of such a name, or of another.
+fn many() {
+    attributes(b"15 names and the first again", 15, b"n0000");
+    attributes(b"15 names and another", 15, b"n");
+    attributes(b"16 names and the first again", 16, b"n0000");
+    attributes(b"16 names and another", 16, b"n");
+    attributes(b"17 names and the last again", 17, b"n0016");
+    attributes(b"17 names and another", 17, b"n0017");
+    attributes(b"6000 names and the first again", 6000, b"n0000");
+    attributes(b"6000 names and one in the middle", 6000, b"n2999");
+    attributes(b"6000 names and the last again", 6000, b"n5999");
+    attributes(b"6000 names and another", 6000, b"n6000");
+    alike(b"13106 attributes of one name", 13106);
+}
+
 fn edges() {
     nested(b"64 nested", 64, b"", 64);
     nested(b"65 nested", 65, b"", 65);
@@ -105,6 +161,9 @@ fn left() {
     say::left(b"<a><a/></a>");
     say::short(b"<a");
     say::strange(b"<a");
+    say::left(b"<a b='' b=''/>");
+    say::short(b"<a b='' b=''/>");
+    say::strange(b"<a b='' b=''/>");
     say::long(b"<a><b/></a>");
 }
 
@@ -118,6 +177,11 @@ fn main() {
     outside();
     names();
     both();
+    repeats();
+    repeats_later();
+    repeats_first();
+    different();
+    many();
     edges();
     left();
 }

@@ -53,3 +53,45 @@ pub fn sized(name: &[u8], n: usize) {
     at = add(&mut text, at, b"</a>");
     file_front(name, &text, at);
 }
+
+// An attribute with a number of four digits in its name.
+fn attribute(i: usize) -> [u8; 9] {
+    let mut one = [32, 110, 48, 48, 48, 48, 61, 39, 39];
+    one[2] = 48 + (i / 1000 % 10) as u8;
+    one[3] = 48 + (i / 100 % 10) as u8;
+    one[4] = 48 + (i / 10 % 10) as u8;
+    one[5] = 48 + (i % 10) as u8;
+    one
+}
+
+// Attributes n0000 n0001 and so on.
+fn numbered(buffer: &mut [u8], at: usize, n: usize) -> usize {
+    let mut to = at;
+    let mut i = 0;
+    while i < n {
+        let one = attribute(i);
+        to = add(buffer, to, &one);
+        i += 1;
+    }
+    to
+}
+
+// A tag with so many attributes of different names, and one more of this name.
+pub fn attributes(name: &[u8], n: usize, last: &[u8]) {
+    let mut text = [0u8; 65536];
+    let mut at = add(&mut text, 0, b"<a");
+    at = numbered(&mut text, at, n);
+    at = add(&mut text, at, b" ");
+    at = add(&mut text, at, last);
+    at = add(&mut text, at, b"=''/>");
+    file_front(name, &text, at);
+}
+
+// A tag with so many attributes of one name.
+pub fn alike(name: &[u8], n: usize) {
+    let mut text = [0u8; 65536];
+    let mut at = add(&mut text, 0, b"<a");
+    at = repeat(&mut text, at, b" b=''", n);
+    at = add(&mut text, at, b"/>");
+    file_front(name, &text, at);
+}

@@ -4,10 +4,10 @@ mod files;
 mod output;
 
 use filing::limits::LISTING_SIZE;
-use filing::limits::MAX_REPORT;
 use machine::layout::AUTOMATON_SIZE;
 use machine::run::layout::RUN_SIZE;
 use notation::limits::MAX_SET_BYTES;
+use reports::limits::MAX_REPORT;
 
 fn print(text: &[u8]) {
     if !io::write_all(libc::STDOUT_FILENO, text) {

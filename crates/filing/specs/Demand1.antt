@@ -1,4 +1,4 @@
--- Demand 1 of the letter, as one statement: whatever a public call is lent, it brings its answer or one of fourteen numbered refusals, each
+-- Demand 1 of the letter, as one statement: whatever a public call is lent, it brings its answer or one of fifteen numbered refusals, each
 -- exactly where its condition holds and no earlier one of the call's order does; and what a refused call leaves. Of each call the contract
 -- alone is used.
 use Prim.Native.Nat.{ℕ, _≤_, _<_}
@@ -68,8 +68,8 @@ pub record ReportJudged (a run : List ℕ) (c : Counters) (report : List ℕ) (a
   pub fresh : (answer ≡ numberOf shortBuffer → ⊥) → (answer ≡ numberOf badShape → ⊥) → IfRefused answer ((run' ≡ startRun a run) × (c' ≡ noCounters))
 
 pub record Demand1 : Type 0 where
-  -- the numbers are 1 to 14, each that of one refusal
-  pub fourteen : (r : Refusal) → (1 ≤ numberOf r) × (numberOf r ≤ 14)
+  -- the numbers are from 1 to 15, and no two refusals have the same
+  pub fifteen : (r : Refusal) → (1 ≤ numberOf r) × (numberOf r ≤ 15)
   pub different : (q r : Refusal) → numberOf q ≡ numberOf r → q ≡ r
   -- a set is read, built, and written back
   pub reads : (text before : List ℕ) (answer : ℕ) (after : List ℕ) → ReadSet text before answer after → SetJudged setSize text before answer after

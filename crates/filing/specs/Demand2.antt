@@ -11,6 +11,8 @@ use Rattle.model.specs.Calls.{State, pathOfPlace, fresh, run}
 use Rattle.model.specs.Folders.{placesOf, folderMatched, HasFolders}
 use Rattle.documents.specs.Tree.{Node, element, text, comment, Nodes, none, _then_, Document, Place, kindAt}
 use Rattle.documents.specs.XPath.{IsElement, selected}
+use Rattle.documents.specs.Tokens.{RunOfTokens}
+use Rattle.documents.specs.Repeats.{Repeats}
 use Rattle.documents.specs.Document.{eventsOf, elementsAmong, Report, documentIn}
 use Rattle.filing.specs.Filing.{Outcome, callsIn, allAccepted, FilingGives, FiledWith}
 
@@ -49,6 +51,8 @@ pub record OfDocument (set : FolderSet) (bytes : List ℕ) (m : State) : Type 0 
   -- the report has a document, and one only
   pub report : Report bytes
   pub only : (other : Report bytes) → documentIn other ≡ documentIn report
+  -- however its bytes are a run of tokens, no tag of it repeats an attribute's name
+  pub noRepeats : (run : RunOfTokens bytes) → Repeats (run .tokens) → ⊥
   -- its opens and closes, in order, are all accepted, and the machine is the one after them
   pub allTaken : allAccepted set (fresh set) (callsIn (eventsOf (report .run .tokens))) ≡ true
   pub machine : run set (callsIn (eventsOf (report .run .tokens))) ≡ m

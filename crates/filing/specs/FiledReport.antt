@@ -2,12 +2,14 @@
 -- calls then answer, says of the report's document.
 use Prim.Native.Nat.{ℕ, _≤_, _<_}
 use mathlib.Core.Path.{_≡_}
+use mathlib.Core.Bool.{true}
 use mathlib.Core.Logic.{_↔_}
 use mathlib.Core.List.{List, [], _∷_, _++_, map, List·Memᴰ}
 use lib.ListN.{length, drop}
 use Rattle.notation.specs.Sets.{Folder, FolderSet, folderNumber}
 use Rattle.notation.specs.Form.{pathsOf}
-use Rattle.text.specs.Refusals.{Refusal, tooLarge, nameTooLong, invalidByte, syntaxError, notOneRoot, tooDeep, mismatchedClose, numberOf}
+use Rattle.text.specs.Lists.{every}
+use Rattle.text.specs.Refusals.{Refusal, tooLarge, nameTooLong, invalidByte, syntaxError, notOneRoot, tooDeep, mismatchedClose, repeatedAttribute, numberOf}
 use Rattle.notation.specs.Accepted.{Accepted}
 use Rattle.notation.specs.declared.PathPlace.{PathPlace}
 use Rattle.notation.specs.declared.FolderNumber.{FolderNumber}
@@ -19,6 +21,9 @@ use Rattle.stored.specs.RunCalls.{startRun, noCounters}
 use Rattle.stored.specs.Asking.{askPath, askFolder}
 use Rattle.stored.specs.Demand3.{Answers, HasFolder}
 use Rattle.stored.specs.declared.counters.Counters.{Counters}
+use Rattle.documents.specs.Limits.{maxReportBytes}
+use Rattle.documents.specs.Tokens.{listed, RunOfTokens}
+use Rattle.documents.specs.Repeats.{Repeats}
 use Rattle.documents.specs.Document.{documentIn}
 use Rattle.filing.specs.Filing.{Refused, FiledWith}
 use Rattle.filing.specs.Demand2.{countIn, childlessIn, SelectsElement, FolderSelects, OfDocument}
@@ -51,12 +56,18 @@ pub record SameFolders (s : FolderSet) (answer : ℕ) (a run' : List ℕ) (other
 -- 0, and the numbers with which a report itself is refused: not 1 and 14, which are of what is lent, and not 7, since a report is too short for
 -- so many elements
 abbrev pub reportNumbers : List ℕ
-reportNumbers = 0 ∷ map numberOf (tooLarge ∷ nameTooLong ∷ invalidByte ∷ syntaxError ∷ notOneRoot ∷ tooDeep ∷ mismatchedClose ∷ [])
+reportNumbers = 0 ∷ map numberOf (tooLarge ∷ nameTooLong ∷ invalidByte ∷ syntaxError ∷ notOneRoot ∷ tooDeep ∷ mismatchedClose ∷ repeatedAttribute ∷ [])
+
+-- some tag of the report repeats an attribute's name, and it is neither too large nor has a byte that is not listed (paper 02: doubled)
+abbrev pub RepeatsAttribute : List ℕ → Type 0
+RepeatsAttribute report = (length report ≤ maxReportBytes) × (every listed report ≡ true) × ((run : RunOfTokens report) × Repeats (run .tokens))
 
 -- all of demand 2, of a set, its automaton, the bytes lent, and what the call answers and leaves
 pub record Demand2Bytes (s : FolderSet) (a report run : List ℕ) (answer : ℕ) (run' : List ℕ) (c' : Counters) : Type 0 where
   -- refused with a number exactly when its condition holds and no earlier one does, filed exactly when none does
   pub refusals : (r : Refusal) → (answer ≡ numberOf r) ↔ Refused s report r
+  -- 15 of these on its own condition: no token is refused so
+  pub repeats : (answer ≡ numberOf repeatedAttribute) ↔ RepeatsAttribute report
   pub filings : (answer ≡ 0) ↔ ((m : State) × FiledWith s report m)
   pub numbers : List·Memᴰ answer reportNumbers
   -- a refused report leaves a fresh run, a filed one what its document says

@@ -11,12 +11,13 @@ use lib.ListN.{length}
 use Rattle.text.specs.Names.{Name}
 use Rattle.notation.specs.Sets.{FolderSet}
 use Rattle.text.specs.Lists.{every}
-use Rattle.text.specs.Refusals.{Refusal, tooLarge, invalidByte, syntaxError, notOneRoot, numberOf}
+use Rattle.text.specs.Refusals.{Refusal, tooLarge, invalidByte, syntaxError, notOneRoot, repeatedAttribute, numberOf}
 use Rattle.text.specs.Order.{Condition, gives, first}
 use Rattle.model.specs.Calls.{asLeft, Call, openCall, closeCall, State, fresh, accepted, step}
 use Rattle.model.specs.Calls as calls
-use Rattle.filing.specs.Limits.{maxReportBytes}
+use Rattle.documents.specs.Limits.{maxReportBytes}
 use Rattle.documents.specs.Tokens.{Token, blank, listed, RunOfTokens}
+use Rattle.documents.specs.Repeats.{Repeats}
 use Rattle.documents.specs.Document.{Event, opening, closing, textHere, commentHere, eventsOf}
 
 -- refused, or filed with the state at the end
@@ -91,6 +92,7 @@ reportOrder report =
     reason (maxReportBytes < length report) tooLarge
     ∷ reason (every listed report ≡ false) invalidByte
     ∷ reason (RunOfTokens report → ⊥) syntaxError
+    ∷ reason ((run : RunOfTokens report) × Repeats (run .tokens)) repeatedAttribute
     ∷ []
 
 -- refused with the first whose condition holds; where none does, as the rest says

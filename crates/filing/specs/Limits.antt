@@ -1,10 +1,6 @@
--- The limits of a report and of a listing, once. A proof that needs the number says `unfolding` of its name.
+-- The limits of a listing, once. A proof that needs the number says `unfolding` of its name.
 use Prim.Native.Nat.{ℕ, _+_}
 use Rattle.notation.specs.Limits.{maxSetBytes}
-
--- bytes of a report
-unfoldable pub maxReportBytes : ℕ
-maxReportBytes = 65536
 
 -- bytes of a moves line: opens take at most 5 digits and failure moves 7
 unfoldable pub maxMovesLine : ℕ

@@ -1,8 +1,5 @@
-// The limits of a report and of a listing; the specification's Limits has the same.
+// The limits of a listing; the specification's Limits has the same.
 use notation::limits::MAX_SET_BYTES;
-
-// Bytes of a report.
-pub const MAX_REPORT: usize = 65536;
 
 // Bytes of a moves line, and of a listing.
 pub const MAX_MOVES_LINE: usize = 22;

@@ -1,10 +1,10 @@
 // Filing a report (paper 01: Reports): its tokens in order, each given to the machine as what it is in the tree.
-use crate::limits::MAX_REPORT;
 use machine::run::close::close_usable;
 use machine::run::open::open_usable;
 use machine::run::shape::depth;
 use machine::run::start::start_by;
 use machine::run::start::start_on;
+use reports::limits::MAX_REPORT;
 use reports::tokens::Found;
 use reports::tokens::all_listed;
 use reports::tokens::token_at;
@@ -12,14 +12,16 @@ use stored::answers::Opened;
 use stored::counters::Counters;
 use text::refusals::INVALID_BYTE;
 use text::refusals::NOT_ONE_ROOT;
+use text::refusals::REPEATED_ATTRIBUTE;
 use text::refusals::SYNTAX_ERROR;
 use text::refusals::TOO_LARGE;
 ghost use mathlib.Core.Path.{_≡_};
-ghost use mathlib.Core.Bool.{true};
+ghost use mathlib.Core.Bool.{true, cond};
 ghost use Rattle.text.specs.Names.{nameForm};
 ghost use mathlib.Core.List.{[]};
 ghost use Prim.Native.Nat.{_≤_};
 ghost use lib.ListN.{length};
+ghost use Rattle.text.specs.Refusals.{repeatedAttribute, numberOf};
 ghost use Rattle.text.specs.Answers.{numberSaid};
 ghost use Rattle.stored.specs.Answers.{openedSays};
 ghost use Rattle.stored.specs.Run.{runSize};
@@ -27,6 +29,7 @@ ghost use Rattle.stored.specs.RunCalls.{startRun, noCounters};
 ghost use Rattle.stored.specs.Usable.{Usable};
 ghost use Rattle.stored.specs.Demand3.{Left, started};
 ghost use Rattle.documents.specs.Reading.{readReport};
+ghost use Rattle.documents.specs.Limits.{maxReportBytes};
 ghost use Rattle.filing.specs.Filing.{Outcome, filed, andThen};
 ghost use Rattle.filing.specs.ReportRefusals.{storedMachine, Files};
 ghost use Rattle.filing.specs.Code.Filing.{fileReport};
@@ -113,14 +116,14 @@ fn take_text(run: &[u8], refusal: u8, all: bool) -> u8
     0
 }
 
-// A declaration stands at offset 0 only.
-fn take_declaration(refusal: u8, at: usize) -> u8
-    ensures { λ r. ⌜ DeclarationTaken refusal at r ⌝ }
+// A tag that repeats an attribute's name refuses the report, whatever an earlier token was refused with.
+fn with_repeat(refusal: u8, twice: bool) -> u8
+    ensures { λ r. ⌜ r ≡ cond twice (numberOf repeatedAttribute) refusal ⌝ }
 {
-    if at == 0 {
-        return refusal;
+    if twice {
+        return REPEATED_ATTRIBUTE;
     }
-    SYNTAX_ERROR
+    refusal
 }
 
 // A start tag. Nothing more is taken once a token was refused.
@@ -170,15 +173,31 @@ struct Step {
     next: usize,
 }
 
+fn step_with(refusal: u8, counters: Counters, next: usize) -> Step
+    ensures { λ r. ⌜ (r .refusal ≡ refusal) × ((r .counters ≡ counters) × (r .next ≡ next)) ⌝ }
+{
+    Step {
+        refusal,
+        counters,
+        next,
+    }
+}
+
 fn step_to(taken: Taken, next: usize) -> Step
     ensures { λ r. ⌜ (r .refusal ≡ taken .refusal) × ((r .counters ≡ taken .counters) × (r .next ≡ next)) ⌝ }
 {
     let counters = taken.counters;
-    Step {
-        refusal: taken.refusal,
-        counters,
-        next,
+    step_with(taken.refusal, counters, next)
+}
+
+// A declaration stands at offset 0 only. Past it nothing is left to read, so that 9 stays.
+fn take_declaration(refusal: u8, c: Counters, at: usize, end: usize, total: usize) -> Step
+    ensures { λ r. ⌜ DeclarationTaken refusal c at end total (r .refusal) (r .counters) (r .next) ⌝ }
+{
+    if at == 0 {
+        return step_with(refusal, c, end);
     }
+    step_with(SYNTAX_ERROR, c, total)
 }
 
 // The token at an offset, by what it is, matched once. Where there is none, nothing is left to read.
@@ -187,38 +206,35 @@ fn take_at(a: &[u8], run: &mut [u8], refusal: u8, c: Counters, s: &[u8], at: usi
     ensures { λ r. ⌜ Stepping (now (a .entry)) (now (run .entry)) refusal c (now (s .entry)) at (r .refusal) (now (run .exit)) (r .counters) (r .next) ⌝ }
 {
     match token_at(s, at) {
-        Found::Text { end, blank: all } => Step {
-            refusal: take_text(run, refusal, all),
-            counters: c,
-            next: end,
-        },
-        Found::Start { from, to, end } => step_to(open_next(a, run, refusal, c, &s[from..to]), end),
-        Found::End { from, to, end } => step_to(close_next(a, run, refusal, c, &s[from..to]), end),
-        Found::Empty { from, to, end } => step_to(
-            empty_next(a, run, refusal, c, &s[from..to]),
+        Found::Text { end, blank: all } => step_with(take_text(run, refusal, all), c, end),
+        Found::Start {
+            from,
+            to,
+            end,
+            twice,
+        } => step_to(
+            open_next(a, run, with_repeat(refusal, twice), c, &s[from..to]),
             end,
         ),
-        Found::Comment(end) => Step {
-            refusal,
-            counters: c,
-            next: end,
-        },
-        Found::Declaration(end) => Step {
-            refusal: take_declaration(refusal, at),
-            counters: c,
-            next: end,
-        },
-        Found::Nothing => Step {
-            refusal: SYNTAX_ERROR,
-            counters: c,
-            next: s.len(),
-        },
+        Found::End { from, to, end } => step_to(close_next(a, run, refusal, c, &s[from..to]), end),
+        Found::Empty {
+            from,
+            to,
+            end,
+            twice,
+        } => step_to(
+            empty_next(a, run, with_repeat(refusal, twice), c, &s[from..to]),
+            end,
+        ),
+        Found::Comment(end) => step_with(refusal, c, end),
+        Found::Declaration(end) => take_declaration(refusal, c, at, end, s.len()),
+        Found::Nothing => step_with(SYNTAX_ERROR, c, s.len()),
     }
 }
 
-// The tokens in order from a fresh run: the first refusal of a token is kept, and the rest is only read, for 9.
+// The tokens in order from a fresh run: the first refusal of a token is kept, and the rest is only read, for 9 and 15.
 fn take_tokens(a: &[u8], run: &mut [u8], s: &[u8]) -> Taken
-    requires { ⌜ Usable (now a) (now run) noCounters ⌝ }
+    requires { ⌜ (Usable (now a) (now run) noCounters) × (length (now s) ≤ maxReportBytes) ⌝ }
     ensures { λ r. ⌜ Taking (now (a .entry)) (now (run .entry)) (runFrom (now (a .entry)) (filed (record { bytes = now (run .entry); counters = noCounters })) (readReport (now (s .entry)))) (r .refusal) (now (run .exit)) (r .counters) ⌝ }
 {
     let mut refusal = 0;
@@ -264,7 +280,7 @@ fn fresh_after(a: &[u8], run: &mut [u8], done: Taken) -> Taken
 
 // The tokens and the end, from a fresh run.
 fn take_run(a: &[u8], run: &mut [u8], s: &[u8]) -> Taken
-    requires { ⌜ (Usable (now a) (now run) noCounters) × (startRun (now a) (now run) ≡ now run) ⌝ }
+    requires { ⌜ (Usable (now a) (now run) noCounters) × (startRun (now a) (now run) ≡ now run) × (length (now s) ≤ maxReportBytes) ⌝ }
     ensures { λ r. ⌜ Leaves (record { bytes = now (run .entry); counters = noCounters }) (andThen (runFrom (now (a .entry)) (filed (record { bytes = now (run .entry); counters = noCounters })) (readReport (now (s .entry)))) fileLast) (r .refusal) (now (run .exit)) (r .counters) ⌝ }
 {
     let taken = take_tokens(a, run, s);

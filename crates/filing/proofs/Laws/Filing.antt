@@ -1,5 +1,6 @@
 pub mod FilingParts
 pub mod FilingOrder
+pub mod FilingRepeats
 pub mod FilingRun
 pub mod FilingAdded
 pub mod FilingChildless

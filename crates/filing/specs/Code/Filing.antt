@@ -5,14 +5,15 @@ use mathlib.Core.List.{List, [], _∷_, _++_}
 use lib.Dec.{ltb}
 use lib.ListN.{length}
 use Rattle.text.specs.Lists.{every}
-use Rattle.text.specs.Refusals.{tooLarge, invalidByte, syntaxError}
+use Rattle.text.specs.Refusals.{tooLarge, invalidByte, syntaxError, repeatedAttribute}
 use Rattle.notation.specs.Sets.{FolderSet}
 use Rattle.text.specs.Order.{Condition, gives, first}
 use Rattle.model.specs.Calls.{State, fresh}
 use Rattle.documents.specs.Tokens.{Token, listed}
+use Rattle.documents.specs.Repeats.{repeatsIn}
 use Rattle.text.specs.Read.{Read, fail, got}
 use Rattle.documents.specs.Reading.{readReport}
-use Rattle.filing.specs.Limits.{maxReportBytes}
+use Rattle.documents.specs.Limits.{maxReportBytes}
 use Rattle.filing.specs.Filing.{Outcome, andThen, unless, Machine, fileTokens, sharedMachine}
 
 abbrev pub isNoRun : Read (List Token) → Bool
@@ -25,7 +26,11 @@ tokensIn (got ts r) = ts
 
 abbrev pub reportTests : List ℕ → List Condition
 reportTests report =
-    gives (ltb maxReportBytes (length report)) tooLarge ∷ gives (not (every listed report)) invalidByte ∷ gives (isNoRun (readReport report)) syntaxError ∷ []
+    gives (ltb maxReportBytes (length report)) tooLarge
+    ∷ gives (not (every listed report)) invalidByte
+    ∷ gives (isNoRun (readReport report)) syntaxError
+    ∷ gives (repeatsIn (tokensIn (readReport report))) repeatedAttribute
+    ∷ []
 
 unfoldable pub fileReport : {S : Type 0} → Machine S → S → List Condition → List ℕ → Outcome S
 fileReport k s before report = andThen (unless (first (before ++ reportTests report)) s) (λ t. fileTokens k t (tokensIn (readReport report)))

@@ -1,12 +1,12 @@
 -- What the calls of a report's tokens answer, by what the code says of each token (follows the code; laws tie it to the tokens' events).
 use Prim.Native.Nat.{ℕ}
 use mathlib.Core.Path.{_≡_}
-use mathlib.Core.Bool.{Bool, not, _&&_, cond}
+use mathlib.Core.Bool.{Bool, true, false, not, _&&_, cond}
 use mathlib.Core.List.{List, [], _∷_}
 use lib.Dec.{eqb}
 use lib.ListN.{length, drop}
 use Rattle.text.specs.Names.{Name}
-use Rattle.text.specs.Refusals.{syntaxError, notOneRoot, numberOf}
+use Rattle.text.specs.Refusals.{syntaxError, notOneRoot, repeatedAttribute, numberOf}
 use Rattle.text.specs.Order.{gives, first}
 use Rattle.stored.specs.RunCalls.{depthOf, startRun}
 use Rattle.stored.specs.Demand3.{Left}
@@ -14,6 +14,7 @@ use Rattle.stored.specs.declared.counters.Counters.{Counters}
 use Rattle.reports.specs.declared.tokens.Found.{Found}
 use Rattle.reports.specs.declared.tokens.Found.the-variants.{Nothing, Declaration, Comment, Start, Empty, End, Text}
 use Rattle.documents.specs.Tokens.{Token}
+use Rattle.documents.specs.Repeats.{repeatsIn}
 use Rattle.text.specs.Read.{Read, fail, got}
 use Rattle.documents.specs.Document.{opening, closing, eventsOf}
 use Rattle.documents.specs.Reading.{readToken}
@@ -52,44 +53,51 @@ fileClose a t e = fileEvent (storedMachine a) t (closing e)
 abbrev pub fileText : Left → Bool → Outcome Left
 fileText t all = unless (first (gives (eqb (depthOf (t .bytes)) 0 && not all) notOneRoot ∷ [])) t
 
--- what was answered before a text, or a declaration at an offset, becomes this
+-- what was answered before a text becomes this
 abbrev pub TextTaken : List ℕ → ℕ → Bool → ℕ → Type 0
 TextTaken run n all n' = (o : Outcome Left) (c : Counters) → Answered o n run c → Answered (andThen o (λ t. fileText t all)) n' run c
 
-abbrev pub DeclarationTaken : ℕ → ℕ → ℕ → Type 0
-DeclarationTaken n at n' = (o : Outcome Left) (run : List ℕ) (c : Counters) → Answered o n run c → Answered (cond (eqb at 0) o (refused syntaxError)) n' run c
+-- the same of a declaration at an offset that ends here, in bytes of this length in all, and where to read on: past offset 0 nothing is left
+pub record DeclarationTaken (n : ℕ) (c : Counters) (at end total n' : ℕ) (c' : Counters) (next : ℕ) : Type 0 where
+  pub taken : (o : Outcome Left) (run : List ℕ) → Answered o n run c → Answered (cond (eqb at 0) o (refused syntaxError)) n' run c'
+  pub onward : next ≡ cond (eqb at 0) end total
+
+-- 15 for a tag that repeats an attribute's name, whatever was answered before
+abbrev pub withRepeat : Bool → Outcome Left → Outcome Left
+withRepeat true o = refused repeatedAttribute
+withRepeat false o = o
 
 -- what the token at an offset makes of an outcome, with its tag's name: 9 where there is none, and of a declaration past offset 0
 abbrev pub stepFound : List ℕ → ℕ → Outcome Left → Found → Name → Outcome Left
 stepFound a at o Nothing e = refused syntaxError
 stepFound a at o (Declaration end) e = cond (eqb at 0) o (refused syntaxError)
 stepFound a at o (Comment end) e = o
-stepFound a at o (Start from to end) e = andThen o (λ t. fileOpen a t e)
-stepFound a at o (Empty from to end) e = andThen o (λ t. andThen (fileOpen a t e) (λ t₂. fileClose a t₂ e))
+stepFound a at o (Start from to end twice) e = andThen (withRepeat twice o) (λ t. fileOpen a t e)
+stepFound a at o (Empty from to end twice) e = andThen (withRepeat twice o) (λ t. andThen (fileOpen a t e) (λ t₂. fileClose a t₂ e))
 stepFound a at o (End from to end) e = andThen o (λ t. fileClose a t e)
 stepFound a at o (Text end all) e = andThen o (λ t. fileText t all)
 
--- where to read on: behind the token; at the end where there is none
-abbrev pub nextOf : ℕ → Found → ℕ
-nextOf total Nothing = total
-nextOf total (Declaration end) = end
-nextOf total (Comment end) = end
-nextOf total (Start from to end) = end
-nextOf total (Empty from to end) = end
-nextOf total (End from to end) = end
-nextOf total (Text end all) = end
+-- where to read on: behind the token; at the end, since nothing comes before 9, where there is none and past a late declaration
+abbrev pub nextOf : ℕ → ℕ → Found → ℕ
+nextOf total at Nothing = total
+nextOf total at (Declaration end) = cond (eqb at 0) end total
+nextOf total at (Comment end) = end
+nextOf total at (Start from to end twice) = end
+nextOf total at (Empty from to end twice) = end
+nextOf total at (End from to end) = end
+nextOf total at (Text end all) = end
 
 -- what the token at an offset makes of what was answered before it, and where to read on
 pub record Stepping (a run : List ℕ) (n : ℕ) (c : Counters) (s : List ℕ) (at n' : ℕ) (run' : List ℕ) (c' : Counters) (next : ℕ) : Type 0 where
   pub takes : (o : Outcome Left) → Answered o n run c
       → Taking a run (stepFound a at o (foundOf (length s) at (readToken (drop at s))) (tagName (readToken (drop at s)))) n' run' c'
-  pub onward : next ≡ nextOf (length s) (foundOf (length s) at (readToken (drop at s)))
+  pub onward : next ≡ nextOf (length s) at (foundOf (length s) at (readToken (drop at s)))
 
 -- the end asks nothing of the automaton
 abbrev pub fileLast : Left → Outcome Left
 fileLast t = fileEnd (storedMachine []) t
 
--- what the rest of the tokens makes of an outcome: 9 is found first of all
+-- what the rest of the tokens makes of an outcome: 9 comes first of all, then 15
 abbrev pub runFrom : List ℕ → Outcome Left → Read (List Token) → Outcome Left
 runFrom a o fail = refused syntaxError
-runFrom a o (got ts r) = andThen o (λ t. fileEvents (storedMachine a) t (eventsOf ts))
+runFrom a o (got ts r) = andThen (withRepeat (repeatsIn ts) o) (λ t. fileEvents (storedMachine a) t (eventsOf ts))

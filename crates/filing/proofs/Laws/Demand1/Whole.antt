@@ -100,7 +100,7 @@ module _ (text report a run out : List ℕ) (answer : Written) (a' run' out' : L
 pub demand1 : Demand1
 unfolding startRefusal openRefusal closeRefusal askRefusal askPath askFolder askStep askPrefix nameRefusal
 demand1 = record {
-  fourteen = number-within;
+  fifteen = number-within;
   different = one-refusal;
   reads = λ text before answer after r. set-judged setSize text before answer after (λ v. readInto v before) (λ r. refl) (r .short) (r .judged);
   builds = λ text before answer after b. set-judged automatonSize text before answer after (λ v. builtInto v before) (λ r. refl) (b .short) (b .judged);

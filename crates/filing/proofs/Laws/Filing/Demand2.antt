@@ -36,7 +36,7 @@ use Rattle.documents.proofs.Laws.Trees.Passed.{passed-is}
 use Rattle.documents.proofs.Laws.Trees.OneDocument.{one-document, report-selects}
 use Rattle.text.proofs.Laws.Order.{unmet}
 use Rattle.filing.proofs.Laws.Filing.FilingParts.{unless-filed, both-filed}
-use Rattle.filing.proofs.Laws.Filing.FilingOrder.{filed-run, filing-is, filing-only}
+use Rattle.filing.proofs.Laws.Filing.FilingOrder.{filed-run, filed-unrepeated, filing-is, filing-only}
 use Rattle.filing.proofs.Laws.Filing.FilingRun.{taken-after, taken-accepted, fresh-balanced, taken-matched, taken-opens}
 use Rattle.filing.proofs.Laws.Filing.FilingChildless.{count-in, calls-childless}
 use Rattle.filing.proofs.Laws.Filing.FilingAdded.{added}
@@ -139,6 +139,7 @@ module _ (set : FolderSet) (bytes : List ℕ) (m : State) (f : FiledWith set byt
   of-document = record {
     report = report;
     only = λ other. one-document bytes other report;
+    noRepeats = filed-unrepeated set bytes m f;
     allTaken = all-taken;
     machine = after-calls;
     paths = paths;

@@ -12,7 +12,7 @@ use borrow.Author.Tests.{lt-leb, eqb-true}
 use native.Mathlib.Omega.{arith}
 use Rattle.text.specs.Names.{Name}
 use Rattle.notation.specs.Sets.{FolderSet}
-use Rattle.text.specs.Refusals.{Refusal, tooLarge, invalidByte, syntaxError, overCapacity, numberOf}
+use Rattle.text.specs.Refusals.{Refusal, tooLarge, invalidByte, syntaxError, overCapacity, repeatedAttribute, numberOf}
 use Rattle.text.specs.Lists.{every, any}
 use Rattle.model.specs.Limits.{maxOpens}
 use Rattle.text.specs.Order.{Condition, holds, refusalOf, first}
@@ -23,7 +23,7 @@ use Rattle.model.proofs.Laws.Machine.Steps.{close-accepted-is, names-opened}
 use Rattle.documents.specs.Tokens.{Token, declaration, comment, startTag, emptyTag, endTag, text, printAttributes, printToken, printTokens, RunOfTokens}
 use Rattle.documents.specs.Document.{Event, opening, closing, textHere, commentHere, eventsOf}
 use Rattle.documents.specs.Code.Events.{passed}
-use Rattle.filing.specs.Limits.{maxReportBytes}
+use Rattle.documents.specs.Limits.{maxReportBytes}
 use Rattle.filing.specs.Filing.{Outcome, refused, filed, numberGiven, eventOrder, endOrder, eventLeaves, fileEvents, fileEnd, fileTokens, Decided, sharedMachine, Refused}
 use Rattle.filing.specs.FiledReport.{reportNumbers}
 use Rattle.filing.specs.Code.Filing.{fileWith}
@@ -113,7 +113,10 @@ module _ (set : FolderSet) where
             | inl (l, e) ↦ is invalidByte refl e
             | inr (l, d) ↦ elim d [
               | inl (l, e) ↦ is syntaxError refl e
-              | inr (l, (run, f)) ↦ tokens-among r (omega arith) run f
+              | inr (l, d) ↦ elim d [
+                | inl (l, e) ↦ is repeatedAttribute refl e
+                | inr (l, (run, f)) ↦ tokens-among r (omega arith) run f
+              ]
             ]
           ]
         ]

@@ -1,26 +1,28 @@
 -- What filing a report gives is what is computed: so every report has one outcome, and no other.
 use Prim.Native.Nat.{ℕ}
-use mathlib.Core.Path.{_≡_, refl, sym, ap, _∙_}
+use mathlib.Core.Path.{_≡_, refl, sym, ap, _∙_, subst}
 use mathlib.Core.Logic.{_↔_, inl, inr}
 use mathlib.Core.Bool.{Bool, true, false, not}
 use mathlib.Core.Option.{Option, none, some}
 use mathlib.Core.List.{List, [], _∷_, _++_, map}
 use lib.ListN.{length}
 use borrow.Author.Tests.{ltb-true, lt-ltb, not-true}
-use Rattle.text.specs.Lists.{every}
+use Rattle.text.specs.Lists.{every, any}
 use Rattle.notation.specs.Sets.{FolderSet}
-use Rattle.text.specs.Refusals.{Refusal, syntaxError}
+use Rattle.text.specs.Refusals.{Refusal, syntaxError, repeatedAttribute}
 use Rattle.text.specs.Order.{Condition, gives, refusalOf, FirstOf, first, given}
 use Rattle.model.specs.Calls.{State, fresh}
 use Rattle.text.proofs.Laws.Tests.{clash, zero-one}
 use Rattle.text.proofs.Laws.Order.{first-is, number-zero, unmet, later-unmet, first-then, first-before, first-has}
 use Rattle.stored.specs.RunCalls.{startConditions, startRefusal}
 use Rattle.stored.specs.Demand3.{Left, started}
-use Rattle.filing.specs.Limits.{maxReportBytes}
+use Rattle.documents.specs.Limits.{maxReportBytes}
 use Rattle.documents.specs.Tokens.{Token, listed, RunOfTokens}
 use Rattle.text.specs.Read.{Read, fail, got}
+use Rattle.documents.specs.Repeats.{Repeats, repeatsIn}
 use Rattle.documents.specs.Reading.{readReport}
 use Rattle.documents.specs.Document.{Event, opening, closing, textHere, commentHere, eventsOf}
+use Rattle.documents.proofs.Laws.Repeats.{repeats-is}
 use Rattle.documents.proofs.Laws.Read.ReadSound.{found-run, run-found, none-found}
 use Rattle.filing.specs.Filing.{Outcome, refused, filed, andThen, unless, Machine, eventOrder, endOrder, fileEvents, fileTokens, Reason, reason, reportOrder, Decided, OutcomeOf, sharedMachine, FilingGives, FiledWith}
 use Rattle.filing.specs.ReportRefusals.{storedMachine, tested, ReportGives, ofLent}
@@ -51,15 +53,26 @@ module _ {S : Type 0} (s : S) (k : S → Outcome S) (rest : Outcome S → Type 0
         λ e. inr (λ y. clash (i .1 y) refl, later .1 e),
       )
 
--- a filed report is a run of tokens that are all taken
-decided-filed : {S : Type 0} (rest : Outcome S → Type 0) (t : S) (order : List Reason) → Decided order rest (filed t) → rest (filed t)
-unfolding Decided
-decided-filed rest t [] d = d
-decided-filed rest t (reason holds r ∷ order) (inl (y, e)) = zero-one (cc)
-decided-filed rest t (reason holds r ∷ order) (inr (n, d)) = decided-filed rest t order d
+-- what is filed has passed each reason
+module _ {S : Type 0} (rest : Outcome S → Type 0) (t : S) where
+  decided-later : (order later : List Reason) → Decided (order ++ later) rest (filed t) → Decided later rest (filed t)
+  unfolding Decided
+  decided-later [] later d = d
+  decided-later (reason holds r ∷ order) later (inl (y, e)) = zero-one (cc)
+  decided-later (reason holds r ∷ order) later (inr (n, d)) = decided-later order later d
 
+  decided-unmet : (holds : Type 0) (r : Refusal) (later : List Reason) → Decided (reason holds r ∷ later) rest (filed t) → holds → ⊥
+  unfolding Decided
+  decided-unmet holds r later (inl (y, e)) h = zero-one (cc)
+  decided-unmet holds r later (inr (n, d)) h = n h
+
+-- a filed report is a run of tokens that are all taken, and no tag of it repeats an attribute's name
 pub filed-run : (set : FolderSet) (report : List ℕ) (m : State) → FiledWith set report m → (run : RunOfTokens report) × (fileTokens (sharedMachine set) (fresh set) (run .tokens) ≡ filed m)
-filed-run set report m f = decided-filed _ m (reportOrder report) f
+unfolding Decided
+filed-run set report m f = decided-later (λ o. (run : RunOfTokens report) × (fileTokens (sharedMachine set) (fresh set) (run .tokens) ≡ o)) m (reportOrder report) [] f
+
+pub filed-unrepeated : (set : FolderSet) (report : List ℕ) (m : State) → FiledWith set report m → (run : RunOfTokens report) → Repeats (run .tokens) → ⊥
+filed-unrepeated set report m f run again = decided-unmet _ m _ repeatedAttribute [] (decided-later _ m (_ ∷ _ ∷ _ ∷ []) (_ ∷ []) f) (run, again)
 
 both-tests : {order later : List Reason} {tests more : List Condition} → Tests order tests → Tests later more → Tests (order ++ later) (tests ++ more)
 both-tests noTests u = u
@@ -73,20 +86,33 @@ no-run : (report : List ℕ) (x : Read (List Token)) → readReport report ≡ x
 no-run report fail e = (λ h. none-found report e, λ h. refl)
 no-run report (got ts r) e = (λ h. clash h refl, λ h. absurd (h (found-run report ts r e)))
 
+-- the tokens of a report are those read
+tokens-read : (report : List ℕ) (ts : List Token) (r : List ℕ) → readReport report ≡ got ts r → (run : RunOfTokens report) → ts ≡ run .tokens
+tokens-read report ts r e run = let again = sym e ∙ run-found report run in cc
+
+repeats-read : (report : List ℕ) (x : Read (List Token)) → readReport report ≡ x
+    → (repeatsIn (tokensIn x) ≡ true) ↔ ((run : RunOfTokens report) × Repeats (run .tokens))
+unfolding repeatsIn any
+repeats-read report fail e = (λ h. clash h refl, λ (run, q). absurd (none-found report e run))
+repeats-read report (got ts r) e = (
+  λ h. let run = found-run report ts r e in (run, subst Repeats (tokens-read report ts r e run) (repeats-is ts .0 h)),
+  λ (run, q). repeats-is ts .1 (subst Repeats (sym (tokens-read report ts r e run)) q),
+)
+
 report-tests : (report : List ℕ) → Tests (reportOrder report) (reportTests report)
 report-tests report =
     test (ltb-true maxReportBytes (length report), lt-ltb maxReportBytes (length report))
     (test (not-true (every listed report), λ h. ap not h)
-    (test (no-run report (readReport report) refl) noTests))
+    (test (no-run report (readReport report) refl)
+    (test (repeats-read report (readReport report) refl) noTests)))
 
 tokens-found : {S : Type 0} (k : Machine S) (s : S) (report : List ℕ) (o : Outcome S) (x : Read (List Token)) → readReport report ≡ x → isNoRun x ≡ false
     → ((run : RunOfTokens report) × (fileTokens k s (run .tokens) ≡ o)) ↔ (fileTokens k s (tokensIn x) ≡ o)
 tokens-found k s report o fail e h = clash refl h
-tokens-found k s report o (got ts r) e h =
-    let same : (run : RunOfTokens report) → ts ≡ run .tokens = λ run. let again = sym e ∙ run-found report run in cc in (
-      λ (run, f). ap (fileTokens k s) (same run) ∙ f,
-      λ f. let run = found-run report ts r e in (run, ap (fileTokens k s) (sym (same run)) ∙ f),
-    )
+tokens-found k s report o (got ts r) e h = (
+  λ (run, f). ap (fileTokens k s) (tokens-read report ts r e run) ∙ f,
+  λ f. let run = found-run report ts r e in (run, ap (fileTokens k s) (sym (tokens-read report ts r e run)) ∙ f),
+)
 
 outcome-is : {S : Type 0} (k : Machine S) (s : S) {before : List Reason} (tests : List Condition) → Tests before tests → (report : List ℕ) (o : Outcome S)
     → OutcomeOf k s before report o ↔ (fileReport k s tests report ≡ o)

@@ -9,7 +9,7 @@ use lib.ListN.{length, drop}
 use borrow.Author.Tests.{eq-eqb}
 use Rattle.notation.specs.Sets.{Folder, FolderSet, folderNumber}
 use Rattle.notation.specs.Form.{pathsOf}
-use Rattle.text.specs.Refusals.{Refusal}
+use Rattle.text.specs.Refusals.{Refusal, repeatedAttribute, numberOf}
 use Rattle.text.specs.Answers.{Answer, value}
 use Rattle.notation.specs.declared.PathPlace.{PathPlace}
 use Rattle.notation.specs.declared.FolderNumber.{FolderNumber}
@@ -30,7 +30,7 @@ use Rattle.stored.proofs.Laws.Running.Asking.{ask-folder}
 use Rattle.stored.proofs.Laws.Running.Following.{leftOf, start-left}
 use Rattle.stored.proofs.Laws.Running.Demand3.{path-answers, folder-answers, start-accepted}
 use Rattle.documents.specs.Document.{eventsOf, documentIn}
-use Rattle.filing.specs.Filing.{Outcome, refused, filed, numberGiven, callsIn}
+use Rattle.filing.specs.Filing.{Outcome, refused, filed, numberGiven, callsIn, Refused}
 use Rattle.filing.specs.Demand2.{childlessIn, SelectsElement, FolderSelects, OfDocument}
 use Rattle.filing.specs.ReportRefusals.{storedMachine, leftBy, Files}
 use Rattle.filing.specs.Code.Filing.{fileReport, fileWith}
@@ -38,6 +38,7 @@ use Rattle.filing.specs.FiledReport.{FiledReport, reportNumbers, Demand2
 use Rattle.stored.proofs.Laws.Building.BuiltSet.{built-means}
 use Rattle.filing.proofs.Laws.Filing.FilingParts.{given-refused, given-filed}
 use Rattle.filing.proofs.Laws.Filing.FilingOrder.{filing-is, report-is, once-started, report-own}
+use Rattle.filing.proofs.Laws.Filing.FilingRepeats.{repeats-refused}
 use Rattle.filing.proofs.Laws.Filing.FilingAlike.{Alike, same-number, alike-refused, alike-filed}
 use Rattle.filing.proofs.Laws.Filing.FilingAdded.{same-filing, endOf, same-matched}
 use Rattle.filing.proofs.Laws.Filing.FilingOpens.{given-among}
@@ -153,11 +154,14 @@ pub demand2-bytes : (s : FolderSet) (a : List ℕ) → Means s a → (lent : Lis
     (answer : ℕ) (run' : List ℕ) (c' : Counters) → Files a lent c report answer run' c' → Demand2Bytes s a report lent answer run' c'
 demand2-bytes s a w lent long c report answer run' c' f =
     let is = answer-is s a w lent long c report answer run' c' f in
+    let refusals : (r : Refusal) → (answer ≡ numberOf r) ↔ Refused s report r = λ r. (
+      λ e. filing-is s report (refused r) .1 (given-refused (fileWith s report) r (sym is ∙ e)),
+      λ h. is ∙ ap numberGiven (filing-is s report (refused r) .0 h),
+    ) in
+    let again = repeats-refused s report in
     record {
-      refusals = λ r. (
-        λ e. filing-is s report (refused r) .1 (given-refused (fileWith s report) r (sym is ∙ e)),
-        λ h. is ∙ ap numberGiven (filing-is s report (refused r) .0 h),
-      );
+      refusals = refusals;
+      repeats = (λ e. again .0 (refusals repeatedAttribute .0 e), λ h. refusals repeatedAttribute .1 (again .1 h));
       filings = (
         λ e. let (m, h) = given-filed (fileWith s report) (sym is ∙ e) in (m, filing-is s report (filed m) .1 h),
         λ h. is ∙ ap numberGiven (filing-is s report (filed (h .0)) .0 (h .1)),

@@ -23,19 +23,19 @@ abbrev pub Named : Found → Name → Type 0
 Named Nothing e = Unit {0}
 Named (Declaration end) e = Unit {0}
 Named (Comment end) e = Unit {0}
-Named (Start from to end) e = nameForm e ≡ true
-Named (Empty from to end) e = nameForm e ≡ true
+Named (Start from to end twice) e = nameForm e ≡ true
+Named (Empty from to end twice) e = nameForm e ≡ true
 Named (End from to end) e = nameForm e ≡ true
 Named (Text end all) e = Unit {0}
 
-named : (t : Token) (at end : ℕ) → formedToken t ≡ true → Named (shown t at end) (nameOfToken t)
+named : (total : ℕ) (t : Token) (at end : ℕ) → formedToken t ≡ true → Named (shown total t at end) (nameOfToken t)
 unfolding formedToken formedTag
-named declaration at end h = tt
-named (comment c) at end h = tt
-named (startTag n l b) at end h = and-left _ _ h
-named (emptyTag n l b) at end h = and-left _ _ h
-named (endTag n b) at end h = and-left _ _ h
-named (text ps) at end h = tt
+named total declaration at end h = tt
+named total (comment c) at end h = tt
+named total (startTag n l b) at end h = and-left _ _ h
+named total (emptyTag n l b) at end h = and-left _ _ h
+named total (endTag n b) at end h = and-left _ _ h
+named total (text ps) at end h = tt
 
 module _ (s : List ℕ) (at : ℕ) (f : Found) (is : foundOf (length s) at (readToken (drop at s)) ≡ f) where
   pub named-token : Named f (tagName (readToken (drop at s)))
@@ -43,7 +43,7 @@ module _ (s : List ℕ) (at : ℕ) (f : Found) (is : foundOf (length s) at (read
     where
       go : (m : Read Token) → WhenRead (Good (drop at s)) m → Named (foundOf (length s) at m) (tagName m)
       go fail h = tt
-      go (got t r) h = named t at _ (holds-got h .0)
+      go (got t r) h = named (length s) t at _ (holds-got h .0)
 
   -- the name, where it stands
   pub name-cut : Cut s (nameFrom f) (nameTo f) (tagName (readToken (drop at s)))

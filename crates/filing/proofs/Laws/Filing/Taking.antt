@@ -7,12 +7,12 @@ use mathlib.Core.Option.{Option, none, some}
 use mathlib.Core.List.{List, [], _∷_}
 use lib.Dec.{eqb}
 use lib.ListN.{length, drop}
-use borrow.Author.Tests.{eq-eqb, ne-eqb, lt-ltb, le-ltb, not-false}
+use borrow.Author.Tests.{eq-eqb, ne-eqb, lt-ltb, le-ltb, le-leb, not-false}
 use Rattle.text.proofs.Laws.Tests.{cases, clash, neither, or-left}
 use Rattle.text.specs.Names.{Name}
-use Rattle.text.specs.Refusals.{Refusal, tooLarge, invalidByte, syntaxError, notOneRoot, numberOf}
+use Rattle.text.specs.Refusals.{Refusal, tooLarge, invalidByte, syntaxError, notOneRoot, repeatedAttribute, numberOf}
 use Rattle.text.proofs.Laws.Numbers.{some-number}
-use Rattle.text.specs.Lists.{every}
+use Rattle.text.specs.Lists.{every, any}
 use Rattle.text.specs.Answers.{numberSaid}
 use Rattle.text.proofs.Laws.Said.{said-number}
 use Rattle.text.specs.Order.{gives, first, numberIn, given}
@@ -26,20 +26,22 @@ use Rattle.stored.specs.declared.answers.Opened.{Opened}
 use Rattle.stored.proofs.Laws.Shapes.Given.{open-others, close-others}
 use Rattle.stored.proofs.Laws.Shapes.Kept.{start-usable, open-usable, close-usable}
 use Rattle.stored.proofs.Laws.Running.Restart.{start-restart, open-restart, close-restart}
-use Rattle.filing.specs.Limits.{maxReportBytes}
+use Rattle.documents.specs.Limits.{maxReportBytes}
 use Rattle.reports.specs.declared.tokens.Found.{Found}
 use Rattle.reports.specs.declared.tokens.Found.the-variants.{Nothing, Declaration, Comment, Start, Empty, End, Text}
 use Rattle.documents.specs.Tokens.{Token, declaration, comment, startTag, emptyTag, endTag, text, listed, isDeclaration}
 use Rattle.text.specs.Read.{Read, fail, got, thenRead}
 use Rattle.documents.specs.Reading.{readToken, readReport}
 use Rattle.documents.specs.Document.{eventsOfToken, eventsOf}
+use Rattle.documents.specs.Repeats.{attributesOf, namesRepeat, repeatsIn}
+use Rattle.documents.proofs.Laws.Repeats.{none-repeat}
 use Rattle.reports.specs.Seen.{shown, foundOf}
 use Rattle.reports.specs.Code.Seen.{tagName, nameOfToken}
 use Rattle.filing.specs.Filing.{Outcome, refused, filed, andThen, unless, fileEvents}
 use Rattle.filing.specs.ReportRefusals.{storedMachine, leftBy, Files}
 use Rattle.filing.specs.Code.Filing.{isNoRun, tokensIn, fileReport}
-use Rattle.filing.specs.Code.Taking.{Answered, Taking, leftIn, Leaves, fileOpen, fileClose, fileText, stepFound, nextOf, Stepping, fileLast, runFrom}
-use Rattle.filing.proofs.Laws.Filing.FilingParts.{then-filed, then-same, events-append}
+use Rattle.filing.specs.Code.Taking.{Answered, Taking, leftIn, Leaves, fileOpen, fileClose, fileText, withRepeat, stepFound, nextOf, Stepping, fileLast, runFrom}
+use Rattle.filing.proofs.Laws.Filing.FilingParts.{then-filed, then-same, then-more, events-append}
 use Rattle.filing.proofs.Laws.Filing.FilingOrder.{report-is, start-refused, start-lent, once-started, report-own}
 use Rattle.reports.proofs.Laws.Read.Next.{tokensFrom, token-next, from-end, from-none, from-late, from-next}
 
@@ -101,87 +103,116 @@ taken-on a run o k n₁ run₁ c₁ n run' c' t z u = rw (goes-on o n₁ run₁ 
 pub taken-here : (a run : List ℕ) (o : Outcome Left) (n : ℕ) (c' : Counters) → Answered o n run c' → Taking a run o n run c'
 taken-here a run o n c' t = record { answered = t; restarts = refl }
 
--- a token, by what the code says of it, is its events
-found-events : (a : List ℕ) (o : Outcome Left) (x : Token) (at end : ℕ) → (eqb at 0 || not (isDeclaration x)) ≡ true
-    → stepFound a at o (shown x at end) (nameOfToken x) ≡ andThen o (λ t. fileEvents (storedMachine a) t (eventsOfToken x))
+-- a tag that repeats an attribute's name
+
+pub repeat-answered : (twice : Bool) (o : Outcome Left) (n n' : ℕ) (run : List ℕ) (c : Counters) → n' ≡ cond twice (numberOf repeatedAttribute) n → Answered o n run c
+    → Answered (withRepeat twice o) n' run c
+repeat-answered true o n n' run c e t = e
+repeat-answered false (refused r) n n' run c e t = e ∙ t
+repeat-answered false (filed l) n n' run c e t = (e ∙ t .0, t .1)
+
+pub repeat-zero : (twice : Bool) (n n' : ℕ) → n' ≡ cond twice (numberOf repeatedAttribute) n → n' ≡ 0 → n ≡ 0
+repeat-zero true n n' e z = absurd (some-number repeatedAttribute (sym e ∙ z))
+repeat-zero false n n' e z = sym e ∙ z
+
+-- in one token or in a later one
+repeat-then : (b later : Bool) (o : Outcome Left) (k l m : Left → Outcome Left) → ((t : Left) → k t ≡ andThen (l t) m)
+    → andThen (withRepeat (b || later) o) k ≡ andThen (withRepeat later (andThen (withRepeat b o) l)) m
+repeat-then true true o k l m h = refl
+repeat-then true false o k l m h = refl
+repeat-then false true o k l m h = refl
+repeat-then false false o k l m h = then-more o k l m h
+
+-- a token makes this of an outcome: 15, or its events
+abbrev tokenTaken : List ℕ → Outcome Left → Token → Outcome Left
+tokenTaken a o x = andThen (withRepeat (namesRepeat (attributesOf x)) o) (λ t. fileEvents (storedMachine a) t (eventsOfToken x))
+
+-- and so it does by what the code says of it, in bytes no longer than a report's
+found-events : (total : ℕ) → total ≤ maxReportBytes → (a : List ℕ) (o : Outcome Left) (x : Token) (at end : ℕ) → (eqb at 0 || not (isDeclaration x)) ≡ true
+    → stepFound a at o (shown total x at end) (nameOfToken x) ≡ tokenTaken a o x
 unfolding fileEvents first
-found-events a o declaration at end h = rw (sym (or-false (eqb at 0)) ∙ h) (sym (then-filed o))
-found-events a o (comment c) at end h = sym (then-filed o)
-found-events a o (startTag n l b) at end h = then-same o _ _ (λ t. sym (then-filed _))
-found-events a o (emptyTag n l b) at end h =
-    then-same o _ _ (λ t. then-same (fileOpen a t n) _ _ (λ t₂. sym (then-filed (fileClose a t₂ n))))
-found-events a o (endTag n b) at end h = then-same o _ _ (λ t. sym (then-filed _))
-found-events a o (text ps) at end h = then-same o _ _ (λ t. sym (then-filed _))
+found-events total short a o declaration at end h = rw (sym (or-false (eqb at 0)) ∙ h, none-repeat) (sym (then-filed o))
+found-events total short a o (comment c) at end h = rw none-repeat (sym (then-filed o))
+found-events total short a o (startTag n l b) at end h = rw (le-leb total maxReportBytes short) (then-same (withRepeat (namesRepeat l) o) _ _ (λ t. sym (then-filed _)))
+found-events total short a o (emptyTag n l b) at end h =
+    rw (le-leb total maxReportBytes short)
+    (then-same (withRepeat (namesRepeat l) o) _ _ (λ t. then-same (fileOpen a t n) _ _ (λ t₂. sym (then-filed (fileClose a t₂ n)))))
+found-events total short a o (endTag n b) at end h = rw none-repeat (then-same o _ _ (λ t. sym (then-filed _)))
+found-events total short a o (text ps) at end h = rw none-repeat (then-same o _ _ (λ t. sym (then-filed _)))
 
 -- a declaration that is not the first token
-found-late : (a : List ℕ) (o : Outcome Left) (x : Token) (at end : ℕ) (e : Name) → (eqb at 0 || not (isDeclaration x)) ≡ false
-    → stepFound a at o (shown x at end) e ≡ refused syntaxError
-found-late a o declaration at end e h = rw (or-left (eqb at 0) false h)
-found-late a o (comment c) at end e h = clash (or-true (eqb at 0)) h
-found-late a o (startTag n l b) at end e h = clash (or-true (eqb at 0)) h
-found-late a o (emptyTag n l b) at end e h = clash (or-true (eqb at 0)) h
-found-late a o (endTag n b) at end e h = clash (or-true (eqb at 0)) h
-found-late a o (text ps) at end e h = clash (or-true (eqb at 0)) h
+found-late : (total : ℕ) (a : List ℕ) (o : Outcome Left) (x : Token) (at end : ℕ) (e : Name) → (eqb at 0 || not (isDeclaration x)) ≡ false
+    → stepFound a at o (shown total x at end) e ≡ refused syntaxError
+found-late total a o declaration at end e h = rw (or-left (eqb at 0) false h)
+found-late total a o (comment c) at end e h = clash (or-true (eqb at 0)) h
+found-late total a o (startTag n l b) at end e h = clash (or-true (eqb at 0)) h
+found-late total a o (emptyTag n l b) at end e h = clash (or-true (eqb at 0)) h
+found-late total a o (endTag n b) at end e h = clash (or-true (eqb at 0)) h
+found-late total a o (text ps) at end e h = clash (or-true (eqb at 0)) h
 
-shown-next : (total : ℕ) (x : Token) (at end : ℕ) → nextOf total (shown x at end) ≡ end
-shown-next total declaration at end = refl
-shown-next total (comment c) at end = refl
-shown-next total (startTag n l b) at end = refl
-shown-next total (emptyTag n l b) at end = refl
-shown-next total (endTag n b) at end = refl
-shown-next total (text ps) at end = refl
+shown-next : (total : ℕ) (x : Token) (at end : ℕ) → (eqb at 0 || not (isDeclaration x)) ≡ true → nextOf total at (shown total x at end) ≡ end
+shown-next total declaration at end h = rw (sym (or-false (eqb at 0)) ∙ h)
+shown-next total (comment c) at end h = refl
+shown-next total (startTag n l b) at end h = refl
+shown-next total (emptyTag n l b) at end h = refl
+shown-next total (endTag n b) at end h = refl
+shown-next total (text ps) at end h = refl
+
+late-next : (total : ℕ) (x : Token) (at end : ℕ) → (eqb at 0 || not (isDeclaration x)) ≡ false → nextOf total at (shown total x at end) ≡ total
+late-next total declaration at end h = rw (or-left (eqb at 0) false h)
+late-next total (comment c) at end h = clash (or-true (eqb at 0)) h
+late-next total (startTag n l b) at end h = clash (or-true (eqb at 0)) h
+late-next total (emptyTag n l b) at end h = clash (or-true (eqb at 0)) h
+late-next total (endTag n b) at end h = clash (or-true (eqb at 0)) h
+late-next total (text ps) at end h = clash (or-true (eqb at 0)) h
 
 -- the rest of the tokens after one
 after : (a : List ℕ) (o : Outcome Left) (x : Token) (m : Read (List Token))
-    → runFrom a o (thenRead m (λ ts r. got (x ∷ ts) r)) ≡ runFrom a (andThen o (λ t. fileEvents (storedMachine a) t (eventsOfToken x))) m
-unfolding eventsOf
+    → runFrom a o (thenRead m (λ ts r. got (x ∷ ts) r)) ≡ runFrom a (tokenTaken a o x) m
+unfolding eventsOf repeatsIn any
 after a o x fail = refl
-after a (refused n) x (got ts r) = refl
-after a (filed t) x (got ts r) = events-append (storedMachine a) (eventsOfToken x) (eventsOf ts) t
+after a o x (got ts r) =
+    repeat-then (namesRepeat (attributesOf x)) (repeatsIn ts) o _ _ _ (events-append (storedMachine a) (eventsOfToken x) (eventsOf ts))
 
 abbrev pub RunAt : List ℕ → Outcome Left → List ℕ → ℕ → Outcome Left
 RunAt a o s i = runFrom a o (tokensFrom s (eqb i 0) i)
 
--- 9 stays, whatever is read on
-refused-run : (a : List ℕ) (m : Read (List Token)) → runFrom a (refused syntaxError) m ≡ refused syntaxError
-refused-run a fail = refl
-refused-run a (got ts r) = refl
+pub taken-end : (a s : List ℕ) (i : ℕ) (o : Outcome Left) → length s ≤ i → RunAt a o s i ≡ o
+unfolding fileEvents eventsOf repeatsIn any
+taken-end a s i o h = ap (runFrom a o) (from-end s i (eqb i 0) h) ∙ then-filed o
 
-module _ (a s : List ℕ) (i : ℕ) (inside : i < length s) (o : Outcome Left) where
-  -- of a token that was read, or none: the rest goes on behind it, and makes of the outcome with it what the rest with it makes
-  abbrev Goes : Read Token → Type 0
-  Goes m =
-      (i < nextOf (length s) (foundOf (length s) i m)) × ((nextOf (length s) (foundOf (length s) i m) ≤ length s)
-      × (RunAt a (stepFound a i o (foundOf (length s) i m) (tagName m)) s (nextOf (length s) (foundOf (length s) i m)) ≡ RunAt a o s i))
+module _ (a s : List ℕ) (short : length s ≤ maxReportBytes) (i : ℕ) (inside : i < length s) (o : Outcome Left) where
+  -- the rest goes on from an offset, and makes of an outcome what the rest from here makes
+  abbrev Goes : ℕ → Outcome Left → Type 0
+  Goes next p = (i < next) × ((next ≤ length s) × (RunAt a p s next ≡ RunAt a o s i))
+
+  goes-same : (next end : ℕ) (p q : Outcome Left) → next ≡ end → p ≡ q → Goes end q → Goes next p
+  goes-same next end p q e f g = rw (e, f) g
+
+  -- 9 ends the reading
+  goes-none : RunAt a o s i ≡ refused syntaxError → Goes (length s) (refused syntaxError)
+  goes-none h = (inside, (omega arith, taken-end a s (length s) (refused syntaxError) (omega arith) ∙ sym h))
 
   goes-late : (t : Token) (r : List ℕ) → readToken (drop i s) ≡ got t r → (eqb i 0 || not (isDeclaration t)) ≡ false → RunAt a o s i ≡ refused syntaxError
   goes-late t r e h =
       let (first, d) = neither (eqb i 0) (not (isDeclaration t)) h in
       rw first (ap (runFrom a o) (from-late s i t r inside e (not-false (isDeclaration t) d)))
 
-  goes-on-from : (t : Token) (r : List ℕ) → readToken (drop i s) ≡ got t r → (eqb i 0 || not (isDeclaration t)) ≡ true
-      → runFrom a (andThen o (λ u. fileEvents (storedMachine a) u (eventsOfToken t))) (tokensFrom s false (length s - length r)) ≡ RunAt a o s i
-  goes-on-from t r e h = sym (ap (runFrom a o) (from-next s i (eqb i 0) t r inside e h) ∙ after a o t (tokensFrom s false (length s - length r)))
-
-  goes : (m : Read Token) → readToken (drop i s) ≡ m → Goes m
-  goes fail e = (inside, (omega arith, refused-run a (tokensFrom s (eqb (length s) 0) (length s)) ∙ sym (ap (runFrom a o) (from-none s i (eqb i 0) inside e))))
-  goes (got t r) e =
+  goes-next : (t : Token) (r : List ℕ) → readToken (drop i s) ≡ got t r → (eqb i 0 || not (isDeclaration t)) ≡ true → Goes (length s - length r) (tokenTaken a o t)
+  goes-next t r e h =
       let end = length s - length r in
       let next = token-next s i t r e in
-      let is = shown-next (length s) t i end in
-      let past : eqb end 0 ≡ false = ne-eqb end 0 (omega (arith, next .1)) in (
-        rw is (next .1),
-        (
-          rw is (next .2),
-          rw (is, past) (cases (eqb i 0 || not (isDeclaration t))
-              (λ h. ap (λ (p : Outcome Left). runFrom a p (tokensFrom s false end)) (found-events a o t i end h) ∙ goes-on-from t r e h)
-              (λ h. ap (λ (p : Outcome Left). runFrom a p (tokensFrom s false end)) (found-late a o t i end (nameOfToken t) h) ∙ refused-run a (tokensFrom s false end) ∙ sym (goes-late t r e h))),
-        ),
-      )
+      let past : eqb end 0 ≡ false = ne-eqb end 0 (omega (arith, next .1)) in
+      (next .1, (next .2, rw past (sym (ap (runFrom a o) (from-next s i (eqb i 0) t r inside e h) ∙ after a o t (tokensFrom s false end)))))
 
-pub taken-end : (a s : List ℕ) (i : ℕ) (o : Outcome Left) → length s ≤ i → RunAt a o s i ≡ o
-unfolding fileEvents eventsOf
-taken-end a s i o h = ap (runFrom a o) (from-end s i (eqb i 0) h) ∙ then-filed o
+  -- of a token that was read, or none
+  goes : (m : Read Token) → readToken (drop i s) ≡ m → Goes (nextOf (length s) i (foundOf (length s) i m)) (stepFound a i o (foundOf (length s) i m) (tagName m))
+  goes fail e = goes-none (ap (runFrom a o) (from-none s i (eqb i 0) inside e))
+  goes (got t r) e =
+      let end = length s - length r in
+      cases (eqb i 0 || not (isDeclaration t))
+      (λ h. goes-same _ end _ (tokenTaken a o t) (shown-next (length s) t i end h) (found-events (length s) short a o t i end h) (goes-next t r e h))
+      (λ h. goes-same _ (length s) _ (refused syntaxError) (late-next (length s) t i end h) (found-late (length s) a o t i end (nameOfToken t) h) (goes-none (goes-late t r e h)))
 
 -- a fresh run for a refusal
 pub left-done : (fresh : Left) (o : Outcome Left) (n : ℕ) (run : List ℕ) (c : Counters) → Answered o n run c → n ≡ 0 → Leaves fresh o n run c
@@ -240,10 +271,15 @@ module _ (a : List ℕ) (t : Left) (s : List ℕ) where
   unfolding fileReport first
   report-run h k = rw (le-ltb maxReportBytes (length s) h, k) (go (readReport s))
     where
-      go : (x : Read (List Token)) → andThen (unless (first (gives (isNoRun x) syntaxError ∷ [])) t) (λ t. andThen (fileEvents (storedMachine a) t (eventsOf (tokensIn x))) fileLast)
+      unless-repeat : (b : Bool) (k : Left → Outcome Left) → andThen (unless (first (gives b repeatedAttribute ∷ [])) t) (λ t. andThen (k t) fileLast) ≡ andThen (andThen (withRepeat b (filed t)) k) fileLast
+      unless-repeat true k = refl
+      unless-repeat false k = refl
+
+      go : (x : Read (List Token))
+          → andThen (unless (first (gives (isNoRun x) syntaxError ∷ gives (repeatsIn (tokensIn x)) repeatedAttribute ∷ [])) t) (λ t. andThen (fileEvents (storedMachine a) t (eventsOf (tokensIn x))) fileLast)
           ≡ andThen (runFrom a (filed t) x) fileLast
       go fail = refl
-      go (got ts r) = refl
+      go (got ts r) = unless-repeat (repeatsIn ts) (λ t. fileEvents (storedMachine a) t (eventsOf ts))
 
 pub left-refused : (fresh : Left) (o : Outcome Left) (r : Refusal) (n : ℕ) (run' : List ℕ) (c' : Counters) → o ≡ refused r → n ≡ numberOf r → run' ≡ fresh .bytes → c' ≡ fresh .counters
     → Leaves fresh o n run' c'
@@ -329,13 +365,17 @@ first-fit : (a : List ℕ) (b : Bool) (o : Outcome Left) → Fit a o → Fit a (
 first-fit a true o f = f
 first-fit a false o f = tt
 
+repeat-fit : (a : List ℕ) (twice : Bool) (o : Outcome Left) → Fit a o → Fit a (withRepeat twice o)
+repeat-fit a true o f = tt
+repeat-fit a false o f = f
+
 found-fit : (a : List ℕ) (at : ℕ) (o : Outcome Left) (f : Found) (e : Name) → Fit a o → Fit a (stepFound a at o f e)
 found-fit a at o Nothing e u = tt
 found-fit a at o (Declaration end) e u = first-fit a (eqb at 0) o u
 found-fit a at o (Comment end) e u = u
-found-fit a at o (Start from to end) e u = then-fit a o _ u (λ t v. open-fit a t e v)
-found-fit a at o (Empty from to end) e u =
-    then-fit a o _ u (λ t v. then-fit a (fileOpen a t e) (λ t₂. fileClose a t₂ e) (open-fit a t e v) (λ t₂ w. close-fit a t₂ e w))
+found-fit a at o (Start from to end twice) e u = then-fit a (withRepeat twice o) _ (repeat-fit a twice o u) (λ t v. open-fit a t e v)
+found-fit a at o (Empty from to end twice) e u =
+    then-fit a (withRepeat twice o) _ (repeat-fit a twice o u) (λ t v. then-fit a (fileOpen a t e) (λ t₂. fileClose a t₂ e) (open-fit a t e v) (λ t₂ w. close-fit a t₂ e w))
 found-fit a at o (End from to end) e u = then-fit a o _ u (λ t v. close-fit a t e v)
 found-fit a at o (Text end all) e u =
     then-fit a o _ u (λ t v. unless-fit a (first (gives (eqb (depthOf (t .bytes)) 0 && not all) notOneRoot ∷ [])) t (λ n. v))
@@ -355,25 +395,25 @@ pub record Turn (a s : List ℕ) (i n : ℕ) (run : List ℕ) (c : Counters) (al
 module _ (a run : List ℕ) (n : ℕ) (c : Counters) (s : List ℕ) (i n' : ℕ) (run' : List ℕ) (c' : Counters) (next : ℕ) where
   -- a step, by what the code says of the token
   pub stepped : (f : Found) → foundOf (length s) i (readToken (drop i s)) ≡ f
-      → ((o : Outcome Left) → Answered o n run c → Taking a run (stepFound a i o f (tagName (readToken (drop i s)))) n' run' c') → next ≡ nextOf (length s) f
+      → ((o : Outcome Left) → Answered o n run c → Taking a run (stepFound a i o f (tagName (readToken (drop i s)))) n' run' c') → next ≡ nextOf (length s) i f
       → Stepping a run n c s i n' run' c' next
   stepped f is t e = record { takes = λ o h. rw is (t o h); onward = rw is e }
 
   -- the same of a tag, by calls with its name as it was cut from the bytes
   pub tag-stepped : (f : Found) → foundOf (length s) i (readToken (drop i s)) ≡ f → (part : Name) → part ≡ tagName (readToken (drop i s)) → (m : ℕ) (d : Counters)
       → ((o : Outcome Left) → Answered o n run c → Taking a run (stepFound a i o f part) m run' d)
-      → (n' ≡ m) × ((c' ≡ d) × (next ≡ nextOf (length s) f)) → Stepping a run n c s i n' run' c' next
+      → (n' ≡ m) × ((c' ≡ d) × (next ≡ nextOf (length s) i f)) → Stepping a run n c s i n' run' c' next
   tag-stepped f is part named m d t e = stepped f is (λ o h. rw (e .0, e .1 .0, ← named) (t o h)) (e .1 .1)
 
-  module _ (inside : i < length s) (step : Stepping a run n c s i n' run' c' next) where
+  module _ (short : length s ≤ maxReportBytes) (inside : i < length s) (step : Stepping a run n c s i n' run' c' next) where
     pub turn-past : (i < next) × (next ≤ length s)
     turn-past =
-        let g = goes a s i inside (refused syntaxError) (readToken (drop i s)) refl in
+        let g = goes a s short i inside (refused syntaxError) (readToken (drop i s)) refl in
         rw (step .onward) (g .0, g .1 .0)
 
     pub turn-taken : (all : Outcome Left) → Turn a s i n run c all → Turn a s next n' run' c' all
     turn-taken all t =
-        let g = goes a s i inside (t .outcome) (readToken (drop i s)) refl in
+        let g = goes a s short i inside (t .outcome) (readToken (drop i s)) refl in
         let f = foundOf (length s) i (readToken (drop i s)) in
         let e = tagName (readToken (drop i s)) in
         record {

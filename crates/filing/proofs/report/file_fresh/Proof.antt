@@ -1,7 +1,7 @@
 use mathlib.Core.Path.{refl, sym, _∙_}
 use borrow.Author.Tests.{not-true, not-false}
 use Rattle.stored.specs.RunCalls.{noCounters}
-use Rattle.filing.specs.Limits.{maxReportBytes}
+use Rattle.documents.specs.Limits.{maxReportBytes}
 use Rattle.filing.proofs.Laws.Filing.Taking.{left-refused, report-long, report-foreign, report-run}
 use borrow.Author.Needs.{needs}
 use Rattle.filing.proofs.report.file_fresh.Statement.{statement}
@@ -26,6 +26,7 @@ returns-2 c =
     left-refused _ _ _ _ _ _ (report-foreign _ _ _ (c .before .before .before .if1 .left) (sym (c .before .before .all-listed .ensures) ∙ not-true _ (c .before .if2 .taken))) (c .with-none2 .ensures .0) refl (c .with-none2 .ensures .1)
 
 take-run-requires : tie.Need-take-run-requires
+unfolding maxReportBytes
 take-run-requires c κs = search needs
 
 same-length : tie.Need-same-length

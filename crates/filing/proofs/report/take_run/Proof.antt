@@ -8,7 +8,9 @@ use Rattle.filing.proofs.report.take_run.Statement.{statement}
 use Rattle.filing.proofs.report.take_run.Tie as tie
 
 take-tokens-requires : tie.Need-take-tokens-requires
-take-tokens-requires c κs = c .before .before .before .before .pre .0
+take-tokens-requires c κs =
+    let pre = c .before .before .before .before .pre in
+    (pre .0, pre .2)
 
 take-end-requires : tie.Need-take-end-requires
 take-end-requires c κs = search needs

@@ -25,7 +25,7 @@ none-requires c κs = search needs
 loop-holds : tie.Need-loop-holds Inv-loop μ-loop
 loop-holds c =
     let args = c .before .before .before .before .args in
-    let turn : Turn (args .a .now) (args .s .now) 0 0 (args .run .now) (c .none .result) (runFrom (args .a .now) (filed (record { bytes = args .run .now; counters = noCounters })) (readReport (args .s .now))) = record { outcome = filed (record { bytes = args .run .now; counters = noCounters }); answered = (refl, rw (c .none .ensures)); same = refl; fit = c .before .before .before .before .pre } in
+    let turn : Turn (args .a .now) (args .s .now) 0 0 (args .run .now) (c .none .result) (runFrom (args .a .now) (filed (record { bytes = args .run .now; counters = noCounters })) (readReport (args .s .now))) = record { outcome = filed (record { bytes = args .run .now; counters = noCounters }); answered = (refl, rw (c .none .ensures)); same = refl; fit = c .before .before .before .before .pre .0 } in
     (omega arith, (refl, (refl, turn)))
 
 take-at-requires : tie.Need-take-at-requires Inv-loop μ-loop
@@ -35,7 +35,7 @@ take-at-requires c κs =
 
 loop-less : tie.Need-loop-less Inv-loop μ-loop
 loop-less c =
-    let past = turn-past _ _ _ _ _ _ _ _ _ _ (c .before .before .before .before .before .loop-test .taken) (c .before .before .before .take-at .ensures) in
+    let past = turn-past _ _ _ _ _ _ _ _ _ _ (c .before .before .before .before .before .before .before .before .before .before .before .pre .1) (c .before .before .before .before .before .loop-test .taken) (c .before .before .before .take-at .ensures) in
     omega (arith, past .0, past .1)
 
 loop-again : tie.Need-loop-again Inv-loop μ-loop
@@ -43,8 +43,9 @@ loop-again c =
     let l = c .before .before .before .before .before .before .loop in
     let taken = c .before .before .before .take-at in
     let inside = c .before .before .before .before .before .loop-test .taken in
-    let past = turn-past _ _ _ _ _ _ _ _ _ _ inside (taken .ensures) in
-    let turn = turn-taken _ _ _ _ _ _ _ _ _ _ inside (taken .ensures) _ (l .inv .1 .1 .1) in
+    let short = c .before .before .before .before .before .before .before .before .before .before .before .pre .1 in
+    let past = turn-past _ _ _ _ _ _ _ _ _ _ short inside (taken .ensures) in
+    let turn = turn-taken _ _ _ _ _ _ _ _ _ _ short inside (taken .ensures) _ (l .inv .1 .1 .1) in
     (past .1, (taken .kept .1 .0 ∙ l .inv .1 .0, (taken .ensures .takes (l .inv .1 .1 .1 .outcome) (l .inv .1 .1 .1 .answered) .restarts ∙ l .inv .1 .1 .0, turn)))
 
 same-length : tie.Need-same-length Inv-loop μ-loop
