@@ -1,6 +1,8 @@
 """Writes the benchmark's cases, the same each time, into a folder, as CASE/folders.txt and CASE/report.xml, and prints their names. make.py FOLDER"""
+import itertools
 import os
 import random
+import string
 import sys
 
 NAMES = "visit lock clock drift door event battery key user level code note state fault temp site part count".split()
@@ -70,6 +72,46 @@ def different_labels(rng):
     return folder_set(paths, 4), "".join(report) + "</r>"
 
 
+def attribute_names():
+    """All names, the shortest first."""
+    first = string.ascii_letters + "_"
+    later = first + string.digits + "-."
+    for length in itertools.count(1):
+        for name in itertools.product(first, *[later] * (length - 1)):
+            yield "".join(name)
+
+
+def many_attributes(rng):
+    """One tag with as many attributes as a report has room for, no two of the same name, in any order."""
+    names, left = [], MAX_REPORT - len("<visit/>")
+    for name in attribute_names():
+        left -= len(name) + 4
+        if left < 0:
+            break
+        names.append(name)
+    rng.shuffle(names)
+    return "<visit%s/>" % "".join(' %s=""' % name for name in names)
+
+
+def alike_attributes(rng):
+    """One tag with long attribute names that differ in their last bytes only."""
+    names = ["n" * 80 + "%03d" % i for i in range(700)]
+    rng.shuffle(names)
+    return "<visit%s/>" % "".join(' %s=""' % name for name in names)
+
+
+def full_tags(rng):
+    """As many tags as there is room for, each with one attribute more than are compared without a second look at the tag."""
+    names = list(string.ascii_lowercase[:17])
+    report, end = ["<visit>"], "</visit>"
+    left = MAX_REPORT - len(report[0]) - len(end)
+    while left >= 93:
+        rng.shuffle(names)
+        report.append("<visit%s/>" % "".join(' %s=""' % name for name in names))
+        left -= len(report[-1])
+    return "".join(report) + end
+
+
 def main(folder):
     rng = random.Random(1)
     small, large = usual_report(rng, 1300), usual_report(rng, MAX_REPORT)
@@ -79,6 +121,9 @@ def main(folder):
     cases["different_labels"] = different_labels(rng)
     cases["equal_labels"] = equal_labels(1, 8190)
     cases["equal_labels_nested"] = equal_labels(8, 1000)
+    cases["many_attributes"] = sets[60], many_attributes(rng)
+    cases["alike_attributes"] = sets[60], alike_attributes(rng)
+    cases["17_attributes"] = sets[60], full_tags(rng)
     for name, (text, report) in cases.items():
         assert len(text) <= MAX_SET and len(report) <= MAX_REPORT, name
         os.makedirs(os.path.join(folder, name), exist_ok=True)

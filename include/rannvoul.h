@@ -43,7 +43,8 @@ enum {
     RANNVOUL_TOO_DEEP = 11,         /* over 64 nested elements */
     RANNVOUL_MISMATCHED_CLOSE = 12, /* an end tag that is not that of the innermost element */
     RANNVOUL_NOT_FOUND = 13,        /* the set has no such path or folder */
-    RANNVOUL_BAD_SHAPE = 14         /* stored numbers out of range, or not those of this automaton or run */
+    RANNVOUL_BAD_SHAPE = 14,        /* stored numbers out of range, or not those of this automaton or run */
+    RANNVOUL_REPEATED_ATTRIBUTE = 15 /* a tag of the report has two attributes of the same name */
 };
 
 /* What a run counts. Start with zeros; filing sets them, and the listing reads them. */
@@ -58,7 +59,7 @@ uint8_t rannvoul_build(const uint8_t *text, size_t text_size, uint8_t *automaton
 
 /*
  * Files a report: the run then says which paths and folders are matched. Whatever the run held is forgotten, so that one buffer serves
- * report after report. Refuses with 1 and 14, which change nothing; then with 2, 8, 9, the first tag or text
+ * report after report. Refuses with 1 and 14, which change nothing; then with 2, 8, 9, 15, the first tag or text
  * refused (5, 10, 11, 12), and 10 at the end, after which run and counters are fresh.
  */
 uint8_t rannvoul_file(const uint8_t *automaton, size_t automaton_size, uint8_t *run, size_t run_size, const uint8_t *report,

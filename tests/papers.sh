@@ -78,6 +78,12 @@ files 'no folder lines' '' '<a/>' $'(filed\n(moves 1 0)\n)'
 files 'empty report' $'(folder 1 (//a))\n' '' '(refused 10)'
 files 'folder order before a torn report' $'(folder 2 (//a))\n(folder 2 (//b))\n' '<' '(refused 4)'
 
+# a repeated attribute: after 9, before all else that a token is refused with
+files 'a voltage twice in one tag' $'(folder 1 (//battery))\n' '<visit><battery volts="3.1" volts="3.1"/></visit>' '(refused 15)'
+path 'a voltage in each of two tags' '//battery' '<visit><battery volts="3.1"/><battery volts="3.1"/></visit>' 1 3 0
+files 'a voltage twice, then torn' $'(folder 1 (//battery))\n' '<visit><battery volts="3.1" volts="3.1"/><' '(refused 9)'
+files 'two roots, then a voltage twice' $'(folder 1 (//battery))\n' '<visit/><battery volts="3.1" volts="3.1"/>' '(refused 15)'
+
 prints 'both files missing' '(refused 3)'
 : >"$work/folders.txt"
 prints 'a set of 0 bytes' '(refused 3)'
@@ -89,6 +95,7 @@ prints 'the report missing' '(refused 10)'
 path 'a report of 65,536 bytes' '/a' "<a>$(times x 65529)</a>" 1 1 0
 files 'a report of 65,537 bytes' $'(folder 1 (/a))\n' "<a>$(times x 65530)</a>" '(refused 2)'
 files 'a report of 65,537 bytes that begins with a whole one' $'(folder 1 (/a))\n' "<a>$(times x 65529)</a>x" '(refused 2)'
+files 'a report of 65,537 bytes with a repeated attribute' $'(folder 1 (/a))\n' "<a b='' b=''>$(times x 65520)</a>" '(refused 2)'
 files 'a report of 200,000 bytes' $'(folder 1 (/a))\n' "<a>$(times x 199993)</a>" '(refused 2)'
 
 # 30 paths of 16 steps and one of 13, each name of 32 bytes: 16,384 bytes in all.

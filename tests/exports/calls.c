@@ -64,6 +64,7 @@ static void limits(rannvoul_counters *c)
     is("a set over it", rannvoul_build(x, RANNVOUL_MAX_SET_BYTES + 1, automaton, size_a), RANNVOUL_TOO_LARGE);
     is("a report at its limit", rannvoul_file(automaton, size_a, run, size_r, x, RANNVOUL_MAX_REPORT, c), RANNVOUL_NOT_ONE_ROOT);
     is("a report over it", rannvoul_file(automaton, size_a, run, size_r, x, RANNVOUL_MAX_REPORT + 1, c), RANNVOUL_TOO_LARGE);
+    is("a repeated attribute", rannvoul_file(automaton, size_a, run, size_r, BYTES("<a b='' b=''/>"), c), RANNVOUL_REPEATED_ATTRIBUTE);
 }
 
 static void asked(const char *what, uint8_t refusal, uint8_t matched, uint8_t refusal_expected, uint8_t expected)

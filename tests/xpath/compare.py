@@ -1,24 +1,14 @@
 """Holds what the program printed to what libxml2 answered, case by case. compare.py FOLDER"""
 import os
-import re
 import sys
 from collections import Counter
 
-from subset import ATTRIBUTE, DECLARATION, listing, moves, read_set, report_refusal, tokens
+from subset import DECLARATION, listing, moves, read_set, report_refusal
 
 
 def read(folder, name):
     with open(os.path.join(folder, name), "rb") as source:
         return source.read()
-
-
-def doubled(report):
-    """Does a tag have an attribute twice? XML 1.0 forbids it; the subset reads attributes for form alone."""
-    for token in tokens(report):
-        names = re.findall(ATTRIBUTE, token["attributes"] or b"")
-        if len(names) != len(set(names)):
-            return True
-    return False
 
 
 def outside_subset(report, refused):
@@ -51,15 +41,13 @@ def judge(folder, seen):
         return "no difference where there should be one: " + kind
     if refused:
         seen["reports refused"] += 1
+        seen["reports refused with 15"] += refused == 15
         if taken and (kind == "same" or not outside_subset(report, refused)):
             return "libxml2 takes a report that is to be refused with %d" % refused
         seen["refused by design"] += taken
         return None if got == b"(refused %d)\n" % refused else "a report to be refused with %d" % refused
     if not taken:
-        seen["taken by design"] += 1
-        if not doubled(report):
-            return "libxml2 refuses a report that is to be filed"
-        return None if got.startswith(b"(filed\n") else "a report to be filed"
+        return "libxml2 refuses a report that is to be filed"
     words = answers.split()[:-2]
     selected = [word == b"true" for word in words[1:]]
     seen["reports filed"] += 1

@@ -1,9 +1,10 @@
 """Writes the cases into a folder, one folder each: folders.txt, report.xml, kind, and what xmllint is asked. make_cases.py FOLDER COUNT"""
 import os
 import random
+import re
 import sys
 
-from subset import DECLARATION, STEP, read_set
+from subset import ATTRIBUTE, DECLARATION, NAME, read_set
 
 # Names that are words of XPath, differ in case, begin one another, or have every sort of byte.
 POOLS = [
@@ -26,9 +27,18 @@ def blank(rng):
     return rng.choice([b"", b"", b"", b" ", b"\n", b"\t ", b"\r\n"])
 
 
+def attribute_names(rng):
+    """Names that differ in case or begin one another too; now and then very many."""
+    names = [b"a", b"b", b"A", b"aa", b"id", b"x-1", b"_._", b"long" * 12, b"long" * 11 + b"lonG"]
+    if rng.random() < 0.02:
+        names += [b"n%d" % i for i in range(rng.choice([8, 20, 40]))]
+        return rng.sample(names, len(names))
+    return rng.sample(names, rng.choice([0, 0, 0, 1, 2, 3, 5]))
+
+
 def attributes(rng):
     out = b""
-    for name in rng.sample([b"a", b"b", b"id", b"x-1", b"_._", b"long" * 12], rng.choice([0, 0, 0, 1, 2, 3])):
+    for name in attribute_names(rng):
         value, quote = rng.choice(VALUES), rng.choice([b'"', b"'"])
         value += b"'" if quote == b'"' and rng.random() < 0.3 else b""
         out += (blank(rng) or b" ") + name + blank(rng) + b"=" + blank(rng) + quote + value + quote
@@ -133,6 +143,20 @@ def damage_tags(rng, text):
     )
 
 
+def repeat_attribute(rng, text):
+    """An attribute put into a tag a second time, at any place among its others; or one with nearly the same name."""
+    places = [m for m in re.finditer(rb"<" + NAME + rb"(?=[ \t\r\n/>])", text)]
+    at = rng.choice(places).end()
+    to = text.find(b">", at)
+    own = list(re.finditer(ATTRIBUTE, text[at:to]))
+    if not own or rng.random() < 0.1:
+        return text[:at] + b" q='1' Q=\"q='2'\" qq='' q" + rng.choice([b"", b".", b"_", b"1"]) + b"=''" + text[at:]
+    again = rng.choice(own)
+    name = again[1] if rng.random() < 0.8 else rng.choice([again[1][:-1] or b"z", again[1] + b"1", again[1].swapcase()])
+    put = at + rng.choice([0, rng.choice(own).end(), own[-1].end()])
+    return text[:put] + b" " + name + b"='a=&quot;1&quot;'" + text[put:]
+
+
 def damage_set(rng, text):
     name = b"(folder 1 (//a))\n"
     edits = [
@@ -177,9 +201,8 @@ REFUSED = [
     (b'<?xml version="1.0" encoding="UTF-8"?><a/>', "one form of the declaration"),
     (b'<?xml version="1.0" standalone="yes"?><a/>', "one form of the declaration"),
 ]
-# `taken`: the subset takes it and XML 1.0 does not, or means something else; the second report is the same for both.
+# `taken`: the subset takes it and XML 1.0 means something else; the second report is the same for both.
 TAKEN = [
-    (b"<a b='1' b='2'><b/></a>", b"<a b='1' c='2'><b/></a>", "attributes are read for form alone, so one may stand twice"),
     (b"<a xmlns='u'><b/></a>", b"<a><b/></a>", "`xmlns` is an attribute like any other: names are plain"),
 ]
 
@@ -207,6 +230,8 @@ def cases(count):
             yield text, damage_bytes(rng, one), None, "damaged"
         elif sort in (3, 4, 5):
             yield text, damage_tags(rng, one), None, "damaged"
+        elif sort in (7, 8):
+            yield text, repeat_attribute(rng, one), None, "damaged"
         elif sort == 6:
             yield damage_set(rng, text), one, None, "damaged"
         else:

@@ -78,6 +78,12 @@ def calls(found):
             yield "text", token["text"]
 
 
+def repeats(found):
+    """Does a tag have two attributes of the same name?"""
+    names = (re.findall(ATTRIBUTE, token["attributes"] or b"") for token in found)
+    return any(len(own) != len(set(own)) for own in names)
+
+
 def report_refusal(report):
     """The first number of a report's order whose condition holds, or 0."""
     if len(report) > 65536:
@@ -87,6 +93,8 @@ def report_refusal(report):
     found = tokens(report)
     if found is None:
         return 9
+    if repeats(found):
+        return 15
     names, closed = [], False
     for call, what in calls(found):
         if call == "text":
