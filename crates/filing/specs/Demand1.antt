@@ -68,8 +68,8 @@ pub record ReportJudged (a run : List ℕ) (c : Counters) (report : List ℕ) (a
   pub fresh : (answer ≡ numberOf shortBuffer → ⊥) → (answer ≡ numberOf badShape → ⊥) → IfRefused answer ((run' ≡ startRun a run) × (c' ≡ noCounters))
 
 pub record Demand1 : Type 0 where
-  -- the numbers are from 1 to 15, and no two refusals have the same
-  pub fifteen : (r : Refusal) → (1 ≤ numberOf r) × (numberOf r ≤ 15)
+  -- the numbers are those from 1 to 15, and no two refusals have the same
+  pub fifteen : (n : ℕ) → ((r : Refusal) × (numberOf r ≡ n)) ↔ ((1 ≤ n) × (n ≤ 15))
   pub different : (q r : Refusal) → numberOf q ≡ numberOf r → q ≡ r
   -- a set is read, built, and written back
   pub reads : (text before : List ℕ) (answer : ℕ) (after : List ℕ) → ReadSet text before answer after → SetJudged setSize text before answer after

@@ -1,9 +1,11 @@
--- The numbers of the refusals: from 1 to 15, each that of one refusal only.
-use Prim.Native.Nat.{ℕ, _≤_}
+-- The numbers of the refusals: those from 1 to 15, each that of one refusal.
+use Prim.Native.Nat.{ℕ, zero, suc, _≤_, _<_}
 use native.Mathlib.Omega.{arith}
 use mathlib.Core.Path.{_≡_, refl, sym, ap, _∙_}
+use mathlib.Core.Logic.{_↔_}
 use mathlib.Core.List.{List, [], _∷_}
 use lib.ListN.{getD}
+use Rattle.text.proofs.Laws.Bytes.Table.{values, same-entries}
 use Rattle.text.specs.Refusals.{Refusal, shortBuffer, tooLarge, malformedSet, outOfOrder, nameTooLong, pathTooLong, overCapacity, invalidByte, syntaxError, notOneRoot, tooDeep, mismatchedClose, notFound, badShape, repeatedAttribute, numberOf}
 
 byNumber : List Refusal
@@ -47,6 +49,17 @@ number-within mismatchedClose = (omega arith, omega arith)
 number-within notFound = (omega arith, omega arith)
 number-within badShape = (omega arith, omega arith)
 number-within repeatedAttribute = (omega arith, omega arith)
+
+number-at : (k : ℕ) → k < 15 → numberOf (getD byNumber (suc k) shortBuffer) ≡ suc k
+unfolding byNumber values
+number-at k h = same-entries (λ (n : ℕ). numberOf (getD byNumber (suc n) shortBuffer)) suc 15 refl k h
+
+refusal-of : (n : ℕ) → (1 ≤ n) × (n ≤ 15) → (r : Refusal) × (numberOf r ≡ n)
+refusal-of zero h = absurd (omega arith)
+refusal-of (suc k) h = (getD byNumber (suc k) shortBuffer, number-at k (omega arith))
+
+pub fifteen-numbers : (n : ℕ) → ((r : Refusal) × (numberOf r ≡ n)) ↔ ((1 ≤ n) × (n ≤ 15))
+fifteen-numbers n = (λ p. rw (p .1) at (number-within (p .0)), refusal-of n)
 
 pub some-number : (r : Refusal) → numberOf r ≡ 0 → ⊥
 some-number r e = omega (arith, number-within r .0)

@@ -13,7 +13,7 @@ use Rattle.notation.specs.Layout.{setSize}
 use Rattle.notation.specs.Reads.{textOf, pathAt, folderOf}
 use Rattle.notation.specs.ReadSet.{readInto}
 use Rattle.notation.specs.WriteText.{textConditions}
-use Rattle.text.proofs.Laws.Numbers.{one-refusal, number-within}
+use Rattle.text.proofs.Laws.Numbers.{one-refusal, fifteen-numbers}
 use Rattle.text.specs.Order.{gives, given, AnswersBy}
 use Rattle.text.proofs.Laws.Tests.{cases}
 use Rattle.text.proofs.Laws.Order.{answers-by, given-none, given-cons}
@@ -100,7 +100,7 @@ module _ (text report a run out : List ℕ) (answer : Written) (a' run' out' : L
 pub demand1 : Demand1
 unfolding startRefusal openRefusal closeRefusal askRefusal askPath askFolder askStep askPrefix nameRefusal
 demand1 = record {
-  fifteen = number-within;
+  fifteen = fifteen-numbers;
   different = one-refusal;
   reads = λ text before answer after r. set-judged setSize text before answer after (λ v. readInto v before) (λ r. refl) (r .short) (r .judged);
   builds = λ text before answer after b. set-judged automatonSize text before answer after (λ v. builtInto v before) (λ r. refl) (b .short) (b .judged);
