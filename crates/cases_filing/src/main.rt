@@ -141,6 +141,10 @@ fn many() {
     attributes(b"16 names and another", 16, b"n");
     attributes(b"17 names and the last again", 17, b"n0016");
     attributes(b"17 names and another", 17, b"n0017");
+    attributes(b"255 names and the first again", 255, b"n0000");
+    attributes(b"255 names and another", 255, b"n");
+    attributes(b"256 names and the first again", 256, b"n0000");
+    attributes(b"256 names and another", 256, b"n");
     attributes(b"6000 names and the first again", 6000, b"n0000");
     attributes(b"6000 names and one in the middle", 6000, b"n2999");
     attributes(b"6000 names and the last again", 6000, b"n5999");

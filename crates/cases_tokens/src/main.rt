@@ -68,7 +68,7 @@ fn letter(f: Found) {
         } => {
             io::write_all(1, b" e:");
         }
-        Found::Text { end: _, blank: all } => {
+        Found::Text { blank: all, end: _ } => {
             if all {
                 io::write_all(1, b" b");
             } else {

@@ -206,7 +206,7 @@ fn take_at(a: &[u8], run: &mut [u8], refusal: u8, c: Counters, s: &[u8], at: usi
     ensures { λ r. ⌜ Stepping (now (a .entry)) (now (run .entry)) refusal c (now (s .entry)) at (r .refusal) (now (run .exit)) (r .counters) (r .next) ⌝ }
 {
     match token_at(s, at) {
-        Found::Text { end, blank: all } => step_with(take_text(run, refusal, all), c, end),
+        Found::Text { blank: all, end } => step_with(take_text(run, refusal, all), c, end),
         Found::Start {
             from,
             to,

@@ -25,7 +25,7 @@ shown total (comment c) at end = Comment end
 shown total (startTag n l b) at end = Start (at + 1) (at + 1 + length n) end (judged total (map attributeName l))
 shown total (emptyTag n l b) at end = Empty (at + 1) (at + 1 + length n) end (judged total (map attributeName l))
 shown total (endTag n b) at end = End (at + 2) (at + 2 + length n) end
-shown total (text ps) at end = Text end (every blank (printParts ps))
+shown total (text ps) at end = Text (every blank (printParts ps)) end
 
 abbrev pub foundOf : ℕ → ℕ → Read Token → Found
 foundOf total at fail = Nothing
@@ -39,7 +39,7 @@ nameFrom (Comment e) = 0
 nameFrom (Start from to e twice) = from
 nameFrom (Empty from to e twice) = from
 nameFrom (End from to e) = from
-nameFrom (Text e all) = 0
+nameFrom (Text all e) = 0
 
 abbrev pub nameTo : Found → ℕ
 nameTo Nothing = 0
@@ -48,7 +48,7 @@ nameTo (Comment e) = 0
 nameTo (Start from to e twice) = to
 nameTo (Empty from to e twice) = to
 nameTo (End from to e) = to
-nameTo (Text e all) = 0
+nameTo (Text all e) = 0
 
 -- where a token ends; whether it is a declaration
 abbrev pub foundEnd : Found → ℕ
@@ -58,7 +58,7 @@ foundEnd (Comment e) = e
 foundEnd (Start from to e twice) = e
 foundEnd (Empty from to e twice) = e
 foundEnd (End from to e) = e
-foundEnd (Text e all) = e
+foundEnd (Text all e) = e
 
 abbrev pub declares : Found → Bool
 declares Nothing = false
@@ -67,4 +67,4 @@ declares (Comment e) = false
 declares (Start from to e twice) = false
 declares (Empty from to e twice) = false
 declares (End from to e) = false
-declares (Text e all) = false
+declares (Text all e) = false

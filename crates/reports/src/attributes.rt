@@ -14,7 +14,7 @@ ghost use Rattle.documents.specs.Limits.{maxReportBytes};
 ghost use Rattle.documents.specs.Repeats.{repeated};
 ghost use Rattle.reports.specs.Code.Reaches.{namesFrom};
 ghost use Rattle.reports.specs.Code.Ordered.{namesAt};
-ghost use Rattle.reports.specs.Code.Attributes.{nextFrom, kept, Lists, Inside as InsideOf};
+ghost use Rattle.reports.specs.Code.Attributes.{nextFrom, kept, Notes, Inside as InsideOf};
 ghost use Rattle.reports.specs.Seen.{judged};
 
 // So many names are compared without a second look at the tag.
@@ -63,28 +63,28 @@ fn keep(places: &mut [u16], k: usize, name: usize)
 }
 
 // How far the attributes of a tag and the blanks after them go, and how many there are.
-pub struct Listed {
+pub struct Noted {
     reach: Reach,
     count: usize,
 }
 
-// The places of the names are listed as far as there is room.
-fn list_names(s: &[u8], at: usize, places: &mut [u16]) -> Listed
+// The places of the names are noted as far as there is room.
+fn note_names(s: &[u8], at: usize, places: &mut [u16]) -> Noted
     requires { ⌜ at ≤ length (now s) ⌝ }
-    ensures { λ r. ⌜ Lists (now (s .entry)) at (r .reach) (r .count) (now (places .exit)) ⌝ }
+    ensures { λ r. ⌜ Notes (now (s .entry)) at (r .reach) (r .count) (now (places .exit)) ⌝ }
 {
     let mut i = at;
     let mut count = 0;
     loop {
         match next_attribute(s, i) {
             Next::Done(n) => {
-                return Listed {
+                return Noted {
                     reach: Reach::To(n),
                     count,
                 };
             }
             Next::Torn => {
-                return Listed {
+                return Noted {
                     reach: Reach::No,
                     count: 0,
                 };
@@ -106,12 +106,12 @@ fn sort_front(s: &[u8], places: &mut [u16], spare: &mut [u16], count: usize) -> 
     sort(s, &mut places[..count], &mut spare[..count])
 }
 
-// More names than were listed: all are listed, and sorted.
+// More names than were noted: all are noted, and sorted.
 fn sort_all(s: &[u8], at: usize, count: usize, places: &mut [u16], spare: &mut [u16]) -> bool
     requires { ⌜ (at ≤ length (now s)) × (length (now s) ≤ maxReportBytes) × (count ≡ length (namesFrom (now s) at)) × (count ≤ length (now places)) × (count ≤ length (now spare)) ⌝ }
     ensures { λ r. ⌜ r ≡ repeated (namesFrom (now (s .entry)) at) ⌝ }
 {
-    list_names(s, at, places);
+    note_names(s, at, places);
     sort_front(s, places, spare, count)
 }
 
@@ -134,9 +134,9 @@ fn many(s: &[u8], at: usize, count: usize) -> bool
     sort_all(s, at, count, &mut places, &mut spare)
 }
 
-// Whether a name is repeated among so many, listed as far as there is room; told only of bytes that a report may have.
-fn names_repeat(s: &[u8], at: usize, count: usize, places: [u16; FEW]) -> bool
-    requires { ⌜ (at ≤ length (now s)) × (count ≡ length (namesFrom (now s) at)) × (length (now s) ≤ maxReportBytes → count ≤ 16 → namesAt (now s) (take count places) ≡ namesFrom (now s) at) ⌝ }
+// Whether a name is repeated among so many, noted as far as there is room; told only of bytes that a report may have.
+fn names_repeat(s: &[u8], at: usize, count: usize, places: &mut [u16]) -> bool
+    requires { ⌜ (at ≤ length (now s)) × (count ≡ length (namesFrom (now s) at)) × (length (now places) ≡ 16) × (length (now s) ≤ maxReportBytes → count ≤ length (now places) → namesAt (now s) (take count (now places)) ≡ namesFrom (now s) at) ⌝ }
     ensures { λ r. ⌜ r ≡ judged (length (now (s .entry))) (namesFrom (now (s .entry)) at) ⌝ }
 {
     if count < 2 {
@@ -151,9 +151,8 @@ fn names_repeat(s: &[u8], at: usize, count: usize, places: [u16; FEW]) -> bool
         return same_names(s, p, q);
     }
     if count <= FEW {
-        let mut own = places;
         let mut spare = [0; FEW];
-        return sort_front(s, &mut own, &mut spare, count);
+        return sort_front(s, places, &mut spare, count);
     }
     if count <= SOME {
         return some(s, at, count);
@@ -179,11 +178,11 @@ pub fn attributes(s: &[u8], at: usize) -> Inside
         };
     }
     let mut places = [0; FEW];
-    let listed = list_names(s, at, &mut places);
-    let reach = listed.reach;
-    let count = listed.count;
+    let noted = note_names(s, at, &mut places);
+    let reach = noted.reach;
+    let count = noted.count;
     Inside {
         reach,
-        twice: names_repeat(s, at, count, places),
+        twice: names_repeat(s, at, count, &mut places),
     }
 }

@@ -28,7 +28,8 @@ ghost use Rattle.reports.specs.Code.Seen.{tagEndOf, textFound, textFrom,
 ghost use Rattle.reports.specs.NamePart.{NamePart};
 
 // What begins at an offset: nothing that can be read, or a token with its end. Of a tag also where its name begins and ends, and whether it
-// has an attribute's name twice, told of bytes that a report may have; of a text whether it is blank.
+// has an attribute's name twice, told of bytes that a report may have; of a text whether it is blank. `blank` stands first: behind `end` it would
+// lie over one byte of a tag's `to`, and that number would be handled in two parts.
 pub enum Found {
     Nothing,
     Declaration(usize),
@@ -51,8 +52,8 @@ pub enum Found {
         end: usize,
     },
     Text {
-        end: usize,
         blank: bool,
+        end: usize,
     },
 }
 
@@ -285,7 +286,7 @@ fn text_found(at: usize, end: usize, all: bool) -> Found
     ensures { λ r. ⌜ r ≡ textFound at end all ⌝ }
 {
     if at < end {
-        return Found::Text { end, blank: all };
+        return Found::Text { blank: all, end };
     }
     Found::Nothing
 }
@@ -355,7 +356,7 @@ fn name_span(f: Found) -> Span
         Found::Nothing => Span { from: 0, to: 0 },
         Found::Declaration(_) => Span { from: 0, to: 0 },
         Found::Comment(_) => Span { from: 0, to: 0 },
-        Found::Text { end: _, blank: _ } => Span { from: 0, to: 0 },
+        Found::Text { blank: _, end: _ } => Span { from: 0, to: 0 },
     }
 }
 
@@ -401,7 +402,7 @@ pub fn end_of(f: Found) -> usize
             to: _,
             end,
         } => end,
-        Found::Text { end, blank: _ } => end,
+        Found::Text { blank: _, end } => end,
     }
 }
 
@@ -430,7 +431,7 @@ fn is_declaration(f: Found) -> bool
             to: _,
             end: _,
         } => false,
-        Found::Text { end: _, blank: _ } => false,
+        Found::Text { blank: _, end: _ } => false,
     }
 }
 

@@ -75,7 +75,7 @@ stepFound a at o (Comment end) e = o
 stepFound a at o (Start from to end twice) e = andThen (withRepeat twice o) (λ t. fileOpen a t e)
 stepFound a at o (Empty from to end twice) e = andThen (withRepeat twice o) (λ t. andThen (fileOpen a t e) (λ t₂. fileClose a t₂ e))
 stepFound a at o (End from to end) e = andThen o (λ t. fileClose a t e)
-stepFound a at o (Text end all) e = andThen o (λ t. fileText t all)
+stepFound a at o (Text all end) e = andThen o (λ t. fileText t all)
 
 -- where to read on: behind the token; at the end, since nothing comes before 9, where there is none and past a late declaration
 abbrev pub nextOf : ℕ → ℕ → Found → ℕ
@@ -85,7 +85,7 @@ nextOf total at (Comment end) = end
 nextOf total at (Start from to end twice) = end
 nextOf total at (Empty from to end twice) = end
 nextOf total at (End from to end) = end
-nextOf total at (Text end all) = end
+nextOf total at (Text all end) = end
 
 -- what the token at an offset makes of what was answered before it, and where to read on
 pub record Stepping (a run : List ℕ) (n : ℕ) (c : Counters) (s : List ℕ) (at n' : ℕ) (run' : List ℕ) (c' : Counters) (next : ℕ) : Type 0 where

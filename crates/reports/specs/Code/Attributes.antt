@@ -33,10 +33,10 @@ abbrev pub kept : List ℕ → ℕ → ℕ → List ℕ
 kept places k name = cond (ltb k (length places)) (set places k (name % 65536)) places
 
 -- how far the attributes go, how many there are, and where their names stand, if there is room for all
-pub record Lists (s : List ℕ) (at : ℕ) (reach : Reach) (count : ℕ) (places : List ℕ) : Type 0 where
+pub record Notes (s : List ℕ) (at : ℕ) (reach : Reach) (count : ℕ) (places : List ℕ) : Type 0 where
   pub reaches : reach ≡ insideReach s at
   pub counts : count ≡ length (namesFrom s at)
-  pub listed : length s ≤ maxReportBytes → count ≤ length places → namesAt s (take count places) ≡ namesFrom s at
+  pub noted : length s ≤ maxReportBytes → count ≤ length places → namesAt s (take count places) ≡ namesFrom s at
 
 -- how far they go, and whether a name is repeated
 pub record Inside (s : List ℕ) (at : ℕ) (reach : Reach) (twice : Bool) : Type 0 where

@@ -25,14 +25,14 @@ tagEndOf s from to e twice =
 
 -- a text from an offset to another, if there is any
 abbrev pub textFound : ℕ → ℕ → Bool → Found
-textFound at end all = cond (ltb at end) (Text end all) Nothing
+textFound at end all = cond (ltb at end) (Text all end) Nothing
 
 -- what parts from here on make of a text that began earlier: some says whether it has a part already, all whether it was blank so far
 abbrev pub textOf : ℕ → Bool → Bool → Read (List Part) → Found
 textOf total some all fail = Nothing
 textOf total some all (got ps r) =
     cond ((some || nonEmpty ps) && (not (occurs (93 ∷ 93 ∷ 62 ∷ []) (printParts ps)) && textEnds r))
-    (Text (total - length r) (all && every blank (printParts ps))) Nothing
+    (Text (all && every blank (printParts ps)) (total - length r)) Nothing
 
 abbrev pub textFrom : List ℕ → Bool → Bool → ℕ → Found
 textFrom s some all i = textOf (length s) some all (readParts inText (drop i s))

@@ -26,7 +26,7 @@ Named (Comment end) e = Unit {0}
 Named (Start from to end twice) e = nameForm e ≡ true
 Named (Empty from to end twice) e = nameForm e ≡ true
 Named (End from to end) e = nameForm e ≡ true
-Named (Text end all) e = Unit {0}
+Named (Text all end) e = Unit {0}
 
 named : (total : ℕ) (t : Token) (at end : ℕ) → formedToken t ≡ true → Named (shown total t at end) (nameOfToken t)
 unfolding formedToken formedTag

@@ -377,7 +377,7 @@ found-fit a at o (Start from to end twice) e u = then-fit a (withRepeat twice o)
 found-fit a at o (Empty from to end twice) e u =
     then-fit a (withRepeat twice o) _ (repeat-fit a twice o u) (λ t v. then-fit a (fileOpen a t e) (λ t₂. fileClose a t₂ e) (open-fit a t e v) (λ t₂ w. close-fit a t₂ e w))
 found-fit a at o (End from to end) e u = then-fit a o _ u (λ t v. close-fit a t e v)
-found-fit a at o (Text end all) e u =
+found-fit a at o (Text all end) e u =
     then-fit a o _ u (λ t v. unless-fit a (first (gives (eqb (depthOf (t .bytes)) 0 && not all) notOneRoot ∷ [])) t (λ n. v))
 
 -- what an open that is accepted leaves

@@ -10,8 +10,8 @@ use Rattle.filing.proofs.report.take_at.Tie as tie
 token-at-requires : tie.Need-token-at-requires
 token-at-requires c κs = search needs
 
-enum-known-end : tie.Need-enum-known-end
-enum-known-end c = search needs
+enum-known-all : tie.Need-enum-known-all
+enum-known-all c = search needs
 
 take-text-requires : tie.Need-take-text-requires
 take-text-requires c κs = search needs
@@ -118,14 +118,14 @@ empty-next-requires c κs =
 step-to-requires-3 : tie.Need-step-to-requires-3
 step-to-requires-3 c κs = search needs
 
-enum-known-end-2 : tie.Need-enum-known-end-2
-enum-known-end-2 c = search needs
+enum-known-end : tie.Need-enum-known-end
+enum-known-end c = search needs
 
 step-with-requires-2 : tie.Need-step-with-requires-2
 step-with-requires-2 c κs = search needs
 
-enum-known-end-3 : tie.Need-enum-known-end-3
-enum-known-end-3 c = search needs
+enum-known-end-2 : tie.Need-enum-known-end-2
+enum-known-end-2 c = search needs
 
 take-declaration-requires : tie.Need-take-declaration-requires
 take-declaration-requires c κs = search needs
@@ -140,7 +140,7 @@ same-length : tie.Need-same-length
 same-length c = search needs
 
 returns : tie.Need-returns
-returns c = tag-stepped _ _ _ _ _ _ _ _ _ _ _ (sym (c .before .before .before .before .before .before .token-at .ensures) ∙ c .before .before .before .before .end .given .1) _ refl _ _ (λ o t. taken-here _ _ _ _ _ (c .before .take-text .ensures o _ t)) (c .step-with .ensures)
+returns c = tag-stepped _ _ _ _ _ _ _ _ _ _ _ (sym (c .before .before .before .before .before .before .token-at .ensures) ∙ c .before .before .before .before .all .given .1) _ refl _ _ (λ o t. taken-here _ _ _ _ _ (c .before .take-text .ensures o _ t)) (c .step-with .ensures)
 
 same-length-2 : tie.Need-same-length-2
 same-length-2 c = search needs
@@ -175,10 +175,10 @@ returns-4 c =
     tag-stepped _ _ _ _ _ _ _ _ _ _ _ is _ (name-cut (args .s .now) (args .at) _ is .part) _ _ (λ o h. c .before .before .before .empty-next .ensures (withRepeat twice o) (repeat-answered twice o _ _ _ _ (c .before .before .before .before .before .with-repeat2 .ensures) h)) (c .step-to3 .ensures)
 
 returns-5 : tie.Need-returns-5
-returns-5 c = tag-stepped _ _ _ _ _ _ _ _ _ _ _ (sym (c .before .before .before .before .token-at .ensures) ∙ c .before .before .end2 .given .1) _ refl _ _ (λ o t. taken-here _ _ _ _ _ t) (c .step-with2 .ensures)
+returns-5 c = tag-stepped _ _ _ _ _ _ _ _ _ _ _ (sym (c .before .before .before .before .token-at .ensures) ∙ c .before .before .end .given .1) _ refl _ _ (λ o t. taken-here _ _ _ _ _ t) (c .step-with2 .ensures)
 
 returns-6 : tie.Need-returns-6
-returns-6 c = stepped _ _ _ _ _ _ _ _ _ _ _ (sym (c .before .before .before .before .token-at .ensures) ∙ c .before .before .end3 .given .1) (λ o t. taken-here _ _ _ _ _ (c .take-declaration .ensures .taken o _ t)) (c .take-declaration .ensures .onward)
+returns-6 c = stepped _ _ _ _ _ _ _ _ _ _ _ (sym (c .before .before .before .before .token-at .ensures) ∙ c .before .before .end2 .given .1) (λ o t. taken-here _ _ _ _ _ (c .take-declaration .ensures .taken o _ t)) (c .take-declaration .ensures .onward)
 
 returns-7 : tie.Need-returns-7
 returns-7 c = tag-stepped _ _ _ _ _ _ _ _ _ _ _ (sym (c .before .before .before .token-at .ensures) ∙ c .before .enum-told .given .1) _ refl _ _ (λ o t. taken-here _ _ _ _ _ refl) (c .step-with3 .ensures)
@@ -188,7 +188,7 @@ take-at-spec =
     tie.close
     (tie.spec
     token-at-requires
-    enum-known-end
+    enum-known-all
     take-text-requires
     step-with-requires
     enum-known-from
@@ -211,9 +211,9 @@ take-at-spec =
     part-empty-next-end
     empty-next-requires
     step-to-requires-3
-    enum-known-end-2
+    enum-known-end
     step-with-requires-2
-    enum-known-end-3
+    enum-known-end-2
     take-declaration-requires
     enum-told
     step-with-requires-3

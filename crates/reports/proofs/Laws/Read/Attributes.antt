@@ -32,7 +32,7 @@ use Rattle.reports.specs.declared.attributes.Next.{Next}
 use Rattle.reports.specs.declared.attributes.Next.the-variants.{Done, Torn, At}
 use Rattle.reports.specs.Code.Reaches.{namesIn, namesFrom}
 use Rattle.reports.specs.Code.Ordered.{nameAt, namesAt}
-use Rattle.reports.specs.Code.Attributes.{blanksTo, nextOf, nextFrom, kept, Lists, Inside}
+use Rattle.reports.specs.Code.Attributes.{blanksTo, nextOf, nextFrom, kept, Notes, Inside}
 use Rattle.reports.specs.Seen.{judged}
 use Rattle.reports.proofs.Laws.Read.Reaches.{suffix-drop}
 use Rattle.reports.proofs.Laws.Read.Offsets.{back-at, left-at}
@@ -109,18 +109,18 @@ behind-one l a (got x r) = rw append-assoc
 pub goes-on : {s : List ℕ} {i n e : ℕ} → After s i (At n e) → (i < e) × (e ≤ length s)
 goes-on (one a is name bounds) = (bounds .1, bounds .2)
 
--- the attributes that were passed from an offset to another, and what was listed of them
+-- the attributes that were passed from an offset to another, and what was noted of them
 pub record Passed (s : List ℕ) (at i count : ℕ) (places : List ℕ) : Type 0 where
   pub passed : List Attribute
   pub read : readAttributes (drop at s) ≡ thenRead (readAttributes (drop i s)) (λ m r. got (passed ++ m) r)
   pub counts : count ≡ length passed
-  pub listed : length s ≤ maxReportBytes → count ≤ length places → namesAt s (take count places) ≡ map attributeName passed
+  pub noted : length s ≤ maxReportBytes → count ≤ length places → namesAt s (take count places) ≡ map attributeName passed
 
 pub passed-none : (s : List ℕ) (at : ℕ) (places : List ℕ) → Passed s at at 0 places
-passed-none s at places = record { passed = []; read = then-got (readAttributes (drop at s)); counts = refl; listed = λ short room. refl }
+passed-none s at places = record { passed = []; read = then-got (readAttributes (drop at s)); counts = refl; noted = λ short room. refl }
 
 module _ (s : List ℕ) (at i count : ℕ) (places : List ℕ) (p : Passed s at i count places) where
-  -- the next is passed, and listed if there is room
+  -- the next is passed, and noted if there is room
   module _ {n e : ℕ} (a : After s i (At n e)) where
     next-read : (b : Attribute) × (attributeName b ≡ nameAt s n) × (n < length s)
         × (readAttributes (drop at s) ≡ thenRead (readAttributes (drop e s)) (λ m r. got ((p .passed ++ (b ∷ [])) ++ m) r))
@@ -136,31 +136,31 @@ module _ (s : List ℕ) (at i count : ℕ) (places : List ℕ) (p : Passed s at 
     passed-full : length places ≤ count → Passed s at e (count + 1) places
     passed-full full =
         let (b, name, inside, read) = next-read in
-        record { passed = p .passed ++ (b ∷ []); read = read; counts = one-more b; listed = λ short room. absurd (omega arith) }
+        record { passed = p .passed ++ (b ∷ []); read = read; counts = one-more b; noted = λ short room. absurd (omega arith) }
 
-    passed-listed : count < length places → Passed s at e (count + 1) (set places count (n % 65536))
+    passed-noted : count < length places → Passed s at e (count + 1) (set places count (n % 65536))
     unfolding maxReportBytes
-    passed-listed room =
+    passed-noted room =
         let (b, name, inside, read) = next-read in
         record {
           passed = p .passed ++ (b ∷ []);
           read = read;
           counts = one-more b;
-          listed = λ short room₂.
+          noted = λ short room₂.
               let same : n % 65536 ≡ n = mod-eq-of-lt (omega arith) in
-              rw (add-one count, take-suc-set places count (n % 65536) room, map-append (nameAt s) (take count places) ((n % 65536) ∷ []), map-append attributeName (p .passed) (b ∷ []), p .listed short (omega arith), same, name);
+              rw (add-one count, take-suc-set places count (n % 65536) room, map-append (nameAt s) (take count places) ((n % 65536) ∷ []), map-append attributeName (p .passed) (b ∷ []), p .noted short (omega arith), same, name);
         }
 
     pub passed-next : Passed s at e (count + 1) (kept places count n)
     passed-next =
         cases (ltb count (length places))
-        (λ t. rw t (passed-listed (ltb-true count (length places) t)))
+        (λ t. rw t (passed-noted (ltb-true count (length places) t)))
         (λ f. rw f (passed-full (ltb-false count (length places) f)))
 
-  pub listed-done : {n : ℕ} → i ≤ length s → After s i (Done n) → Lists s at (To n) count places
-  listed-done {n} h a = go a
+  pub noted-done : {n : ℕ} → i ≤ length s → After s i (Done n) → Notes s at (To n) count places
+  noted-done {n} h a = go a
     where
-      go : After s i (Done n) → Lists s at (To n) count places
+      go : After s i (Done n) → Notes s at (To n) count places
       go (done is none) =
           let all : readAttributes (drop at s) ≡ got (p .passed) (drop i s) = rw (none, append-nil) at (p .read) in
           let (behind, low, high) = back-at s blank i n h is in
@@ -168,16 +168,16 @@ module _ (s : List ℕ) (at i count : ℕ) (places : List ℕ) (p : Passed s at 
           record {
             reaches = rw (all, behind) (ap To (left-at s n high));
             counts = p .counts ∙ sym (ap length names ∙ length-map (p .passed) attributeName);
-            listed = λ short room. p .listed short room ∙ sym names;
+            noted = λ short room. p .noted short room ∙ sym names;
           }
 
-  pub listed-torn : After s i Torn → Lists s at No 0 places
-  listed-torn a = go a
+  pub noted-torn : After s i Torn → Notes s at No 0 places
+  noted-torn a = go a
     where
-      go : After s i Torn → Lists s at No 0 places
+      go : After s i Torn → Notes s at No 0 places
       go (torn none) =
           let all : readAttributes (drop at s) ≡ fail = rw none at (p .read) in
-          record { reaches = rw all; counts = ap length (sym (ap namesIn all)); listed = λ short room. sym (ap namesIn all) }
+          record { reaches = rw all; counts = ap length (sym (ap namesIn all)); noted = λ short room. sym (ap namesIn all) }
 
 -- Each attribute has five bytes at least: a blank, a name, `=` and two quotes
 
@@ -228,16 +228,16 @@ module _ (s : List ℕ) (at count : ℕ) (is : count ≡ length (namesFrom s at)
     pub judged-by : (twice : Bool) → twice ≡ repeated (namesFrom s at) → twice ≡ judged (length s) (namesFrom s at)
     judged-by twice e = rw (le-leb (length s) maxReportBytes short) e
 
-    pub all-listed : (reach : Reach) (n : ℕ) (places : List ℕ) → Lists s at reach n places → count ≤ length places → (twice : Bool)
+    pub all-noted : (reach : Reach) (n : ℕ) (places : List ℕ) → Notes s at reach n places → count ≤ length places → (twice : Bool)
         → twice ≡ repeated (namesAt s (take count places)) → twice ≡ repeated (namesFrom s at)
-    all-listed reach n places l room twice e =
+    all-noted reach n places l room twice e =
         let same : count ≡ n = is ∙ sym (l .counts) in
-        e ∙ ap repeated (ap (λ (k : ℕ). namesAt s (take k places)) same ∙ l .listed short (omega arith))
+        e ∙ ap repeated (ap (λ (k : ℕ). namesAt s (take k places)) same ∙ l .noted short (omega arith))
 
-    pub both-listed : (places : List ℕ) → 2 ≤ length places → count ≡ 2 → namesAt s (take count places) ≡ namesFrom s at → (twice : Bool)
+    pub both-noted : (places : List ℕ) → 2 ≤ length places → count ≡ 2 → namesAt s (take count places) ≡ namesFrom s at → (twice : Bool)
         → twice ≡ sameName (nameAt s (getD places 0 0)) (nameAt s (getD places 1 0)) → twice ≡ repeated (namesFrom s at)
-    both-listed places room two listed twice e =
-        e ∙ sym (two-names s places room) ∙ ap repeated (ap (λ (k : ℕ). namesAt s (take k places)) (sym two) ∙ listed)
+    both-noted places room two noted twice e =
+        e ∙ sym (two-names s places room) ∙ ap repeated (ap (λ (k : ℕ). namesAt s (take k places)) (sym two) ∙ noted)
 
 -- no attributes where a slash follows the name
 pub none-inside : (s : List ℕ) (at : ℕ) → (ltb at (length s) && eqb (getD s at 0) 47) ≡ true → Inside s at (To at) false

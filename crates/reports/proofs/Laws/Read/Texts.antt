@@ -115,7 +115,7 @@ section-of total some all b l (got ps r) h f =
     (λ t. rw (t, or-true some, and-false (not (startsWith (93 ∷ 93 ∷ 62 ∷ []) (b ∷ printParts ps) || occurs (93 ∷ 93 ∷ 62 ∷ []) (printParts ps)))))
 
 -- a text that ends here: at `<` or the end it is one if it has a part, elsewhere it is none
-stopped : (total : ℕ) (some all : Bool) (r : List ℕ) → textEnds r ≡ true → textOf total some all (got [] r) ≡ cond some (Text (total - length r) all) Nothing
+stopped : (total : ℕ) (some all : Bool) (r : List ℕ) → textEnds r ≡ true → textOf total some all (got [] r) ≡ cond some (Text all (total - length r)) Nothing
 unfolding occurs startsWith printMany every
 stopped total some all r t = rw (t, or-false some, and-true some, and-true all)
 
@@ -149,17 +149,17 @@ blank-free b h =
     is₃₂ t = let e = eqb-true b 32 t in (λ x. omega arith, λ x. omega arith, ap inText e)
 
 module _ (s : List ℕ) (some all : Bool) (i : ℕ) where
-  pub text-less : i < length s → getD s i 0 ≡ 60 → textFrom s some all i ≡ cond some (Text i all) Nothing
+  pub text-less : i < length s → getD s i 0 ≡ 60 → textFrom s some all i ≡ cond some (Text all i) Nothing
   text-less h e =
       ap (textOf (length s) some all) (plain-none inText s i h (omega arith) (less-no-text (getD s i 0) e))
       ∙ stopped (length s) some all (drop i s) (rw (drop-cons s i 0 h) (eq-eqb (getD s i 0) 60 e))
-      ∙ ap (λ (x : ℕ). cond some (Text x all) Nothing) (omega (arith, length-drop i s))
+      ∙ ap (λ (x : ℕ). cond some (Text all x) Nothing) (omega (arith, length-drop i s))
 
-  pub text-end : i ≤ length s → length s ≤ i → textFrom s some all i ≡ cond some (Text i all) Nothing
+  pub text-end : i ≤ length s → length s ≤ i → textFrom s some all i ≡ cond some (Text all i) Nothing
   unfolding readUpTo
   text-end h k =
       rw (drop-of-length-le s k)
-      (stopped (length s) some all [] refl ∙ ap (λ (x : ℕ). cond some (Text x all) Nothing) (omega arith))
+      (stopped (length s) some all [] refl ∙ ap (λ (x : ℕ). cond some (Text all x) Nothing) (omega arith))
 
   pub text-foreign : i < length s → (getD s i 0 ≡ 60 → ⊥) → (getD s i 0 ≡ 38 → ⊥) → inText (getD s i 0) ≡ false → Nothing ≡ textFrom s some all i
   text-foreign h l n f =

@@ -1,5 +1,4 @@
 use mathlib.Core.Path.{sym, _∙_}
-use native.Mathlib.Omega.{arith}
 use borrow.Author.Needs.{needs}
 use Rattle.reports.proofs.Laws.Read.Attributes.{none-inside}
 use Rattle.reports.proofs.attributes.attributes.Statement.{statement}
@@ -11,16 +10,19 @@ byte-at-requires c κs = search needs
 returns : tie.Need-returns
 returns c = none-inside _ _ (sym (c .before .byte-at .ensures) ∙ c .if1 .taken)
 
-slice-aggregate-list-names : tie.Need-slice-aggregate-list-names
-slice-aggregate-list-names c = search needs
+slice-aggregate-note-names : tie.Need-slice-aggregate-note-names
+slice-aggregate-note-names c = search needs
 
-list-names-requires : tie.Need-list-names-requires
-list-names-requires c κs = search needs
+note-names-requires : tie.Need-note-names-requires
+note-names-requires c κs = search needs
+
+slice-aggregate-names-repeat : tie.Need-slice-aggregate-names-repeat
+slice-aggregate-names-repeat c = search needs
 
 names-repeat-requires : tie.Need-names-repeat-requires
 names-repeat-requires c κs =
-    let listed = c .before .list-names in
-    (c .before .before .before .before .before .before .pre, listed .ensures .counts, λ short few. listed .ensures .listed short (omega (arith, listed .kept .1 .1 .0)))
+    let noted = c .before .before .note-names in
+    (c .before .before .before .before .before .before .before .pre, noted .ensures .counts, noted .kept .1 .1 .0, noted .ensures .noted)
 
 returns-2 : tie.Need-returns-2
 returns-2 c = search needs
@@ -28,4 +30,4 @@ returns-2 c = search needs
 pub attributes-spec : {M : Type 1} → statement M
 attributes-spec =
     tie.close
-    (tie.spec byte-at-requires returns slice-aggregate-list-names list-names-requires names-repeat-requires returns-2)
+    (tie.spec byte-at-requires returns slice-aggregate-note-names note-names-requires slice-aggregate-names-repeat names-repeat-requires returns-2)

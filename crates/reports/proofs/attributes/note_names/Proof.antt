@@ -4,9 +4,9 @@ use native.Mathlib.Omega.{arith}
 use mathlib.Core.Path.{_≡_, refl, _∙_}
 use borrow.Author.Needs.{needs}
 use lib.ListN.{length}
-use Rattle.reports.proofs.Laws.Read.Attributes.{comes, goes-on, Passed, passed-none, passed-next, listed-done, listed-torn}
-use Rattle.reports.proofs.attributes.list_names.Statement.{statement}
-use Rattle.reports.proofs.attributes.list_names.Tie as tie
+use Rattle.reports.proofs.Laws.Read.Attributes.{comes, goes-on, Passed, passed-none, passed-next, noted-done, noted-torn}
+use Rattle.reports.proofs.attributes.note_names.Statement.{statement}
+use Rattle.reports.proofs.attributes.note_names.Tie as tie
 
 abbrev Inv-loop : tie.InvT-loop
 Inv-loop s at places₀ i₀ count₀ places i count =
@@ -30,7 +30,7 @@ same-length c = c .before .before .before .before .loop .inv .1 .1 .0
 returns : tie.Need-returns Inv-loop μ-loop
 returns c =
     let l = c .before .before .before .before .loop in
-    listed-done _ _ _ _ _ (l .inv .1 .1 .1) (l .inv .0) (comes _ _ (l .inv .0) (c .before .before .before .next-attribute .ensures) (c .before .n .given .1))
+    noted-done _ _ _ _ _ (l .inv .1 .1 .1) (l .inv .0) (comes _ _ (l .inv .0) (c .before .before .before .next-attribute .ensures) (c .before .n .given .1))
 
 enum-told : tie.Need-enum-told Inv-loop μ-loop
 enum-told c = search needs
@@ -41,7 +41,7 @@ same-length-2 c = c .before .before .before .loop .inv .1 .1 .0
 returns-2 : tie.Need-returns-2 Inv-loop μ-loop
 returns-2 c =
     let l = c .before .before .before .loop in
-    listed-torn _ _ _ _ _ (l .inv .1 .1 .1) (comes _ _ (l .inv .0) (c .before .before .next-attribute .ensures) (c .enum-told .given .1))
+    noted-torn _ _ _ _ _ (l .inv .1 .1 .1) (comes _ _ (l .inv .0) (c .before .before .next-attribute .ensures) (c .enum-told .given .1))
 
 enum-known-name : tie.Need-enum-known-name Inv-loop μ-loop
 enum-known-name c = search needs
@@ -69,8 +69,8 @@ loop-again c =
     let same = c .before .before .keep .ensures in
     (on .1, (omega (arith, on .0, l .inv .1 .0), (c .before .before .keep .kept .0 ∙ l .inv .1 .1 .0, rw same (passed-next _ _ _ _ _ (l .inv .1 .1 .1) a))))
 
-pub list-names-spec : {M : Type 1} → statement M
-list-names-spec =
+pub note-names-spec : {M : Type 1} → statement M
+note-names-spec =
     tie.close
     (tie.spec
     Inv-loop
