@@ -100,15 +100,14 @@ def alike_attributes(rng):
     return "<visit%s/>" % "".join(' %s=""' % name for name in names)
 
 
-def full_tags(rng):
-    """As many tags as there is room for, each with one attribute more than are compared without a second look at the tag."""
-    names = list(string.ascii_lowercase[:17])
+def full_tags(rng, count):
+    """As many tags as there is room for, each with so many attributes, no two of the same name."""
+    names = list(itertools.islice(attribute_names(), count))
     report, end = ["<visit>"], "</visit>"
-    left = MAX_REPORT - len(report[0]) - len(end)
-    while left >= 93:
+    size = len("<visit/>") + sum(len(name) + 4 for name in names)
+    for _ in range((MAX_REPORT - len(report[0]) - len(end)) // size):
         rng.shuffle(names)
         report.append("<visit%s/>" % "".join(' %s=""' % name for name in names))
-        left -= len(report[-1])
     return "".join(report) + end
 
 
@@ -123,7 +122,9 @@ def main(folder):
     cases["equal_labels_nested"] = equal_labels(8, 1000)
     cases["many_attributes"] = sets[60], many_attributes(rng)
     cases["alike_attributes"] = sets[60], alike_attributes(rng)
-    cases["17_attributes"] = sets[60], full_tags(rng)
+    # one more than are compared without a second look at the tag, and one more than take little room
+    for count in (17, 257):
+        cases["%d_attributes" % count] = sets[60], full_tags(rng, count)
     for name, (text, report) in cases.items():
         assert len(text) <= MAX_SET and len(report) <= MAX_REPORT, name
         os.makedirs(os.path.join(folder, name), exist_ok=True)

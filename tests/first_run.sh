@@ -47,6 +47,7 @@ refused 9 '(folder 1 (/a))' '<a' '*not a run of*'
 refused 10 '(folder 1 (/a))' '<a>' '*not closed'
 refused 11 '(folder 1 (/a))' "$(times '<a>' 65)" '*are nested'
 refused 12 '(folder 1 (/a))' '<a></b>' '*innermost element'
+refused 15 '(folder 1 (/a))' "<a b='' b=''/>" '*attributes of the same name'
 
 rm "$work/report.xml"
 mkdir "$work/report.xml"

@@ -143,6 +143,7 @@ int main(void)
     prints("print", SET, REPORT, LISTING);
     prints("print of no set", "(folders", REPORT, "(refused 3)\n");
     prints("print of a crossed report", SET, "<a></b>", "(refused 12)\n");
+    prints("print of a repeated attribute", SET, "<a b='' b=''/>", "(refused 15)\n");
     printf("exported calls: %d, %d differ\n", count, wrong);
     return wrong != 0;
 }

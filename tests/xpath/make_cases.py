@@ -205,6 +205,8 @@ REFUSED = [
 TAKEN = [
     (b"<a xmlns='u'><b/></a>", b"<a><b/></a>", "`xmlns` is an attribute like any other: names are plain"),
 ]
+# `same`: refused by both, since a tag has two attributes of the same name, side by side or far apart.
+REPEATED = [b"<a b='1' b='2'><b/></a>", b"<a><b c='' d='' e='' c=''/></a>", b"<a>" + b"<b/>" * 9 + b"<b c='c' d='c=' c='d'></b></a>"]
 
 
 def expression(text):
@@ -221,8 +223,10 @@ def cases(count):
         yield plain, text, None, "refused " + why
     for text, peer, why in TAKEN:
         yield plain, text, peer, "taken " + why
+    for text in REPEATED:
+        yield plain, text, None, "same"
     yield plain, long_report(65536), None, "same"
-    for i in range(count - len(REFUSED) - len(TAKEN) - 1):
+    for i in range(count - len(REFUSED) - len(TAKEN) - len(REPEATED) - 1):
         pool = rng.choice(POOLS)
         text, one = folder_set(rng, pool), report(rng, pool)
         sort = i % 20

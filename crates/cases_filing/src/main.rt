@@ -107,6 +107,7 @@ fn repeats() {
 // It comes after 8 and 9, wherever these are; after 1 and 14: left().
 fn repeats_later() {
     judge(b"<a b='' b=''>\x7f</a>");
+    judge(b"<a>\x7f<c b='' b=''/></a>");
     judge(b"<a b='' b=''>]]></a>");
     judge(b"<a>]]><c b='' b=''/></a>");
     judge(b"<a><?xml version=\"1.0\"?><c b='' b=''/></a>");
@@ -117,10 +118,18 @@ fn repeats_later() {
 fn repeats_first() {
     judge(b"<a b='' b=''><abcdefghijklmnopqrstuvwxyz0123456/></a>");
     judge(b"<abcdefghijklmnopqrstuvwxyz0123456/><c b='' b=''/>");
+    judge(b"<abcdefghijklmnopqrstuvwxyz0123456 b='' b=''/>");
+    judge(b"<a b='' b=''>");
     judge(b"x<a b='' b=''/>");
     judge(b"</a><c b='' b=''/>");
     judge(b"<a></c><d b='' b=''/>");
     nested(b"65 nested, then a repeat", 65, b"<c b='' b=''/>", 65);
+    nested(
+        b"64 nested, then one more with a repeat",
+        64,
+        b"<c b='' b=''/>",
+        64,
+    );
 }
 
 // Names differ by case, by their ends, by one byte at any length; equal ones may stand in two tags, and in values.

@@ -10,7 +10,7 @@ use lib.ListN.{length}
 use denote.Ref.{RefT, now}
 use Rattle.text.specs.Names.{Name}
 use Rattle.notation.specs.Sets.{FolderSet}
-use Rattle.text.specs.Refusals.{Refusal, shortBuffer, badShape, numberOf}
+use Rattle.text.specs.Refusals.{Refusal, shortBuffer, badShape, repeatedAttribute, numberOf}
 use Rattle.text.specs.Answers.{numberSaid}
 use Rattle.text.specs.Written.{writtenSays}
 use Rattle.notation.specs.Judged.{RefusedText}
@@ -22,7 +22,7 @@ use Rattle.notation.specs.WriteText.{textConditions, WriteText}
 use Rattle.notation.specs.declared.PathPlace.{PathPlace}
 use Rattle.notation.specs.declared.FolderNumber.{FolderNumber}
 use Rattle.text.specs.declared.written.Written.{Written}
-use Rattle.text.specs.Order.{Condition, gives, GivenBy, AnswersBy}
+use Rattle.text.specs.Order.{Condition, gives, Unmet, GivenBy, AnswersBy}
 use Rattle.stored.specs.Automaton.{automatonSize}
 use Rattle.stored.specs.Answers.{openedSays, askedSays, lengthSays}
 use Rattle.stored.specs.Build.{Built, SetWritten, writeConditions}
@@ -36,6 +36,7 @@ use Rattle.stored.specs.declared.answers.Asked.{Asked}
 use Rattle.stored.specs.declared.answers.Length.{Length}
 use Rattle.filing.specs.Filing.{refused, filed}
 use Rattle.filing.specs.ReportRefusals.{ReportGives, Files}
+use Rattle.filing.specs.FiledReport.{RepeatsAttribute}
 use Rattle.filing.specs.Listed.{listingConditions, refusedConditions, ListingWritten, RefusedWritten}
 use Rattle.filing.specs.Filer.{tooSmall, Prints}
 
@@ -62,6 +63,8 @@ pub record SetJudged (size : ℕ) (text before : List ℕ) (answer : ℕ) (after
 -- what filing a report answers, and what a refused one leaves: all as it was where 1 or 14 is given, else a fresh run and zero counters
 pub record ReportJudged (a run : List ℕ) (c : Counters) (report : List ℕ) (answer : ℕ) (run' : List ℕ) (c' : Counters) : Type 0 where
   pub refusals : (r : Refusal) → (answer ≡ numberOf r) ↔ ReportGives a run report (refused r)
+  -- 15 of these on its own condition: neither 1 nor 14, and no token is refused so
+  pub repeats : (answer ≡ numberOf repeatedAttribute) ↔ (Unmet (startConditions a run) × RepeatsAttribute report)
   pub accepted : (answer ≡ 0) ↔ ((t : Left) × ReportGives a run report (filed t))
   pub either : (answer ≡ 0) ⊎ ((r : Refusal) × (answer ≡ numberOf r))
   pub untouched : (answer ≡ numberOf shortBuffer) ⊎ (answer ≡ numberOf badShape) → (run' ≡ run) × (c' ≡ c)

@@ -134,7 +134,7 @@ fn many(s: &[u8], at: usize, count: usize) -> bool
     sort_all(s, at, count, &mut places, &mut spare)
 }
 
-// Whether a name is repeated among so many, noted as far as there is room; told only of bytes that a report may have.
+// Whether a name is repeated among so many, noted as far as there is room; told only in no more bytes than a report may have.
 fn names_repeat(s: &[u8], at: usize, count: usize, places: &mut [u16]) -> bool
     requires { ⌜ (at ≤ length (now s)) × (count ≡ length (namesFrom (now s) at)) × (length (now places) ≡ 16) × (length (now s) ≤ maxReportBytes → count ≤ length (now places) → namesAt (now s) (take count (now places)) ≡ namesFrom (now s) at) ⌝ }
     ensures { λ r. ⌜ r ≡ judged (length (now (s .entry))) (namesFrom (now (s .entry)) at) ⌝ }

@@ -28,8 +28,8 @@ ghost use Rattle.reports.specs.Code.Seen.{tagEndOf, textFound, textFrom,
 ghost use Rattle.reports.specs.NamePart.{NamePart};
 
 // What begins at an offset: nothing that can be read, or a token with its end. Of a tag also where its name begins and ends, and whether it
-// has an attribute's name twice, told of bytes that a report may have; of a text whether it is blank. `blank` stands first: behind `end` it would
-// lie over one byte of a tag's `to`, and that number would be handled in two parts.
+// has an attribute's name twice, told in no more bytes than a report may have; of a text whether it is blank. `blank` stands first: behind
+// `end` it would lie over one byte of a tag's `to`, and that number would be handled in two parts.
 pub enum Found {
     Nothing,
     Declaration(usize),

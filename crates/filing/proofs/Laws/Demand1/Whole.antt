@@ -2,19 +2,19 @@
 use Prim.Native.Nat.{ℕ}
 use mathlib.Core.Path.{_≡_, refl, sym, ap, _∙_, subst}
 use mathlib.Core.Bool.{Bool, true, false, cond}
-use mathlib.Core.Logic.{_⊎_, inl, inr}
+use mathlib.Core.Logic.{_↔_, _⊎_, inl, inr}
 use mathlib.Core.List.{List, [], _∷_}
 use lib.ListN.{length}
 use denote.Ref.{now}
 use borrow.Author.Tests.{ne-eqb}
-use Rattle.text.specs.Refusals.{Refusal, shortBuffer, badShape, numberOf}
+use Rattle.text.specs.Refusals.{Refusal, shortBuffer, badShape, repeatedAttribute, numberOf}
 use Rattle.text.specs.Answers.{value, numberSaid}
 use Rattle.notation.specs.Layout.{setSize}
 use Rattle.notation.specs.Reads.{textOf, pathAt, folderOf}
 use Rattle.notation.specs.ReadSet.{readInto}
 use Rattle.notation.specs.WriteText.{textConditions}
 use Rattle.text.proofs.Laws.Numbers.{one-refusal, fifteen-numbers}
-use Rattle.text.specs.Order.{gives, given, AnswersBy}
+use Rattle.text.specs.Order.{gives, Unmet, given, AnswersBy}
 use Rattle.text.proofs.Laws.Tests.{cases}
 use Rattle.text.proofs.Laws.Order.{answers-by, given-none, given-cons}
 use Rattle.stored.specs.Automaton.{automatonSize}
@@ -29,12 +29,14 @@ use Rattle.stored.specs.declared.counters.Counters.{Counters}
 use Rattle.text.specs.declared.written.Written.{Written}
 use Rattle.filing.specs.Filing.{Outcome, refused, filed, numberGiven}
 use Rattle.filing.specs.ReportRefusals.{ReportGives, ofLent, leftBy, Files}
+use Rattle.filing.specs.FiledReport.{RepeatsAttribute}
 use Rattle.filing.specs.Listing.{refusedLine}
 use Rattle.filing.specs.Listed.{listingConditions, listingIn, refusedConditions}
 use Rattle.filing.specs.Filer.{tooSmall, Prints}
 use Rattle.filing.specs.Demand1.{ReportJudged, Demand1}
 use Rattle.filing.proofs.Laws.Filing.FilingParts.{given-refused, given-filed}
 use Rattle.filing.proofs.Laws.Filing.FilingOrder.{report-only}
+use Rattle.filing.proofs.Laws.Filing.FilingRepeats.{repeats-given}
 use Rattle.filing.proofs.Laws.Listing.PrintedText.{printed-text-some}
 use Rattle.filing.proofs.Laws.Demand1.Sets.{set-judged}
 use Rattle.filing.proofs.Laws.Demand1.Calls.{given-is, kept, some-given, some-said, written-by}
@@ -74,9 +76,16 @@ module _ (a run : List ℕ) (c : Counters) (report : List ℕ) (answer : ℕ) (r
     | inr (r, is, e) ↦ left-by r (started a run) e (rw (ne-eqb (numberOf r) (numberOf shortBuffer) (λ x. h (is ∙ x)), ne-eqb (numberOf r) (numberOf badShape) (λ x. k (is ∙ x))))
   ]
 
+  refusals-of : (r : Refusal) → (answer ≡ numberOf r) ↔ ReportGives a run report (refused r)
+  refusals-of r = (λ e. subst (ReportGives a run report) (why r e) (f .given), number (refused r))
+
+  again : ReportGives a run report (refused repeatedAttribute) ↔ (Unmet (startConditions a run) × RepeatsAttribute report)
+  again = repeats-given a run report
+
   report-judged : ReportJudged a run c report answer run' c'
   report-judged = record {
-    refusals = λ r. (λ e. subst (ReportGives a run report) (why r e) (f .given), number (refused r));
+    refusals = refusals-of;
+    repeats = (λ e. again .0 (refusals-of repeatedAttribute .0 e), λ h. refusals-of repeatedAttribute .1 (again .1 h));
     accepted = (taken, λ t. number (filed (t .0)) (t .1));
     either = elim (either-of (f .outcome) refl) [ inl e ↦ inl e | inr (r, is, e) ↦ inr (r, is) ];
     untouched = left-untouched;
