@@ -1,4 +1,6 @@
 // Prints, for each case, its set, its report and what filing it prints; a byte that does not print stands as `?`, and a long report as its name.
+#![tactic(auto)]
+
 mod say;
 mod texts;
 

@@ -10,7 +10,7 @@ use machine::write::write_set;
 use notation::limits::MAX_SET_BYTES;
 
 // How many bytes of the two buffers are lent.
-#[derive(Drop)]
+#[derive(Clone, Copy)]
 pub struct Sizes {
     automaton: usize,
     out: usize,

@@ -1,4 +1,6 @@
 // The cases of the notation. The file `stdin` has them, a line each, which is printed with its answer.
+#![tactic(auto)]
+
 mod lines;
 mod stored;
 

@@ -1,4 +1,6 @@
 // The cases of a run. The file `stdin` has them, a call to a line: each is carried out, and printed with its answer.
+#![tactic(auto)]
+
 mod calls;
 mod script;
 

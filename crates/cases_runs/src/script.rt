@@ -10,7 +10,7 @@ use machine::run::open;
 use stored::counters::Counters;
 
 // The counters, and how many bytes of the two buffers are lent.
-#[derive(Drop)]
+#[derive(Clone, Copy)]
 pub struct State {
     counters: Counters,
     automaton: usize,

@@ -11,7 +11,7 @@ use sheets::limits::SHEET_SIZE;
 use stored::counters::Counters;
 
 // How many bytes of the three buffers are lent, and the byte that fills the last before a sheet is written into it.
-#[derive(Drop)]
+#[derive(Clone, Copy)]
 pub struct Lent {
     automaton: usize,
     run: usize,

@@ -1,4 +1,6 @@
 // The cases of the class sheet. The file `stdin` has them, a line each; tests/sheet/cases.py makes `stdout` of it by a model of its own.
+#![tactic(auto)]
+
 mod lines;
 mod written;
 

@@ -1,6 +1,8 @@
 // Prints, for each case, its bytes, its tokens with the names of tags, and whether they are a run of tokens or not; then, for some bytes and
 // offsets, from where to where the name of the tag stands. A byte that does not print stands as `?`. d: declaration, c: comment, s: start tag, x: empty-element tag, ss and xx: one
 // that repeats the name of an attribute, e: end tag, t: text, b: blank text.
+#![tactic(auto)]
+
 use reports::tokens::{Found, end_of, is_run, tag_name, tag_span, token_at};
 
 fn put(s: &[u8]) {

@@ -1,5 +1,7 @@
 // The calls for programs in C and Rust; include/rannvoul.h declares them. Each returns 0 or the number of a refusal, and puts a value behind
 // a pointer.
+#![tactic(auto)]
+
 mod told;
 
 ghost use Rattle.stored.specs.Build.{Built};

@@ -3,7 +3,7 @@ ghost use Rattle.std.specs.Prelude.{◌≤◌, ◌-◌, length};
 ghost use Rattle.filer.specs.Within.{Within};
 
 // A file's bytes at the start of a buffer, all that it has or as many as the buffer takes; or the file could not be opened or read.
-#[derive(Drop)]
+#[derive(Clone, Copy)]
 pub enum Read {
     Bytes(usize),
     Failed,

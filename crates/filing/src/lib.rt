@@ -1,4 +1,5 @@
 // Filing reports, and what the filing program prints.
+#![tactic(auto)]
 
 pub mod limits;
 pub mod listing;

@@ -26,7 +26,7 @@ use stored::counters::Counters;
 use text::refusals::{INVALID_BYTE, NOT_ONE_ROOT, REPEATED_ATTRIBUTE, SYNTAX_ERROR, TOO_LARGE};
 
 // What calls answer: the refusal, 0 for none, and the counters after them.
-#[derive(Drop)]
+#[derive(Clone, Copy)]
 pub struct Taken {
     pub refusal: u8,
     pub counters: Counters,
@@ -158,7 +158,7 @@ fn empty_next(a: &[u8], run: &mut [u8], refusal: u8, c: Counters, e: &[u8]) -> T
 }
 
 // What calls answer, and where the next token begins.
-#[derive(Drop)]
+#[derive(Clone, Copy)]
 struct Step {
     refusal: u8,
     counters: Counters,

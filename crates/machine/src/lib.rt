@@ -1,4 +1,6 @@
 // The shared machine of a folder set: its automaton, its run and the calls on them.
+#![tactic(auto)]
+
 mod bits;
 pub mod build;
 mod hash;

@@ -1,4 +1,6 @@
 // The notation: names, folder sets and what a path means.
+#![tactic(auto)]
+
 mod entries;
 pub mod layout;
 pub mod limits;
@@ -10,9 +12,9 @@ mod tally;
 pub mod write;
 
 // A path's place: its index among all paths of the set.
-#[derive(Drop)]
+#[derive(Clone, Copy)]
 pub struct PathPlace(pub usize);
 
 // A folder's number, as its line gives it.
-#[derive(Drop)]
+#[derive(Clone, Copy)]
 pub struct FolderNumber(pub usize);

@@ -13,7 +13,7 @@ use crate::limits::{MAX_LABELS, MAX_PATHS, MAX_SET_BYTES};
 use crate::{FolderNumber, PathPlace};
 use text::arith::{least, minus};
 
-#[derive(Drop)]
+#[derive(Clone, Copy)]
 pub enum FolderAt {
     // The folder's number, the place of its first path, and its count of paths.
     Folder {
@@ -24,7 +24,7 @@ pub enum FolderAt {
     Missing,
 }
 
-#[derive(Drop)]
+#[derive(Clone, Copy)]
 pub enum PathAt {
     // The path's first step, its count of steps, and where in the set's text it stands.
     Path {
@@ -36,21 +36,21 @@ pub enum PathAt {
     Missing,
 }
 
-#[derive(Drop)]
+#[derive(Clone, Copy)]
 pub enum StepAt {
     // `//`, not `/`; `*`, not a label.
     Step { descendant: bool, star: bool },
     Missing,
 }
 
-#[derive(Drop)]
+#[derive(Clone, Copy)]
 pub enum LabelAt {
     // Where in the set's text the label stands, and its step.
     Label { at: usize, size: usize, step: usize },
     Missing,
 }
 
-#[derive(Drop)]
+#[derive(Clone, Copy)]
 pub enum FolderIndex {
     At(usize),
     Missing,

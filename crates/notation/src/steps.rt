@@ -7,7 +7,7 @@ use crate::layout::STAR_KIND;
 use text::names::{begins_name, name_end};
 use text::words::word_at;
 
-#[derive(Drop)]
+#[derive(Clone, Copy)]
 pub struct StepFound {
     // As the table of steps has it.
     pub kind: u8,

@@ -15,7 +15,7 @@ use text::names::MAX_NAME;
 use text::refusals::{NAME_TOO_LONG, OUT_OF_ORDER, PATH_TOO_LONG};
 
 // What has been counted so far.
-#[derive(Drop)]
+#[derive(Clone, Copy)]
 pub struct Tally {
     // Bytes read.
     pub at: usize,
@@ -32,7 +32,7 @@ pub struct Tally {
 }
 
 // Nothing that can be read stands there, or it was counted.
-#[derive(Drop)]
+#[derive(Clone, Copy)]
 pub enum Taken {
     No,
     To(Tally),

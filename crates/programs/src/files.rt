@@ -4,14 +4,14 @@ ghost use lib.ListN.{length};
 ghost use Rattle.programs.specs.Within.{Within, BothWithin};
 
 // A file's bytes at the start of a buffer, all that it has or as many as the buffer takes; or the file could not be opened or read.
-#[derive(Drop)]
+#[derive(Clone, Copy)]
 pub enum Read {
     Bytes(usize),
     Failed,
 }
 
 // How much was read of a set's file and of a report's; or one of them could not be opened or read.
-#[derive(Drop)]
+#[derive(Clone, Copy)]
 pub enum Inputs {
     Read { set: usize, report: usize },
     Failed,

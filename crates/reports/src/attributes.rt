@@ -23,7 +23,7 @@ const SOME: usize = 256;
 const MANY: usize = 13107;
 
 // What comes next in a tag: no attribute, and where the blanks end; one that cannot be read; or one, where its name begins and where it ends.
-#[derive(Drop)]
+#[derive(Clone, Copy)]
 pub enum Next {
     Done(usize),
     Torn,
@@ -60,7 +60,7 @@ fn keep(places: &mut [u16], k: usize, name: usize)
 }
 
 // How far the attributes of a tag and the blanks after them go, and how many there are.
-#[derive(Drop)]
+#[derive(Clone, Copy)]
 pub struct Noted {
     reach: Reach,
     count: usize,
@@ -159,7 +159,7 @@ fn names_repeat(s: &[u8], at: usize, count: usize, places: &mut [u16]) -> bool
 }
 
 // How far the attributes of a tag and the blanks after them go, and whether two have the same name.
-#[derive(Drop)]
+#[derive(Clone, Copy)]
 pub struct Inside {
     pub reach: Reach,
     pub twice: bool,

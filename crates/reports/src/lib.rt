@@ -1,4 +1,6 @@
 // The tokens of a report, found in its bytes (paper 01: pieces).
+#![tactic(auto)]
+
 mod attributes;
 pub mod limits;
 mod order;

@@ -7,7 +7,7 @@ ghost use Rattle.reports.specs.Code.Ordered.{name_at, names_at, first_byte, orde
 use text::names::in_name;
 
 // Where a name stands to another.
-#[derive(Drop)]
+#[derive(Clone, Copy)]
 pub enum Order {
     Before,
     Same,

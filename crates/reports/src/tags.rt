@@ -11,7 +11,7 @@ use text::names::name_end;
 use text::words::word_at;
 
 // Nothing that can be read begins there, or where it ends.
-#[derive(Drop)]
+#[derive(Clone, Copy)]
 pub enum Reach {
     No,
     To(usize),

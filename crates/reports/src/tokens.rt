@@ -19,7 +19,7 @@ use text::words::word_at;
 // What begins at an offset: nothing that can be read, or a token with its end. Of a tag also where its name begins and ends, and whether it
 // has an attribute's name twice, told in no more bytes than a report may have; of a text whether it is blank. `blank` stands first: behind
 // `end` it would lie over one byte of a tag's `to`, and that number would be handled in two parts.
-#[derive(Drop)]
+#[derive(Clone, Copy)]
 pub enum Found {
     Nothing,
     Declaration(usize),
@@ -320,7 +320,7 @@ pub fn token_at(s: &[u8], at: usize) -> Found
 }
 
 // Where a name stands; 0 to 0 where there is none.
-#[derive(Drop)]
+#[derive(Clone, Copy)]
 pub struct Span {
     pub from: usize,
     pub to: usize,

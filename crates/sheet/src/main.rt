@@ -1,5 +1,7 @@
 // Files the report `report.xml` by the folder set `folders.txt`, both of the current folder, and prints the class sheet or the refusal. Of a
 // file that is there and cannot be read it tells on standard error, and prints nothing.
+#![tactic(auto)]
+
 mod output;
 
 use machine::layout::AUTOMATON_SIZE;

@@ -1,7 +1,7 @@
 // What the calls answer. A refusal has its number.
 use crate::counters::Counters;
 
-#[derive(Drop)]
+#[derive(Clone, Copy)]
 pub enum Opened {
     // Accepted, with this open's failure moves.
     Accepted(usize),
@@ -9,7 +9,7 @@ pub enum Opened {
 }
 
 // What an asking call finds.
-#[derive(Drop)]
+#[derive(Clone, Copy)]
 pub enum Asked {
     Yes,
     No,
@@ -17,26 +17,26 @@ pub enum Asked {
 }
 
 // A length, or a refusal.
-#[derive(Drop)]
+#[derive(Clone, Copy)]
 pub enum Length {
     Symbols(usize),
     Refused(u8),
 }
 
 // What the calls with counters by value answer: the answer, and the counters after it.
-#[derive(Drop)]
+#[derive(Clone, Copy)]
 pub struct Started {
     pub refusal: u8,
     pub counters: Counters,
 }
 
-#[derive(Drop)]
+#[derive(Clone, Copy)]
 pub struct OpenedBy {
     pub answer: Opened,
     pub counters: Counters,
 }
 
-#[derive(Drop)]
+#[derive(Clone, Copy)]
 pub struct ClosedBy {
     pub refusal: u8,
     pub counters: Counters,

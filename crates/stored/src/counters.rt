@@ -3,7 +3,7 @@ ghost use Rattle.std.specs.Prelude.{◌≡◌, ◌*◌, ◌≤◌};
 ghost use Rattle.model.specs.Limits.{max_depth, max_opens};
 ghost use Rattle.stored.specs.RunCalls.{no_counters, after_open, close_counters};
 
-#[derive(Drop)]
+#[derive(Clone, Copy)]
 pub struct Counters {
     pub opens: usize,
     pub closes: usize,

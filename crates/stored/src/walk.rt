@@ -1,5 +1,5 @@
 // Where a walk arrived, and by how many failure moves.
-#[derive(Drop)]
+#[derive(Clone, Copy)]
 pub struct Walk {
     pub moves: usize,
     pub state: usize,

@@ -5,7 +5,7 @@ ghost use Rattle.text.specs.Numbers.{number_found};
 
 use crate::truth::between;
 
-#[derive(Drop)]
+#[derive(Clone, Copy)]
 pub struct Number {
     pub value: usize,
     // After its last digit.

@@ -5,7 +5,7 @@ ghost use Rattle.text.specs.Output.{start, Puts, Adds};
 
 use crate::store::copy;
 
-#[derive(Drop)]
+#[derive(Clone, Copy)]
 pub struct Cursor {
     // After the last piece.
     pub at: usize,

@@ -1,6 +1,6 @@
 // What a call that writes a text into a lent buffer answers.
 
-#[derive(Drop)]
+#[derive(Clone, Copy)]
 pub enum Written {
     // The length of the text.
     Bytes(usize),

@@ -6,8 +6,7 @@ use mathlib.Core.Bool.{false}
 use lib.Dec.{leb}
 use borrow.Author.Tests.{le-leb, lt-leb, leb-true, leb-false}
 use Rattle.text.proofs.Laws.Tests.{cases}
-use Rattle.text.proofs.output.has_room.Statement.{statement}
-use Rattle.text.proofs.output.has_room.Tie as tie
+use Rattle.text.proofs.output.has_room.Goals as goal
 
 left_over : (size at n : ℕ) → at ≤ size → leb n (size - at) ≡ leb (at + n) size
 left_over size at n h =
@@ -18,11 +17,8 @@ left_over size at n h =
 past : (size at n : ℕ) → size < at → false ≡ leb (at + n) size
 past size at n h = sym (lt-leb (at + n) size (omega arith))
 
-returns : tie.Need-returns
-returns c = past _ _ _ c.if1.true
+pub returns-then-size-at : goal.returns-then-size-at
+returns-then-size-at c = past _ _ _ c.if-size-at.true
 
-returns-2 : tie.Need-returns-2
-returns-2 c = left_over _ _ _ c.if1.false
-
-pub has-room-spec : {M : Type 1} → statement M
-has-room-spec = tie.close (tie.spec returns returns-2)
+pub returns : goal.returns
+returns c = left_over _ _ _ c.if-size-at.false

@@ -1,0 +1,16 @@
+use Prim.Native.Nat.{◌+◌, ◌≤◌, ◌-◌}
+use mathlib.Core.Path.{◌≡◌, sym, ◌∙◌}
+use native.Mathlib.Omega.{arith}
+use borrow.Author.Rules.{rules}
+use native.Mathlib.Numerals.{add-one}
+use lib.ListN.{length, drop, length-drop}
+use native.Mathlib.Nat.{add-zero, add-suc}
+use Rattle.text.specs.Read.{starts_with}
+use Rattle.text.proofs.Laws.Scans.{begins-no, begins-yes, begins-end, begins-short}
+use Rattle.text.proofs.words.word_at.Given as goal
+
+abbrev pub invariant-loop-i : goal.invariant-loop-i
+invariant-loop-i l = (l.i ≤ length l.w) × (length l.w ≤ length l.s - l.at) × (starts_with l.w (drop l.at l.s) ≡ starts_with (drop l.i l.w) (drop (l.at + l.i) l.s))
+
+abbrev pub decreases-loop-i : goal.decreases-loop-i
+decreases-loop-i l = length l.w - l.i
