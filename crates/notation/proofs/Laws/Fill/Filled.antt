@@ -112,7 +112,7 @@ module _ (text rest : List ℕ) where
       → Filled (take_all take_step q u) f p (s ++ joined (map step_entry q)) (l ++ joined (path_labels u.tally.at u.tally.steps q))
   unfolding take_all path_labels joined take_step
   steps-filled [] u h = simp append-nil h
-  steps-filled (x ∷ q) u h = simp (joined-append, ← append_assoc, ← add-one) (steps-filled q (take_step x u) (step-filled x u h))
+  steps-filled {s = s} (x ∷ q) u h = simp (joined-append, ← append_assoc, ← add-one) (steps-filled {s = s ++ step_entry x} q (take_step x u) (step-filled x u h))
 
   path-filled : {f p s l : List ℕ} (q : Path) (u : State) → Filled u f p s l
       → Filled (take_path q u) f (p ++ path_entry u.tally.steps (length q) (u.tally.at + 2) (length (print_path q)))
@@ -125,9 +125,9 @@ module _ (text rest : List ℕ) where
       (s ++ joined (map step_entry (steps_of ps))) (l ++ joined (label_table u.tally.at u.tally.steps ps))
   unfolding take_all path_table label_table steps_of joined
   paths-filled [] u h = simp append-nil h
-  paths-filled (q ∷ ps) u h =
+  paths-filled {p = p} (q ∷ ps) u h =
       let g = path-grown q u in
-      let all = paths-filled ps (take_path q u) (path-filled q u h) in
+      let all = paths-filled {p = p ++ path_entry u.tally.steps (length q) (u.tally.at + 2) (length (print_path q))} ps (take_path q u) (path-filled q u h) in
       simp (map-append step_entry, joined-append) (simp (append_assoc, g.at, g.steps) at all)
 
   folder-filled : {f p s l : List ℕ} (n : ℕ) (ps : List Path) (u : State) → Filled u f p s l
@@ -141,9 +141,9 @@ module _ (text rest : List ℕ) where
       (s ++ joined (map step_entry (steps_of (paths_of fs)))) (l ++ joined (set_labels u.tally.at u.tally.steps fs))
   unfolding take_all folder_table set_paths set_labels paths_of steps_of joined
   folders-filled [] u h = simp append-nil h
-  folders-filled (folder n ps ∷ fs) u h =
+  folders-filled {f = f} (folder n ps ∷ fs) u h =
       let g = folder-grown (folder n ps) u in
-      let all = folders-filled fs (take_folder (folder n ps) u) (folder-filled n ps u h) in
+      let all = folders-filled {f = f ++ folder_entry n u.tally.paths} fs (take_folder (folder n ps) u) (folder-filled n ps u h) in
       simp (steps-append, map-append step_entry, joined-append) (simp (append_assoc, g.at, g.paths, g.steps) at all)
 
   cleared : laid (parts [] [] [] [] [] []) rest ≡ replicate set_size 0 ++ rest

@@ -78,7 +78,7 @@ folder-back (folder n ps) r h =
 
 folder-begins : Begins (starts_with (40 ∷ [])) print_folder formed_folder
 unfolding starts_with folder_word print_folder
-folder-begins = record { here = λ f r h. elim f [ folder n ps ↦ refl ]; none = refl }
+folder-begins = record { here = λ f r h. elim f as (λ k. starts_with (40 ∷ []) (print_folder k ++ r) ≡ true) [ folder n ps ↦ refl ]; none = refl }
 
 -- where a folder begins it is read, and then the others
 pub folders-more : (l : List ℕ) → starts_with (40 ∷ []) l ≡ true

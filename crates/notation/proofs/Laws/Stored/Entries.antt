@@ -39,4 +39,4 @@ entry i none h s = absurd (not-suc-le-zero h)
 entry {w} {at} zero (more {e} {es} l o) h s = rw (mul-zero, add-zero) (left e (joined es) s)
 entry {w} {at} (suc i) (more {e} {es} l o) h s =
     let z : at + length e + w * i ≡ at + w * suc i = omega (arith, mul-suc w i, l) in
-    rw (← z) (entry i o (le_of_suc-le-suc h) (right e (joined es) at (at + length e) refl s))
+    rw (← z) (entry {at = at + length e} i o (le_of_suc-le-suc h) (right e (joined es) at (at + length e) refl s))

@@ -5,7 +5,7 @@ use mathlib.Core.List.{[], ◌∷◌, append-nil}
 use native.Mathlib.Nat.{zero-add, add-zero, add_assoc, not-suc-le-zero, le_of_suc-le-suc}
 use native.Mathlib.Omega.{arith}
 use lib.ListN.{length, get_or, take, length-append}
-use lib.Seq.{take_all-is}
+use lib.Seq.{take_all}
 use Rattle.notation.specs.Sets.{Folder, folder, FolderSet, folder_number, folder_paths}
 use Rattle.notation.specs.Form.{paths_of}
 use Rattle.notation.specs.Layout.{folder_size, folder_entry, folder_table}
@@ -52,7 +52,7 @@ paths-between (f ∷ fs) (suc i) h =
     )
 
 pub paths-before-all : (s : FolderSet) (i : ℕ) → length s ≤ i → paths_before s i ≡ length (paths_of s)
-paths-before-all s i h = rw (take_all-is i s h)
+paths-before-all s i h = rw (take_all i s h)
 
 pub paths-before-most : (s : FolderSet) (i : ℕ) → paths_before s i ≤ length (paths_of s)
 unfolding paths_of

@@ -5,7 +5,7 @@ use mathlib.Core.Path.{◌≡◌, sym, ap, ap₂, subst, ◌∙◌}
 use mathlib.Core.Bool.{Bool, true, false}
 use mathlib.Core.List.{List, ◌++◌, append-nil}
 use lib.ListN.{length, take, drop, length-drop, take-append-drop, drop_of_length-le}
-use lib.Seq.{length_front, length-take-le, take_all-is, take_at, drop_at}
+use lib.Seq.{length_front, length-take-le, take_all, take_at, drop_at}
 use borrow.Rule.Slice.PartMut.{mid_of, put_mid, same_len_mid}
 use Rattle.reports.specs.Code.Ordered.{names_at, MergesTo, Sorts, Joins}
 use Rattle.reports.proofs.Laws.Ordered.Sorted.{twice, twice-left, twice-right, joined}
@@ -36,7 +36,7 @@ module _ (p a : List ℕ) (h : ℕ) (fits : h ≤ length p) (size : length a ≡
   pub later : mid_of h rest back ≡ drop h p
   later =
       ap (take rest) (drop_at a (drop h p) h (size ∙ half-size))
-      ∙ take_all-is rest (drop h p) (omega (arith, whole, length-drop h p))
+      ∙ take_all rest (drop h p) (omega (arith, whole, length-drop h p))
 
   pub later-size : length (mid_of h rest back) ≡ length p - h
   later-size = ap length later ∙ length-drop h p

@@ -7,7 +7,7 @@ use mathlib.Core.Bool.{Bool, true, false}
 use mathlib.Core.List.{List, [], ◌∷◌, ◌++◌, map-append, append_assoc, append-nil}
 use lib.Dec.{ltb}
 use lib.ListN.{length, get_or, take, drop, set, length-set, length-take, take-append-drop, drop_of_length-le}
-use lib.Seq.{slice, slice-cons, drop-cons, take-suc-set, take_all-is}
+use lib.Seq.{slice, slice-cons, drop-cons, take-suc-set, take_all}
 use borrow.Author.Tests.{ltb-true, ltb-false}
 use Rattle.text.specs.Names.{Name}
 use Rattle.text.proofs.Laws.Tests.{cases, zero_one}
@@ -128,7 +128,7 @@ module _ (s places : List ℕ) (half : ℕ) (fits : half ≤ length places) wher
       pub ended : length places ≤ k → MergesTo (names_at s (take half places)) (names_at s (drop half places)) false (names_at s out)
       ended h =
           subst (MergesTo (names_at s (take half places)) (names_at s (drop half places)) false)
-          (append-nil (names_at s (take k out)) ∙ ap (names_at s) (take_all-is k out (omega (arith, m.size))))
+          (append-nil (names_at s (take k out)) ∙ ap (names_at s) (take_all k out (omega (arith, m.size))))
           (m.goes false []
           (subst (λ (x : List Name). MergesTo x rights false []) (sym (left-empty (omega (arith, m.count, m.low, m.high))))
           (subst (λ (x : List Name). MergesTo [] x false []) (sym (right-empty (omega (arith, m.count, m.low, m.high)))) MergesTo.none)))

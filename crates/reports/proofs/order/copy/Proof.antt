@@ -5,7 +5,7 @@ use mathlib.Core.List.{List, ◌++◌, [], ◌∷◌}
 use native.Mathlib.Omega.{arith}
 use native.Mathlib.Numerals.{add-one}
 use lib.ListN.{length, take, get_or, set, length-set}
-use lib.Seq.{take-suc, take-suc-set, take_all-is}
+use lib.Seq.{take-suc, take-suc-set, take_all}
 use borrow.Author.Rules.{rules}
 use Rattle.reports.proofs.order.copy.Statement.{statement}
 use Rattle.reports.proofs.order.copy.Tie as tie
@@ -58,7 +58,7 @@ same_length c = c.before.loop.invariant.1 ∙ sym c.before.before.requires
 returns : tie.Need-returns invariant-loop decreases-loop
 returns c =
     let turn = c.before.loop in
-    sym (take_all-is turn.i turn.to (omega arith)) ∙ turn.invariant.2 ∙ take_all-is turn.i c.before.before.args.from.now (omega arith)
+    sym (take_all turn.i turn.to (omega arith)) ∙ turn.invariant.2 ∙ take_all turn.i c.before.before.args.from.now (omega arith)
 
 pub copy_spec : {M : Type 1} → statement M
 copy_spec =

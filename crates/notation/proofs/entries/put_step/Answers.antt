@@ -1,0 +1,7 @@
+use Rattle.notation.specs.Layout.{steps_at}
+use borrow.Author.Rules.{rules}
+use Rattle.notation.proofs.entries.put_step.Goals as goal
+
+pub returns : goal.returns
+unfolding steps_at
+returns c = c.copy.ensures

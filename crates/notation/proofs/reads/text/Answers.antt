@@ -1,0 +1,6 @@
+-- `reads::text`: the slice of the stored length.
+use borrow.Author.Rules.{rules}
+use Rattle.notation.proofs.reads.text.Goals as goal
+
+pub returns : goal.returns
+returns c = rw (← c.text_len.ensures.0) c.text_slice.ensures
