@@ -58,12 +58,12 @@ unfolding marks_from takes any
 takes_step e k [] i = refl
 takes_step e k (step x (label n) ∷ ss) zero =
     let z : k + 0 ≡ k = omega arith in
-    rw (z, takes_none e (suc k) ss k (omega arith), eq-eqb k k refl) (cases (named e n) (λ t. rw t) (λ t. rw t))
+    rw (takes_none e (suc k) ss (k + 0) (omega arith), z, eq-eqb k k refl) (cases (named e n) (λ t. rw t) (λ t. rw t))
 takes_step e k (step x (label n) ∷ ss) (suc i) =
     let z : k + suc i ≡ suc k + i = omega arith in
-    rw (z, ne_eqb k (suc k + i) (λ q. omega arith), takes_step e (suc k) ss i) (cases (named e n) (λ t. rw t) (λ t. rw t))
-takes_step e k (step x star ∷ ss) zero = let z : k + 0 ≡ k = omega arith in rw z (takes_none e (suc k) ss k (omega arith))
-takes_step e k (step x star ∷ ss) (suc i) = let z : k + suc i ≡ suc k + i = omega arith in rw z (takes_step e (suc k) ss i)
+    rw (ap (takes e (marks_from (suc k) ss)) z ∙ takes_step e (suc k) ss i, ne_eqb k (k + suc i) (λ q. omega arith)) (cases (named e n) (λ t. rw t) (λ t. rw t))
+takes_step e k (step x star ∷ ss) zero = takes_none e (suc k) ss (k + 0) (omega arith)
+takes_step e k (step x star ∷ ss) (suc i) = let z : k + suc i ≡ suc k + i = omega arith in ap (takes e (marks_from (suc k) ss)) z ∙ takes_step e (suc k) ss i
 
 -- step i is marked for a name exactly if it is a label of that name
 pub label-bits : (s : FolderSet) (e : Name) (i : ℕ) → takes e (marks s) i ≡ role_at (is_label_role e) (roles s) i

@@ -1,0 +1,14 @@
+use Prim.Native.Nat.{◌-◌}
+use mathlib.Core.Path.{◌≡◌, refl, sym, ◌∙◌}
+use native.Mathlib.Omega.{arith}
+use lib.ListN.{length}
+use borrow.Author.Rules.{rules}
+use Rattle.reports.specs.Code.Ordered.{name_at, order_of}
+use Rattle.reports.proofs.Laws.Ordered.NameAt.{first-lower, first-higher, both_end, both-on}
+use Rattle.reports.proofs.order.compare.Given as goal
+
+abbrev pub invariant-loop-p : goal.invariant-loop-p
+invariant-loop-p l = order_of (name_at l.s l.p) (name_at l.s l.q) ≡ order_of (name_at l.s l.i) (name_at l.s l.j)
+
+abbrev pub decreases-loop-p : goal.decreases-loop-p
+decreases-loop-p l = length l.s - l.i

@@ -1,0 +1,16 @@
+use Prim.Native.Nat.{◌+◌, ◌≤◌, ◌-◌}
+use mathlib.Core.Path.{◌≡◌, refl, sym, ◌∙◌}
+use native.Mathlib.Omega.{arith}
+use borrow.Author.Rules.{rules}
+use borrow.Author.Tests.{not-true, not-false}
+use lib.ListN.{length, drop}
+use Rattle.documents.specs.Tokens.{blank}
+use Rattle.text.specs.Read.{front}
+use Rattle.text.proofs.Laws.Scans.{span-no, span-yes, span-end}
+use Rattle.reports.proofs.scan.blanks_end.Given as goal
+
+abbrev pub invariant-loop-i : goal.invariant-loop-i
+invariant-loop-i l = (l.i ≤ length l.s) × (l.at + length (front blank (drop l.at l.s)) ≡ l.i + length (front blank (drop l.i l.s)))
+
+abbrev pub decreases-loop-i : goal.decreases-loop-i
+decreases-loop-i l = length l.s - l.i

@@ -1,0 +1,17 @@
+use Prim.Native.Nat.{◌≤◌, ◌-◌}
+use mathlib.Core.Path.{◌≡◌, refl, sym, ap, ◌∙◌}
+use mathlib.Core.Bool.{Bool, ◌&&◌, and_assoc, and-true}
+use native.Mathlib.Omega.{arith}
+use native.Mathlib.Numerals.{add-one}
+use borrow.Author.Rules.{rules}
+use lib.ListN.{length, drop, get_or}
+use Rattle.text.specs.Lists.{every}
+use Rattle.documents.specs.Tokens.{listed}
+use Rattle.text.proofs.Laws.Scans.{every-at, every-end}
+use Rattle.reports.proofs.tokens.all_listed.Given as goal
+
+abbrev pub invariant-loop-i : goal.invariant-loop-i
+invariant-loop-i l = (l.i ≤ length l.s) × (every listed l.s ≡ (l.all && every listed (drop l.i l.s)))
+
+abbrev pub decreases-loop-i : goal.decreases-loop-i
+decreases-loop-i l = length l.s - l.i

@@ -1,0 +1,9 @@
+use mathlib.Core.Path.{refl}
+use borrow.Author.Rules.{rules}
+use Rattle.reports.proofs.tokens.name_span.Goals as goal
+
+pub returns-in-Start : goal.returns-in-Start
+returns-in-Start c = rw c.in-Start.is (refl, refl)
+
+pub returns-in-Empty : goal.returns-in-Empty
+returns-in-Empty c = rw c.in-Empty.is (refl, refl)
