@@ -1,0 +1,49 @@
+-- `build::chains::chain`: what the labels still to do make of the bytes is what all labels make of those at entry, and a name can be looked up
+-- at each of them.
+use Prim.Native.Nat.{ℕ, suc, ◌-◌, ◌≤◌, ◌<◌, min}
+use mathlib.Core.Path.{◌≡◌, refl, sym, ◌∙◌, ap}
+use mathlib.Core.List.{List}
+use native.Mathlib.Omega.{arith}
+use borrow.Author.Rules.{rules}
+use lib.ListN.{length}
+use Rattle.notation.specs.Limits.{max_labels}
+use Rattle.notation.specs.Reads.{label_count}
+use Rattle.stored.specs.Usable.{Lookable}
+use Rattle.stored.specs.Code.Chains.{linked, chained, Linkable}
+use Rattle.machine.proofs.build.chains.chain.Goals as goal
+
+-- one label less, and none
+next : (l : ℕ) (a : List ℕ) {b : List ℕ} → 0 < l → b ≡ linked (l - 1) a → chained (l - 1) b ≡ chained l a
+unfolding chained
+next l a h e = let s : l ≡ suc (l - 1) = omega arith in rw e (sym (ap (λ (n : ℕ). chained n a) s))
+
+ready : (l : ℕ) (a : List ℕ) → 0 < l → Linkable l a → Lookable a × Linkable (l - 1) (linked (l - 1) a)
+unfolding Linkable
+ready l a h k = let s : l ≡ suc (l - 1) = omega arith in rw s at k
+
+none_left : (l : ℕ) (a : List ℕ) → l ≡ 0 → a ≡ chained l a
+unfolding chained
+none_left l a e = rw e
+
+pub loop-l-init : goal.loop-l-init
+loop-l-init c =
+    let start = c in
+    (c.label_count-l.ensures.1, refl, rw c.label_count-l.ensures.0 start.requires.0, ap (λ (n : ℕ). chained n start.args.part.now) c.label_count-l.ensures.0)
+
+pub link_label-requires : goal.link_label-requires
+link_label-requires c = let l = c.loop-l in (omega arith, ((ready l.l l.part (omega arith) l.invariant.2).0, omega arith))
+
+pub loop-l-preserved : goal.loop-l-preserved
+loop-l-preserved c = let l = c.loop-l in
+    let e = c.link_label.ensures in (
+      omega arith,
+      c.link_label.auto.part ∙ l.invariant.1,
+      rw e (ready l.l l.part (omega arith) l.invariant.2).1,
+      next l.l l.part (omega arith) e ∙ l.invariant.3,
+    )
+
+pub shape_of-part : goal.shape_of-part
+shape_of-part c = c.loop-l.invariant.1
+
+pub returns : goal.returns
+returns c = none_left c.loop-l.l c.loop-l.part (omega arith) ∙ c.loop-l.invariant.3

@@ -1,0 +1,8 @@
+use Rattle.stored.specs.Code.Masks.{flag_role}
+use mathlib.Core.Path.{◌∙◌}
+use borrow.Author.Rules.{rules}
+use Rattle.machine.proofs.build.masks.flag_role.Goals as goal
+
+pub returns : goal.returns
+unfolding flag_role
+returns c = c.flag-3.ensures ∙ rw (c.flag-2.ensures, c.flag.ensures, c.axis_mask-axis.ensures.0)

@@ -1,0 +1,16 @@
+use native.Mathlib.Omega.{arith}
+use mathlib.Core.Path.{sym, ◌∙◌, ap}
+use Rattle.stored.specs.HeldSet.{top_held}
+use Rattle.text.specs.Lists.{any}
+use borrow.Author.Rules.{rules}
+use Rattle.machine.proofs.run.matches.folder_paths_matched.Goals as goal
+
+pub any_matched-requires : goal.any_matched-requires
+any_matched-requires c = (omega (arith, ap top_held c.in-Folder.is, c.folder_at.ensures.1), omega (arith, ap top_held c.in-Folder.is, c.folder_at.ensures.1))
+
+pub returns-in-Folder : goal.returns-in-Folder
+returns-in-Folder c = rw (sym c.folder_at.ensures.0 ∙ c.in-Folder.is) c.any_matched.ensures
+
+pub returns-in-Missing : goal.returns-in-Missing
+unfolding any
+returns-in-Missing c = rw (sym c.folder_at.ensures.0 ∙ c.in-Missing.is)

@@ -1,0 +1,29 @@
+use native.Mathlib.Omega.{arith}
+use native.Mathlib.Numerals.{add-one}
+use mathlib.Core.Path.{◌∙◌}
+use Prim.Native.Nat.{◌+◌}
+use Rattle.model.specs.Limits.{max_depth}
+use Rattle.stored.specs.Run.{row_size, run_size}
+use Rattle.stored.proofs.Laws.Running.Rows.{row-width, row_back}
+use borrow.Author.Rules.{rules}
+use Rattle.machine.proofs.run.open.store.Goals as goal
+
+pub overflow_add-d : goal.overflow_add-d
+unfolding max_depth
+overflow_add-d c = omega arith
+
+pub slice_bounds-write_row-end : goal.slice_bounds-write_row-end
+unfolding row_size run_size
+slice_bounds-write_row-end c = omega arith
+
+pub write_row-requires : goal.write_row-requires
+unfolding row_size run_size
+write_row-requires c = let b = c in
+    (row-width b.args.run.now c.row_at-at.result (omega arith), b.requires.1.1)
+
+pub returns : goal.returns
+unfolding row_size
+returns c = let r = c.row_at-at in
+    let w = c.write_row in
+    let a = c.args in
+    row_back a.run.now w.new.0 (a.d + 1) r.result r.ensures.0 ∙ rw (w.ensures, add-one a.d)

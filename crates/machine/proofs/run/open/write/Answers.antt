@@ -1,0 +1,44 @@
+use native.Mathlib.Omega.{arith}
+use mathlib.Core.Path.{◌∙◌}
+use Prim.Native.Nat.{suc, ◌+◌, ◌*◌, ◌≤◌}
+use lib.ListN.{length}
+use Rattle.model.specs.Limits.{max_depth}
+use Rattle.stored.specs.Automaton.{mask_size}
+use Rattle.stored.specs.Run.{row_at, row_size, run_size}
+use Rattle.stored.proofs.Laws.Tables.LookTurns.{first-within}
+use Rattle.stored.proofs.Laws.Running.RunBytes.{used-room, row_room}
+use Rattle.stored.proofs.Laws.Running.Flagged.{opened}
+use borrow.Author.Rules.{rules}
+use Rattle.machine.proofs.run.open.write.Goals as goal
+
+pub flag_labels-requires : goal.flag_labels-requires
+unfolding mask_size
+flag_labels-requires c = let b = c in
+    (omega arith, (b.requires.0.0, rw b.requires.1.0 (first-within b.args.a.now b.requires.0.0.walkable.searchable b.args.e.now)))
+
+pub store_bits-requires : goal.store_bits-requires
+unfolding mask_size
+store_bits-requires c = let p = c.requires.0 in
+    (p.0.size, (omega (arith, p.1.0, c.store.auto), (omega (arith, c.flag_labels.auto), (p.1.1.0, c.used_blocks.ensures.1))))
+
+pub overflow_add-d : goal.overflow_add-d
+unfolding max_depth
+overflow_add-d c = omega (arith, c.requires.0.1.1.0)
+
+pub put_word-requires : goal.put_word-requires
+unfolding run_size
+put_word-requires c = omega (arith, c.requires.0.1.0, c.store.auto, c.store_bits.auto)
+
+pub returns : goal.returns
+unfolding mask_size
+returns c = let b = c in
+    let A = b.args.a.now in
+    let R = b.args.run.now in
+    let E = b.args.e.now in
+    let p = b.requires in
+    let u = c.used_blocks in
+    let t = c.flag_labels in
+    let fits : row_at (suc b.args.d) + row_size ≤ length b.args.run.now = row_room b.args.d b.args.run.now p.0.1.1.0 p.0.1.0 in
+    c.put_word.ensures
+    ∙ rw (c.store_bits.ensures, c.store.ensures)
+    (opened A R E t.new.0 b.args.d (16 * u.result) b.args.state (λ j. rw p.1.0 at (t.ensures j)) u.ensures.0 (used-room A p.0.0.steps) p.1.1.0 p.1.1.1 p.0.1.1.1 fits)

@@ -1,0 +1,8 @@
+use Rattle.stored.specs.Run.{run_size}
+use native.Mathlib.Nat.{min-eq_left}
+use borrow.Author.Rules.{rules}
+use Rattle.machine.proofs.run.start.clear_run.Goals as goal
+
+pub returns : goal.returns
+unfolding run_size
+returns c = rw (min-eq_left c.requires) at c.clear.ensures

@@ -1,0 +1,62 @@
+use native.Mathlib.Omega.{arith}
+use mathlib.Core.Path.{◌≡◌}
+use Prim.Native.Nat.{◌+◌, ◌-◌, ◌*◌, ◌≤◌}
+use Rattle.stored.specs.Automaton.{mask_size}
+use Rattle.stored.specs.Bits.{bit_of}
+use Rattle.stored.specs.Code.OpenSteps.{taken_active}
+use Rattle.stored.proofs.Laws.Running.Flagged.{made, none_made, one-made, all_made, active-in}
+use borrow.Author.Rules.{elem_Fits}
+use mir.Syntax.{w8}
+use Rattle.machine.proofs.run.steps.active_block.Goals as goal
+
+pub loop-j-init : goal.loop-j-init
+loop-j-init c = let a = c.args in
+    (omega arith, none_made (λ i. taken_active a.a.now a.run.now a.taken.now a.d (8 * a.from + i)))
+
+pub overflow_add-i : goal.overflow_add-i
+unfolding mask_size
+overflow_add-i c = omega (arith, c.requires.0.1.1.1.1)
+
+pub overflow_cast-mask : goal.overflow_cast-mask
+overflow_cast-mask c = let b = c in
+    let g = b.well-formed.1.1.1.1.1.0 in
+    omega (arith, elem_Fits w8 w8 b.args.t6 g.0 c.loop-j.j g.1.1 tt)
+
+pub active_before-x-requires : goal.active_before-x-requires
+active_before-x-requires c = let b = c in
+    let g = b.well-formed.1.1.1.1.1.0 in
+    let p = b.requires.0 in
+    ((p.1.0, (p.1.1.1.0, omega (arith, p.1.1.1.1))), (omega (arith, elem_Fits w8 w8 b.args.t6 g.0 c.loop-j.j g.1.1 tt), b.requires.1 c.loop-j.j (omega arith)))
+
+pub seen_before-y-requires : goal.seen_before-y-requires
+seen_before-y-requires c = let b = c in
+    let g = b.well-formed.1.1.1.1.1.0 in
+    let p = b.requires.0 in
+    ((p.1.0, (p.1.1.1.0, omega (arith, p.1.1.1.1))), (omega (arith, elem_Fits w8 w8 b.args.t6 g.0 c.loop-j.j g.1.1 tt), b.requires.1 c.loop-j.j (omega arith)))
+
+pub active_byte-requires : goal.active_byte-requires
+active_byte-requires c = let p = c.requires.0 in
+    ((p.0, (p.1.0, (p.1.1.0, (p.1.1.1.0, omega (arith, p.1.1.1.1))))), (c.active_before-x.ensures, c.seen_before-y.ensures))
+
+pub narrow-requires : goal.narrow-requires
+narrow-requires c = c.active_byte.ensures.0
+
+pub bounds-out-j : goal.bounds-out-j
+bounds-out-j c = omega (arith, c.loop-j-test.true)
+
+pub overflow_add-j : goal.overflow_add-j
+overflow_add-j c = omega (arith, c.loop-j-test.true)
+
+pub loop-j-smaller : goal.loop-j-smaller
+loop-j-smaller c = omega (arith, c.loop-j-test.true)
+
+pub loop-j-preserved : goal.loop-j-preserved
+loop-j-preserved c = let l = c.loop-j in
+    let a = c.args in
+    let x = c.active_byte in
+    (omega (arith, c.loop-j-test.true), rw c.narrow.ensures (one-made l.out (λ i. taken_active a.a.now a.run.now a.taken.now a.d (8 * a.from + i)) l.j x.result l.invariant.1 x.ensures.0 (λ k h. active-in (taken_active a.a.now a.run.now a.taken.now a.d) a.from l.j k (bit_of x.result k) (x.ensures.1 k h))))
+
+pub returns : goal.returns
+returns c = let l = c.loop-j in
+    let a = c.args in
+    all_made l.out (λ i. taken_active a.a.now a.run.now a.taken.now a.d (8 * a.from + i)) l.j l.invariant.1 (omega arith)

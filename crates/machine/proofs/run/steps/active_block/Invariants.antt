@@ -1,0 +1,16 @@
+use native.Mathlib.Omega.{arith}
+use mathlib.Core.Path.{◌≡◌}
+use Prim.Native.Nat.{◌+◌, ◌-◌, ◌*◌, ◌≤◌}
+use Rattle.stored.specs.Automaton.{mask_size}
+use Rattle.stored.specs.Bits.{bit_of}
+use Rattle.stored.specs.Code.OpenSteps.{taken_active}
+use Rattle.stored.proofs.Laws.Running.Flagged.{made, none_made, one-made, all_made, active-in}
+use borrow.Author.Rules.{elem_Fits}
+use mir.Syntax.{w8}
+use Rattle.machine.proofs.run.steps.active_block.Given as goal
+
+abbrev pub invariant-loop-j : goal.invariant-loop-j
+invariant-loop-j l = (l.j ≤ 16) × (l.out ≡ made (λ i. taken_active l.a l.run l.taken l.d (8 * l.from + i)) l.j)
+
+abbrev pub decreases-loop-j : goal.decreases-loop-j
+decreases-loop-j l = 16 - l.j

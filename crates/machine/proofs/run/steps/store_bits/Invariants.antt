@@ -1,0 +1,14 @@
+use native.Mathlib.Omega.{arith}
+use mathlib.Core.Path.{◌≡◌, ◌∙◌, ap}
+use Prim.Native.Nat.{◌-◌, ◌*◌, ◌≤◌}
+use lib.ListN.{length}
+use Rattle.stored.specs.Automaton.{mask_size}
+use Rattle.stored.specs.Code.OpenSteps.{taken_active, taken_seen, taken_matched, stored_bits}
+use Rattle.stored.proofs.Laws.Running.Blocks.{none-stored, next-stored, stored-length}
+use Rattle.machine.proofs.run.steps.store_bits.Given as goal
+
+abbrev pub invariant-loop-i : goal.invariant-loop-i
+invariant-loop-i l = (l.i ≤ l.blocks) × (l.run ≡ stored_bits l.initial.run l.d (taken_active l.a l.initial.run l.taken l.d) (taken_seen l.a l.initial.run l.taken l.d) (taken_matched l.a l.initial.run l.taken l.d) (16 * l.i))
+
+abbrev pub decreases-loop-i : goal.decreases-loop-i
+decreases-loop-i l = l.blocks - l.i
