@@ -4,4 +4,4 @@ use borrow.Author.Rules.{rules}
 use Rattle.machine.proofs.bits.one_on.Goals as goal
 
 pub returns : goal.returns
-returns c = (omega arith, λ k h. one_on c.args.b c.args k (omega arith) (omega arith) h)
+returns c = (omega arith, λ k h. one_on c.args.b c.args.before k (omega arith) (omega arith) h)

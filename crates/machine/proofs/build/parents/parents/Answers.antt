@@ -32,12 +32,11 @@ pass_step-at-requires c = (c.loop-i.invariant.1, (omega (arith, c.steps-n.ensure
 
 pub loop-i-preserved : goal.loop-i-preserved
 loop-i-preserved c = let l = c.loop-i in
-    let r = c.pass_step-at in
     let n = c.steps-n.result in (
       omega arith,
-      r.ensures.1.1,
-      r.auto.0 ∙ l.invariant.2,
-      next n l.i l.at r.result l.part r.new.0 (omega arith) r.ensures.0 r.ensures.1.0 ∙ l.invariant.3,
+      c.pass_step-at.ensures.1.1,
+      c.pass_step-at.auto.part ∙ l.invariant.2,
+      next n l.i l.at c.pass_step-at.result l.part c.pass_step-at.new.part (omega arith) c.pass_step-at.ensures.0 c.pass_step-at.ensures.1.0 ∙ l.invariant.3,
     )
 
 pub shape_of-part : goal.shape_of-part

@@ -46,19 +46,18 @@ returns-then-star c =
     let at = args.at in
     let a = args.part.now in
     let first = c.starts_path-first.result in
-    let x = c.x-1.given in
     let on = c.enter-on.result in
-    let h : step_at a i ≡ StepAt.Step x.0.0 x.0.1.0 = sym c.step_at-x.ensures ∙ x.1 in
-    let low : on.paths ≤ at.paths + 1 = rw c.enter-on.ensures (entered-paths first x.0.0 at) in
-    let e = by-star i at a first c.starts_path-first.ensures x.0.0 x.0.1.0 h on c.enter-on.ensures c.if-star.true in (
+    let h : step_at a i ≡ StepAt.Step c.in-Step.descendant c.in-Step.star = sym c.step_at-x.ensures ∙ c.in-Step.is in
+    let low : on.paths ≤ at.paths + 1 = rw c.enter-on.ensures (entered-paths first c.in-Step.descendant at) in
+    let e = by-star i at a first c.starts_path-first.ensures c.in-Step.descendant c.in-Step.star h on c.enter-on.ensures c.if-star.true in (
       sym (ap (λ (r : Passed). r.bytes) e),
       (sym (ap (λ (r : Passed). r.place) e), record { searchable = c.requires.0.searchable; paths = omega (arith, low, c.requires.0.paths); state = omega arith }),
     )
 
 pub put_word-requires : goal.put_word-requires
-put_word-requires c = let x = c.x-1.given in (
+put_word-requires c = (
   c.requires.0.searchable,
-  (rw c.enter-on.ensures (entered-state c.starts_path-first.result x.0.0 c.args.at c.requires.0.state), c.requires.1.1),
+  (rw c.enter-on.ensures (entered-state c.starts_path-first.result c.in-Step.descendant c.args.at c.requires.0.state), c.requires.1.1),
 )
 
 pub returns-else-star : goal.returns-else-star
@@ -68,11 +67,10 @@ returns-else-star c =
     let at = args.at in
     let a = args.part.now in
     let first = c.starts_path-first.result in
-    let x = c.x-1.given in
     let on = c.enter-on.result in
-    let h : step_at a i ≡ StepAt.Step x.0.0 x.0.1.0 = sym c.step_at-x.ensures ∙ x.1 in
-    let low : on.paths ≤ at.paths + 1 = rw c.enter-on.ensures (entered-paths first x.0.0 at) in
-    let e = by-label i at a first c.starts_path-first.ensures x.0.0 x.0.1.0 h on c.enter-on.ensures c.if-star.false in
+    let h : step_at a i ≡ StepAt.Step c.in-Step.descendant c.in-Step.star = sym c.step_at-x.ensures ∙ c.in-Step.is in
+    let low : on.paths ≤ at.paths + 1 = rw c.enter-on.ensures (entered-paths first c.in-Step.descendant at) in
+    let e = by-label i at a first c.starts_path-first.ensures c.in-Step.descendant c.in-Step.star h on c.enter-on.ensures c.if-star.false in
     let s = c.put_word.ensures.1.1 in (
       c.put_word.ensures.0 ∙ sym (ap (λ (r : Passed). r.bytes) e),
       (

@@ -40,8 +40,7 @@ store_word-requires c = (c.if-l-ge-MAX_LABELS.false, c.requires.1.0, c.requires.
 
 pub follow-requires : goal.follow-requires
 follow-requires c = let b = c in
-    let w = c.Store-word in
-    (subst Searchable (sym w.ensures) (searchable-stored b.args.at.labels b.args.at.state b.args.part.now b.requires.0), omega (arith, w.auto.0, b.requires.1.1))
+    (subst Searchable (sym c.store_word.ensures) (searchable-stored b.args.at.labels b.args.at.state b.args.part.now b.requires.0), omega (arith, c.store_word.auto.part, b.requires.1.1))
 
 pub returns : goal.returns
 unfolding max_labels
@@ -49,8 +48,8 @@ returns c =
     let args = c.args in
     let at = args.at in
     let a = args.part.now in
-    let e = roomy at a c.Store-word.new.0 c.follow.result c.if-l-ge-MAX_LABELS.false c.Store-word.ensures c.follow.ensures.0 in
-    let s : Searchable c.Store-word.new.0 = subst Searchable (sym c.Store-word.ensures) (searchable-stored at.labels at.state a c.requires.0) in (
+    let e = roomy at a c.store_word.new.part c.follow.result c.if-l-ge-MAX_LABELS.false c.store_word.ensures c.follow.ensures.0 in
+    let s : Searchable c.store_word.new.part = subst Searchable (sym c.store_word.ensures) (searchable-stored at.labels at.state a c.requires.0) in (
       sym (ap (λ (r : Passed). r.bytes) e),
-      (sym (ap (λ (r : Passed). r.place) e), record { searchable = s; paths = omega arith; state = small c.Store-word.new.0 c.follow.result s c.follow.ensures.1 }),
+      (sym (ap (λ (r : Passed). r.place) e), record { searchable = s; paths = omega arith; state = small c.store_word.new.part c.follow.result s c.follow.ensures.1 }),
     )

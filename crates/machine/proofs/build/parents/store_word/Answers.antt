@@ -41,7 +41,7 @@ returns c =
     c.put16.new.part
     args.l
     args.q
-    c.type_size.result
-    c.type_size.ensures.0
+    c.size_of-size.result
+    c.size_of-size.ensures.0
     c.put16.ensures
     c.put16-2.ensures

@@ -11,7 +11,7 @@ use Rattle.machine.proofs.run.asking.open_name.Goals as goal
 pub returns-then-name_refusal-ne0 : goal.returns-then-name_refusal-ne0
 returns-then-name_refusal-ne0 c = let run = c.args.run in record {
   shown = λ z. absurd (c.if-name_refusal-ne0.true (c.name_refusal.ensures ∙ z));
-  empty = λ n. record { begins = ap (λ (o : ℕ). (run.ptr.0, o)) (sym (add-zero run.ptr.1)); shows = refl };
+  empty = λ n. record { begins = ap (λ (o : ℕ). (run.ref_ptr.0, o)) (sym (add-zero run.ref_ptr.1)); shows = refl };
 }
 
 pub stored_name-requires : goal.stored_name-requires

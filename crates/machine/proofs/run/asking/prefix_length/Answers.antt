@@ -25,4 +25,4 @@ pub returns : goal.returns
 unfolding ask_prefix
 returns c = let b = c.args in
     let z : ask_refusal b.a.now b.run.now true ≡ 0 = sym c.ask_refusal-refused.ensures ∙ c.if-refused-ne0.false in
-    ap (λ (n : ℕ). value n) (c.type_size.ensures.0 ∙ ap (size_of b.a.now) (c.state_at.ensures.0 ∙ ap (state_at b.run.now) c.depth.ensures.0)) ∙ ap (λ (r : ℕ). said r (size_of b.a.now (state_at b.run.now (depth_of b.run.now)))) (sym z)
+    ap (λ (n : ℕ). value n) (c.size_of.ensures.0 ∙ ap (size_of b.a.now) (c.state_at.ensures.0 ∙ ap (state_at b.run.now) c.depth.ensures.0)) ∙ ap (λ (r : ℕ). said r (size_of b.a.now (state_at b.run.now (depth_of b.run.now)))) (sym z)

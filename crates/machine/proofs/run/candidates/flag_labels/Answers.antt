@@ -56,8 +56,7 @@ loop-k-preserved c = let b = c in
     let k = turn.k in
     let z = c.loop-k-test.true in
     let r : c.word-k.result ≡ far_at a (k - 1) = c.word-k.ensures.0 in
-    let m = c.flag_label in
-    (rw r (b.requires.1.0.far (k - 1) (low a k z turn.invariant.0)).within, (m.auto.0 ∙ turn.invariant.1.0, λ j. rw r (flagged a b.requires.1.0 k z turn.invariant.0 j (bit_at m.new.0 j) (bit_at turn.out j) (m.ensures j) ∙ turn.invariant.1.1 j)))
+    (rw r (b.requires.1.0.far (k - 1) (low a k z turn.invariant.0)).within, (c.flag_label.auto.out ∙ turn.invariant.1.0, λ j. rw r (flagged a b.requires.1.0 k z turn.invariant.0 j (bit_at c.flag_label.new.out j) (bit_at turn.out j) (c.flag_label.ensures j) ∙ turn.invariant.1.1 j)))
 
 pub shape_of-out : goal.shape_of-out
 shape_of-out c = c.loop-k.invariant.1.0

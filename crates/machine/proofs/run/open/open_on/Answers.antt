@@ -31,10 +31,10 @@ write-requires c = let b = c in
     let q = c.state_in in
     let f = c.first_label-first in
     let at : q.result ≡ state_at R (depth_of R) = q.ensures.0 ∙ ap (λ (n : ℕ). state_at R n) d.ensures.0 in
-    let w : c.walk_from-walked.result ≡ open_walk A R E = c.walk_from-walked.ensures.0 ∙ ap₂ (walk_by A) at f.ensures.0 in (
-      (openable A b.requires.0.shaped b.requires.0.size, (b.requires.0.run_length, (omega (arith, d.ensures.0, b.requires.1.0), b.requires.1.1))),
-      (f.ensures.0, (d.ensures.0, ap (λ (x : Walk). x.state) w)),
-    )
+    let w : c.walk_from-walked.result ≡ open_walk A R E = c.walk_from-walked.ensures.0 ∙ ap₂ (walk_by A) at f.ensures.0 in record {
+      openable = (openable A b.requires.0.shaped b.requires.0.size, (b.requires.0.run_length, (omega (arith, d.ensures.0, b.requires.1.0), b.requires.1.1)));
+      first_value = (f.ensures.0, (d.ensures.0, ap (λ (x : Walk). x.state) w));
+    }
 
 pub returns : goal.returns
 returns c = let b = c in

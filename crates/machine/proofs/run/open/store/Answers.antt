@@ -24,6 +24,5 @@ write_row-requires c = let b = c in
 pub returns : goal.returns
 unfolding row_size
 returns c = let r = c.row_at-at in
-    let w = c.write_row in
     let a = c.args in
-    row_back a.run.now w.new.0 (a.d + 1) r.result r.ensures.0 ∙ rw (w.ensures, add-one a.d)
+    row_back a.run.now c.write_row.new.row (a.d + 1) r.result r.ensures.0 ∙ rw (c.write_row.ensures, add-one a.d)

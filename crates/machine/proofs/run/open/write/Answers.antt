@@ -14,20 +14,20 @@ use Rattle.machine.proofs.run.open.write.Goals as goal
 pub flag_labels-requires : goal.flag_labels-requires
 unfolding mask_size
 flag_labels-requires c = let b = c in
-    (omega arith, (b.requires.0.0, rw b.requires.1.0 (first-within b.args.a.now b.requires.0.0.walkable.searchable b.args.e.now)))
+    (omega arith, (b.requires.openable.0, rw b.requires.first_value.0 (first-within b.args.a.now b.requires.openable.0.walkable.searchable b.args.e.now)))
 
 pub store_bits-requires : goal.store_bits-requires
 unfolding mask_size
-store_bits-requires c = let p = c.requires.0 in
+store_bits-requires c = let p = c.requires.openable in
     (p.0.size, (omega (arith, p.1.0, c.store.auto), (omega (arith, c.flag_labels.auto), (p.1.1.0, c.used_blocks.ensures.1))))
 
 pub overflow_add-d : goal.overflow_add-d
 unfolding max_depth
-overflow_add-d c = omega (arith, c.requires.0.1.1.0)
+overflow_add-d c = omega (arith, c.requires.openable.1.1.0)
 
 pub put_word-requires : goal.put_word-requires
 unfolding run_size
-put_word-requires c = omega (arith, c.requires.0.1.0, c.store.auto, c.store_bits.auto)
+put_word-requires c = omega (arith, c.requires.openable.1.0, c.store.auto, c.store_bits.auto)
 
 pub returns : goal.returns
 unfolding mask_size
@@ -37,8 +37,7 @@ returns c = let b = c in
     let E = b.args.e.now in
     let p = b.requires in
     let u = c.used_blocks in
-    let t = c.flag_labels in
-    let fits : row_at (suc b.args.d) + row_size ≤ length b.args.run.now = row_room b.args.d b.args.run.now p.0.1.1.0 p.0.1.0 in
+    let fits : row_at (suc b.args.d) + row_size ≤ length b.args.run.now = row_room b.args.d b.args.run.now p.openable.1.1.0 p.openable.1.0 in
     c.put_word.ensures
     ∙ rw (c.store_bits.ensures, c.store.ensures)
-    (opened A R E t.new.0 b.args.d (16 * u.result) b.args.state (λ j. rw p.1.0 at (t.ensures j)) u.ensures.0 (used-room A p.0.0.steps) p.1.1.0 p.1.1.1 p.0.1.1.1 fits)
+    (opened A R E c.flag_labels.new.out b.args.d (16 * u.result) b.args.state (λ j. rw p.first_value.0 at (c.flag_labels.ensures j)) u.ensures.0 (used-room A p.openable.0.steps) p.first_value.1.0 p.first_value.1.1 p.openable.1.1.1 fits)

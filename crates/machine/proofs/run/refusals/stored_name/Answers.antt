@@ -28,6 +28,6 @@ returns c = let b = c.args in
     let r = c.row_at-from in
     let from : r.result + 1 ≡ row_at b.d + name_in = ap (λ (k : ℕ). k + name_in) r.ensures.0 in
     record {
-      begins = ap (λ (o : ℕ). (b.run.ptr.0, o)) (add_comm _ _ ∙ ap (λ (o : ℕ). b.run.ptr.1 + o) from);
+      begins = ap (λ (o : ℕ). (b.run.ref_ptr.0, o)) (add_comm _ _ ∙ ap (λ (o : ℕ). b.run.ref_ptr.1 + o) from);
       shows = ap₂ (λ (o n : ℕ). take (o + n - o) (drop o b.run.now)) from c.name_length.ensures.0;
     }

@@ -15,28 +15,21 @@ loop-j-init c = let a = c.args in
 
 pub overflow_add-i : goal.overflow_add-i
 unfolding mask_size
-overflow_add-i c = omega (arith, c.requires.0.1.1.1.1)
-
-pub overflow_cast-mask : goal.overflow_cast-mask
-overflow_cast-mask c = let b = c in
-    let g = b.well-formed.1.1.1.1.1.0 in
-    omega (arith, elem_Fits w8 w8 b.args.t6 g.0 c.loop-j.j g.1.1 tt)
+overflow_add-i c = omega (arith, c.requires.automaton_size_in_bounds.1.1.1.1)
 
 pub active_before-x-requires : goal.active_before-x-requires
 active_before-x-requires c = let b = c in
-    let g = b.well-formed.1.1.1.1.1.0 in
-    let p = b.requires.0 in
-    ((p.1.0, (p.1.1.1.0, omega (arith, p.1.1.1.1))), (omega (arith, elem_Fits w8 w8 b.args.t6 g.0 c.loop-j.j g.1.1 tt), b.requires.1 c.loop-j.j (omega arith)))
+    let p = b.requires.automaton_size_in_bounds in
+    record { run_size_in_bounds = (p.1.0, (p.1.1.1.0, omega (arith, p.1.1.1.1))); edge_bound = (c.loop-j-test.element_fits.fits, b.requires.by_index c.loop-j.j (omega arith)) }
 
 pub seen_before-y-requires : goal.seen_before-y-requires
 seen_before-y-requires c = let b = c in
-    let g = b.well-formed.1.1.1.1.1.0 in
-    let p = b.requires.0 in
-    ((p.1.0, (p.1.1.1.0, omega (arith, p.1.1.1.1))), (omega (arith, elem_Fits w8 w8 b.args.t6 g.0 c.loop-j.j g.1.1 tt), b.requires.1 c.loop-j.j (omega arith)))
+    let p = b.requires.automaton_size_in_bounds in
+    record { run_size_in_bounds = (p.1.0, (p.1.1.1.0, omega (arith, p.1.1.1.1))); edge_bound = (c.loop-j-test.element_fits.fits, b.requires.by_index c.loop-j.j (omega arith)) }
 
 pub active_byte-requires : goal.active_byte-requires
-active_byte-requires c = let p = c.requires.0 in
-    ((p.0, (p.1.0, (p.1.1.0, (p.1.1.1.0, omega (arith, p.1.1.1.1))))), (c.active_before-x.ensures, c.seen_before-y.ensures))
+active_byte-requires c = let p = c.requires.automaton_size_in_bounds in
+    record { automaton_size_in_bounds = (p.0, (p.1.0, (p.1.1.0, (p.1.1.1.0, omega (arith, p.1.1.1.1))))); x_bound = c.active_before-x.ensures; y_bound = c.seen_before-y.ensures }
 
 pub narrow-requires : goal.narrow-requires
 narrow-requires c = c.active_byte.ensures.0

@@ -18,7 +18,7 @@ overflow_add-at c = omega arith
 pub shifted_byte-requires : goal.shifted_byte-requires
 unfolding row_size run_size mask_size active_in
 shifted_byte-requires c = let b = c in
-    ((omega arith, (b.requires.0.1.0, b.requires.0.1.1.1)), (b.requires.1.0.0, b.requires.1.0.1 ∙ ap (λ (n : ℕ). shifted (bit_in b.args.run.now (n + active_in)) (8 * b.args.j)) (sym c.row_at-at.ensures.0)))
+    record { mask_size_bound = (omega arith, (b.requires.automaton_size_in_bounds.1.0, b.requires.automaton_size_in_bounds.1.1.1)); before_bound = (b.requires.x_bound.0, b.requires.x_bound.1 ∙ ap (λ (n : ℕ). shifted (bit_in b.args.run.now (n + active_in)) (8 * b.args.j)) (sym c.row_at-at.ensures.0)) }
 
 pub overflow_add-at-2 : goal.overflow_add-at-2
 unfolding row_size run_size
@@ -27,7 +27,7 @@ overflow_add-at-2 c = omega arith
 pub shifted_byte-requires-2 : goal.shifted_byte-requires-2
 unfolding row_size run_size mask_size seen_in
 shifted_byte-requires-2 c = let b = c in
-    ((omega arith, (b.requires.0.1.0, b.requires.0.1.1.1)), (b.requires.1.1.0, b.requires.1.1.1 ∙ ap (λ (n : ℕ). shifted (bit_in b.args.run.now (n + seen_in)) (8 * b.args.j)) (sym c.row_at-at.ensures.0)))
+    record { mask_size_bound = (omega arith, (b.requires.automaton_size_in_bounds.1.0, b.requires.automaton_size_in_bounds.1.1.1)); before_bound = (b.requires.y_bound.0, b.requires.y_bound.1 ∙ ap (λ (n : ℕ). shifted (bit_in b.args.run.now (n + seen_in)) (8 * b.args.j)) (sym c.row_at-at.ensures.0)) }
 
 pub returns : goal.returns
 unfolding permitted active_in seen_in

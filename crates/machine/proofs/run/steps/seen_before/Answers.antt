@@ -11,7 +11,7 @@ use Rattle.machine.proofs.run.steps.seen_before.Goals as goal
 pub byte_before-requires : goal.byte_before-requires
 unfolding row_size run_size mask_size
 byte_before-requires c = let b = c in
-    ((omega arith, (omega arith, (b.requires.0.0, b.requires.0.1.1))), b.requires.1)
+    record { base_nonzero = (omega arith, (omega arith, (b.requires.run_size_in_bounds.0, b.requires.run_size_in_bounds.1.1))); edge_bound = b.requires.edge_bound }
 
 pub returns : goal.returns
 unfolding seen_in

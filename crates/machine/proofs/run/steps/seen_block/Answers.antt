@@ -12,20 +12,15 @@ use Rattle.machine.proofs.run.steps.seen_block.Goals as goal
 
 pub loop-j-init : goal.loop-j-init
 loop-j-init c = let a = c.args in
-    (omega arith, none_made (λ i. seen_at a.run.now a.d (8 * a.from + i) || bit_at a.t4 i))
+    (omega arith, none_made (λ i. seen_at a.run.now a.d (8 * a.from + i) || bit_at a.active i))
 
 pub overflow_add-from : goal.overflow_add-from
 unfolding mask_size
 overflow_add-from c = omega (arith, c.requires.1.1)
 
-pub overflow_cast-active : goal.overflow_cast-active
-overflow_cast-active c = let g = c.well-formed.1.1.1.0 in
-    omega (arith, elem_Fits w8 w8 c.args.t4 g.0 c.loop-j.j g.1.1 tt)
-
 pub seen_byte-requires : goal.seen_byte-requires
-seen_byte-requires c = let g = c.well-formed.1.1.1.0 in
-    let p = c.requires in
-    (p.0, (p.1.0, (omega (arith, p.1.1), omega (arith, elem_Fits w8 w8 c.args.t4 g.0 c.loop-j.j g.1.1 tt))))
+seen_byte-requires c = let p = c.requires in
+    (p.0, (p.1.0, (omega (arith, p.1.1), c.loop-j-test.element_fits.fits)))
 
 pub narrow-requires : goal.narrow-requires
 narrow-requires c = c.seen_byte.ensures.0
@@ -43,9 +38,9 @@ pub loop-j-preserved : goal.loop-j-preserved
 loop-j-preserved c = let l = c.loop-j in
     let a = c.args in
     let x = c.seen_byte in
-    (omega (arith, c.loop-j-test.true), rw c.narrow.ensures (one-made l.out (λ i. seen_at a.run.now a.d (8 * a.from + i) || bit_at a.t4 i) l.j x.result l.invariant.1 x.ensures.0 (λ k h. seen-in a.t4 (seen_at a.run.now a.d) a.from l.j k (bit_of x.result k) h (x.ensures.1 k h))))
+    (omega (arith, c.loop-j-test.true), rw c.narrow.ensures (one-made l.out (λ i. seen_at a.run.now a.d (8 * a.from + i) || bit_at a.active i) l.j x.result l.invariant.1 x.ensures.0 (λ k h. seen-in a.active (seen_at a.run.now a.d) a.from l.j k (bit_of x.result k) h (x.ensures.1 k h))))
 
 pub returns : goal.returns
 returns c = let l = c.loop-j in
     let a = c.args in
-    all_made l.out (λ i. seen_at a.run.now a.d (8 * a.from + i) || bit_at a.t4 i) l.j l.invariant.1 (omega arith)
+    all_made l.out (λ i. seen_at a.run.now a.d (8 * a.from + i) || bit_at a.active i) l.j l.invariant.1 (omega arith)

@@ -15,4 +15,4 @@ overflow_add-base c = omega arith
 pub returns : goal.returns
 returns c = let b = c in
     let a = b.args in
-    (c.one_on.ensures.0, λ k h. c.one_on.ensures.1 k h ∙ ap (λ (n : ℕ). bit_before n a k) c.byte.ensures.0 ∙ shifted-bit a.run.now a.base a.j a k h b.requires.1.1)
+    (c.one_on.ensures.0, λ k h. c.one_on.ensures.1 k h ∙ ap (λ (n : ℕ). bit_before n a.before k) c.byte.ensures.0 ∙ shifted-bit a.run.now a.base a.j a.before k h b.requires.before_bound.1)

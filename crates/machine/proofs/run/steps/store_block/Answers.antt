@@ -16,25 +16,13 @@ pub overflow_add-at-2 : goal.overflow_add-at-2
 unfolding mask_size run_size row_size
 overflow_add-at-2 c = omega (arith, c.row_at-at.ensures.1, c.requires.1.1.1.1)
 
-pub put-requires : goal.put-requires
-unfolding mask_size run_size row_size
-put-requires c = omega (arith, c.row_at-at.ensures.1, c.requires.1.1.1.1, c.requires.1.0, c.active_block-active.type-inv.1.0.1)
-
 pub overflow_add-at-4 : goal.overflow_add-at-4
 unfolding mask_size run_size row_size
 overflow_add-at-4 c = omega (arith, c.row_at-at.ensures.1, c.requires.1.1.1.1)
 
-pub put-requires-2 : goal.put-requires-2
-unfolding mask_size run_size row_size
-put-requires-2 c = omega (arith, c.row_at-at.ensures.1, c.requires.1.1.1.1, c.requires.1.0, c.seen_block-seen.type-inv.1.0.1, c.put.auto)
-
 pub overflow_add-from : goal.overflow_add-from
 unfolding mask_size
 overflow_add-from c = omega (arith, c.requires.1.1.1.1)
-
-pub put-requires-3 : goal.put-requires-3
-unfolding mask_size run_size
-put-requires-3 c = omega (arith, c.requires.1.1.1.1, c.requires.1.0, c.match_block-matched.ok.1.0.1, c.put.auto, c.put-2.auto)
 
 pub returns : goal.returns
 unfolding active_in seen_in matches_at
@@ -45,8 +33,17 @@ returns c = let a = c.args in
     let y = c.seen_block-seen in
     let z = c.match_block-matched in
     let r = c.row_at-at in
-    let p = c.put in
-    let q = c.put-2 in
-    let o = c.put-3 in
-    block-put R p.new.0 q.new.0 o.new.0 x.result y.result z.result (taken_active A R a.taken.now a.d) (seen_at R a.d) (matched_at R) (mask_bit A last_mask) a.d a.from r.result r.ensures.0
-    x.ensures y.ensures z.ensures p.ensures q.ensures o.ensures
+    block-put R c.put.new.part c.put-2.new.part c.put-3.new.part x.result y.result z.result (taken_active A R a.taken.now a.d) (seen_at R a.d) (matched_at R) (mask_bit A last_mask) a.d a.from r.result r.ensures.0
+    x.ensures y.ensures z.ensures c.put.ensures c.put-2.ensures c.put-3.ensures
+
+pub put-requires : goal.put-requires
+unfolding mask_size run_size row_size
+put-requires c = omega (arith, c.row_at-at.ensures.1, c.requires.1.1.1.1, c.requires.1.0, c.active_block-active.type_inv.1.0.1)
+
+pub put-requires-2 : goal.put-requires-2
+unfolding mask_size run_size row_size
+put-requires-2 c = omega (arith, c.row_at-at.ensures.1, c.requires.1.1.1.1, c.requires.1.0, c.seen_block-seen.type_inv.1.0.1, c.put.auto)
+
+pub put-requires-3 : goal.put-requires-3
+unfolding mask_size run_size
+put-requires-3 c = omega (arith, c.requires.1.1.1.1, c.requires.1.0, c.match_block-matched.type_inv.1.0.1, c.put.auto, c.put-2.auto)
