@@ -9,4 +9,4 @@ returns-then-byte_at c = none_inside _ _ (sym c.byte_at.ensures ∙ c.if-byte_at
 pub names_repeat-requires : goal.names_repeat-requires
 names_repeat-requires c =
     let noted = c.note_names-noted in
-    (c.requires, noted.ensures.counts, noted.auto.1.1.0, noted.ensures.noted)
+    (c.requires, noted.ensures.counts, noted.auto.places, noted.ensures.noted)

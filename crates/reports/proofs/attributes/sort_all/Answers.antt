@@ -7,4 +7,4 @@ pub returns : goal.returns
 returns c =
     let pre = c.requires in
     let noted = c.note_names in
-    all_noted _ _ _ pre.2 pre.1 _ _ _ noted.ensures (omega (arith, pre.3, noted.auto.1.1.0)) _ c.sort_front.ensures
+    all_noted _ _ _ pre.2 pre.1 _ _ _ noted.ensures (omega (arith, pre.3, noted.auto.places)) _ c.sort_front.ensures
