@@ -1,5 +1,4 @@
 use mathlib.Core.Path.{sym, ◌∙◌}
-use borrow.Author.Rules.{rules}
 use Rattle.reports.proofs.Laws.Read.Attributes.{none_inside}
 use Rattle.reports.proofs.attributes.attributes.Goals as goal
 

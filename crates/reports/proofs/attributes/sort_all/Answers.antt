@@ -1,5 +1,4 @@
 use native.Mathlib.Omega.{arith}
-use borrow.Author.Rules.{rules}
 use Rattle.reports.proofs.Laws.Read.Attributes.{all_noted}
 use Rattle.reports.proofs.attributes.sort_all.Goals as goal
 

@@ -22,8 +22,8 @@ loop-k-preserved c =
     let fits = c.requires.0 in
     let loop = c.loop-k in
     elim c.match-next_part.branch [
-      in-Before w ↦ (from-left _ _ _ fits _ _ _ _ loop.invariant c.loop-k-test.true (sym c.next_part.ensures ∙ w.in-Before.is) w.i-is w.j-is w.at-is).1
-    | in-After w ↦ (from-right _ _ _ fits _ _ _ _ loop.invariant c.loop-k-test.true (sym c.next_part.ensures ∙ w.in-After.is) w.i-is w.j-is w.at-is).1
+      | in-Before w ↦ (from-left _ _ _ fits _ _ _ _ loop.invariant c.loop-k-test.true (sym c.next_part.ensures ∙ w.in-Before.is) w.i-is w.j-is w.at-is).1
+      | in-After w ↦ (from-right _ _ _ fits _ _ _ _ loop.invariant c.loop-k-test.true (sym c.next_part.ensures ∙ w.in-After.is) w.i-is w.j-is w.at-is).1
     ]
 
 pub shape_of-out : goal.shape_of-out

@@ -2,7 +2,6 @@
 use Prim.Native.Nat.{ℕ}
 use native.Mathlib.Nat.{add_comm}
 use mathlib.Core.Path.{refl, ap}
-use borrow.Author.Rules.{rules}
 use Rattle.documents.proofs.Laws.Printed.TagAt.{tag-at-cut}
 use Rattle.reports.proofs.tokens.tag_name.Goals as goal
 
