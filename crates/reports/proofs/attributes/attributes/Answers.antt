@@ -1,5 +1,4 @@
 use mathlib.Core.Path.{sym, ◌∙◌}
-use borrow.Author.Rules.{rules}
 use Rattle.reports.proofs.Laws.Read.Attributes.{none_inside}
 use Rattle.reports.proofs.attributes.attributes.Goals as goal
 
@@ -9,4 +8,4 @@ returns-then-byte_at c = none_inside _ _ (sym c.byte_at.ensures ∙ c.if-byte_at
 pub names_repeat-requires : goal.names_repeat-requires
 names_repeat-requires c =
     let noted = c.note_names-noted in
-    (c.requires, noted.ensures.counts, noted.auto.1.1.0, noted.ensures.noted)
+    (c.requires, noted.ensures.counts, noted.auto.places, noted.ensures.noted)

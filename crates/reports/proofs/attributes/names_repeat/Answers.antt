@@ -1,6 +1,5 @@
 use native.Mathlib.Omega.{arith}
 use mathlib.Core.Path.{ap, ◌∙◌}
-use borrow.Author.Rules.{rules}
 use Rattle.documents.specs.Limits.{max_report_bytes}
 use Rattle.documents.specs.Repeats.{repeated}
 use Rattle.reports.proofs.Laws.Read.Attributes.{judged-few, judged-long, judged-by, both-noted, names-bytes}

@@ -1,7 +1,5 @@
 -- `attributes::next_attribute` meets its contract.
 use mathlib.Core.Path.{sym, ◌∙◌}
-use borrow.Author.Rules.{rules}
-use borrow.Author.Tests.{not-true, not-false}
 use Rattle.reports.proofs.Laws.Read.Inside.{done-blanks, done_end, done-name, next-torn, next-at}
 use Rattle.reports.proofs.attributes.next_attribute.Goals as goal
 

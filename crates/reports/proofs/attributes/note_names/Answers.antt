@@ -1,10 +1,7 @@
 -- The loop's invariant: the attributes from here follow those that were passed, whose places are kept as far as there is room.
-use Prim.Native.Nat.{◌-◌, ◌≤◌}
 use native.Mathlib.Omega.{arith}
-use mathlib.Core.Path.{◌≡◌, refl, ◌∙◌}
-use borrow.Author.Rules.{rules}
-use lib.ListN.{length}
-use Rattle.reports.proofs.Laws.Read.Attributes.{comes, goes_on, Passed, passed_none, passed-next, noted-done, noted-torn}
+use mathlib.Core.Path.{refl, ◌∙◌}
+use Rattle.reports.proofs.Laws.Read.Attributes.{comes, goes_on, passed_none, passed-next, noted-done, noted-torn}
 use Rattle.reports.proofs.attributes.note_names.Goals as goal
 
 pub loop-n-init : goal.loop-n-init

@@ -1,9 +1,7 @@
 use Prim.Native.Nat.{◌-◌, ◌≤◌}
-use native.Mathlib.Omega.{arith}
-use mathlib.Core.Path.{◌≡◌, refl, ◌∙◌}
-use borrow.Author.Rules.{rules}
+use mathlib.Core.Path.{◌≡◌}
 use lib.ListN.{length}
-use Rattle.reports.proofs.Laws.Read.Attributes.{comes, goes_on, Passed, passed_none, passed-next, noted-done, noted-torn}
+use Rattle.reports.proofs.Laws.Read.Attributes.{Passed}
 use Rattle.reports.proofs.attributes.note_names.Given as goal
 
 abbrev pub invariant-loop-n : goal.invariant-loop-n

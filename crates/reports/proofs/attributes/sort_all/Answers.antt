@@ -1,5 +1,4 @@
 use native.Mathlib.Omega.{arith}
-use borrow.Author.Rules.{rules}
 use Rattle.reports.proofs.Laws.Read.Attributes.{all_noted}
 use Rattle.reports.proofs.attributes.sort_all.Goals as goal
 
@@ -7,4 +6,4 @@ pub returns : goal.returns
 returns c =
     let pre = c.requires in
     let noted = c.note_names in
-    all_noted _ _ _ pre.2 pre.1 _ _ _ noted.ensures (omega (arith, pre.3, noted.auto.1.1.0)) _ c.sort_front.ensures
+    all_noted _ _ _ pre.2 pre.1 _ _ _ noted.ensures (omega (arith, pre.3, noted.auto.places)) _ c.sort_front.ensures

@@ -1,10 +1,6 @@
 -- `order::compare` meets its contract. The loop's invariant: the names from here on stand to each other as those from the start.
-use Prim.Native.Nat.{◌-◌}
-use mathlib.Core.Path.{◌≡◌, refl, sym, ◌∙◌}
+use mathlib.Core.Path.{refl, sym, ◌∙◌}
 use native.Mathlib.Omega.{arith}
-use lib.ListN.{length}
-use borrow.Author.Rules.{rules}
-use Rattle.reports.specs.Code.Ordered.{name_at, order_of}
 use Rattle.reports.proofs.Laws.Ordered.NameAt.{first-lower, first-higher, both_end, both-on}
 use Rattle.reports.proofs.order.compare.Goals as goal
 

@@ -1,10 +1,7 @@
 use Prim.Native.Nat.{◌-◌}
-use mathlib.Core.Path.{◌≡◌, refl, sym, ◌∙◌}
-use native.Mathlib.Omega.{arith}
+use mathlib.Core.Path.{◌≡◌}
 use lib.ListN.{length}
-use borrow.Author.Rules.{rules}
 use Rattle.reports.specs.Code.Ordered.{name_at, order_of}
-use Rattle.reports.proofs.Laws.Ordered.NameAt.{first-lower, first-higher, both_end, both-on}
 use Rattle.reports.proofs.order.compare.Given as goal
 
 abbrev pub invariant-loop-p : goal.invariant-loop-p

@@ -1,6 +1,5 @@
 -- `order::join` meets its contract.
 use Rattle.reports.proofs.Laws.Ordered.Halves.{joins-met, joins-clear}
-use borrow.Author.Rules.{rules}
 use Rattle.reports.proofs.order.join.Goals as goal
 
 pub returns-then-merge : goal.returns-then-merge

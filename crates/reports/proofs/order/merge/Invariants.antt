@@ -1,13 +1,6 @@
-use Prim.Native.Nat.{◌+◌, ◌-◌, ◌<◌}
-use mathlib.Core.Path.{sym, ◌∙◌}
-use mathlib.Core.Logic.{⊎_elim}
-use native.Mathlib.Omega.{arith}
-use lib.ListN.{length, get_or, set}
-use borrow.Author.Rules.{rules}
-use Rattle.reports.proofs.Laws.Ordered.Merging.{Merging, begun, from-left, from-right, met, ended}
-use Rattle.reports.proofs.order.merge.Reads as reads
-use Rattle.reports.proofs.order.merge.Lts as lts
-use Rattle.reports.proofs.order.next_part.Reads as next-part-reads
+use Prim.Native.Nat.{◌-◌}
+use lib.ListN.{length}
+use Rattle.reports.proofs.Laws.Ordered.Merging.{Merging}
 use Rattle.reports.proofs.order.merge.Given as goal
 
 abbrev pub invariant-loop-k : goal.invariant-loop-k

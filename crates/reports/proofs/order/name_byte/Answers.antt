@@ -1,7 +1,5 @@
 -- `order::name_byte` meets its contract.
 use mathlib.Core.Path.{sym, ap, ◌∙◌}
-use borrow.Author.Rules.{rules}
-use borrow.Author.Tests.{not-true, not-false}
 use Rattle.reports.specs.Code.Ordered.{first_byte}
 use Rattle.reports.proofs.Laws.Ordered.NameAt.{name-past, name-no, name-yes}
 use Rattle.reports.proofs.order.name_byte.Goals as goal

@@ -1,7 +1,6 @@
 -- `order::next_part` meets its contract.
 use mathlib.Core.Path.{sym, ◌∙◌}
 use native.Mathlib.Omega.{arith}
-use borrow.Author.Rules.{rules}
 use Rattle.reports.proofs.Laws.Ordered.Merging.{ahead-left, ahead-right, ahead-both}
 use Rattle.reports.proofs.order.next_part.Goals as goal
 

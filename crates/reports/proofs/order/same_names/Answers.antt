@@ -1,6 +1,5 @@
 -- `order::same_names` meets its contract.
 use mathlib.Core.Path.{sym, ap, ◌∙◌}
-use borrow.Author.Rules.{rules}
 use Rattle.reports.specs.Code.Ordered.{is_same}
 use Rattle.reports.proofs.Laws.Ordered.Order.{same-is}
 use Rattle.reports.proofs.order.same_names.Goals as goal

@@ -1,7 +1,6 @@
 -- `order::sort_two` meets its contract.
 use mathlib.Core.Path.{sym, ◌∙◌}
 use native.Mathlib.Omega.{arith}
-use borrow.Author.Rules.{rules}
 use Rattle.reports.proofs.Laws.Ordered.Sorted.{two-before, two-same, two-after}
 use Rattle.reports.proofs.order.sort_two.Goals as goal
 

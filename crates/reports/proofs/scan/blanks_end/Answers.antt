@@ -1,12 +1,7 @@
 -- `scan::blanks_end` meets its contract. The loop's invariant: the end is as far from here as the bytes that pass go.
-use Prim.Native.Nat.{◌+◌, ◌≤◌, ◌-◌}
-use mathlib.Core.Path.{◌≡◌, refl, sym, ◌∙◌}
+use mathlib.Core.Path.{refl, sym, ◌∙◌}
 use native.Mathlib.Omega.{arith}
-use borrow.Author.Rules.{rules}
-use borrow.Author.Tests.{not-true, not-false}
-use lib.ListN.{length, drop}
 use Rattle.documents.specs.Tokens.{blank}
-use Rattle.text.specs.Read.{front}
 use Rattle.text.proofs.Laws.Scans.{span-no, span-yes, span-end}
 use Rattle.reports.proofs.scan.blanks_end.Goals as goal
 

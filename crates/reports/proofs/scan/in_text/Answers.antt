@@ -2,7 +2,6 @@
 use mathlib.Core.Path.{sym, ap, ◌∙◌}
 use Rattle.documents.specs.Tokens.{in_text, listed}
 use Rattle.documents.proofs.Laws.Read.ByteTests.{text-last}
-use borrow.Author.Rules.{rules}
 use Rattle.reports.proofs.scan.in_text.Goals as goal
 
 pub returns-then-b-eq60 : goal.returns-then-b-eq60

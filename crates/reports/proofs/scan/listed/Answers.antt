@@ -1,6 +1,5 @@
 -- `scan::listed` meets its contract.
 use mathlib.Core.Path.{sym}
-use borrow.Author.Rules.{rules}
 use Rattle.reports.proofs.Laws.Read.Listed.{listed-flat}
 use Rattle.reports.proofs.scan.listed.Goals as goal
 

@@ -1,7 +1,6 @@
 -- `tags::attribute_end` meets its contract.
 use mathlib.Core.Path.{sym, ◌∙◌}
 use Rattle.reports.proofs.Laws.Read.Offsets.{attribute-no, attribute-no₂, attribute-to, name-bound, mark-bound}
-use borrow.Author.Rules.{rules}
 use Rattle.reports.proofs.tags.attribute_end.Goals as goal
 
 pub byte_end-requires : goal.byte_end-requires

@@ -1,6 +1,5 @@
 -- `tags::byte_at` meets its contract.
 use borrow.Author.Tests.{lt-ltb, le-ltb}
-use borrow.Author.Rules.{rules}
 use Rattle.reports.proofs.tags.byte_at.Goals as goal
 
 pub returns-then-at-s : goal.returns-then-at-s

@@ -1,6 +1,5 @@
 -- `tags::byte_end` meets its contract.
 use Rattle.reports.proofs.Laws.Read.Offsets.{mark-none, mark-no, mark-to}
-use borrow.Author.Rules.{rules}
 use Rattle.reports.proofs.tags.byte_end.Goals as goal
 
 pub returns-then-s-q : goal.returns-then-s-q

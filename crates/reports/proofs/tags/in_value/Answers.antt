@@ -1,7 +1,6 @@
 -- `tags::in_value` meets its contract.
 use mathlib.Core.Path.{sym, ◌∙◌}
 use Rattle.documents.proofs.Laws.Read.ByteTests.{value-quote, value-last}
-use borrow.Author.Rules.{rules}
 use Rattle.reports.proofs.tags.in_value.Goals as goal
 
 pub returns-then-b-quote : goal.returns-then-b-quote

@@ -1,8 +1,6 @@
 -- `tags::name_reach` meets its contract.
 use mathlib.Core.Path.{sym, ◌∙◌}
-use borrow.Author.Tests.{not-true, not-false}
 use Rattle.reports.proofs.Laws.Read.Offsets.{name-none, name-no, name-to}
-use borrow.Author.Rules.{rules}
 use Rattle.reports.proofs.tags.name_reach.Goals as goal
 
 pub returns-then-s-at : goal.returns-then-s-at

@@ -1,7 +1,6 @@
 -- `tags::quoted_end` meets its contract.
 use mathlib.Core.Path.{sym, ◌∙◌}
 use Rattle.reports.proofs.Laws.Read.Offsets.{quoted-no, quoted-none, quoted-off, quoted-to}
-use borrow.Author.Rules.{rules}
 use Rattle.reports.proofs.tags.quoted_end.Goals as goal
 
 pub returns-then-s-e : goal.returns-then-s-e

@@ -1,7 +1,6 @@
 -- `tags::reference_end` meets its contract: the first of the five words that stands there.
 use mathlib.Core.Path.{sym, ◌∙◌}
 use Rattle.reports.proofs.Laws.Read.Reaches.{reference₁, reference₂, reference₃, reference₄, reference₅, reference₆}
-use borrow.Author.Rules.{rules}
 use Rattle.reports.proofs.tags.reference_end.Goals as goal
 
 pub returns-then-word_at : goal.returns-then-word_at

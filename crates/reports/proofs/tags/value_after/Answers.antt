@@ -1,7 +1,6 @@
 -- `tags::value_after` meets its contract.
 use mathlib.Core.Path.{◌∙◌}
 use Rattle.reports.proofs.Laws.Read.Offsets.{value_none, value-double, value-single, value-no}
-use borrow.Author.Rules.{rules}
 use Rattle.reports.proofs.tags.value_after.Goals as goal
 
 pub returns-then-s-v : goal.returns-then-s-v

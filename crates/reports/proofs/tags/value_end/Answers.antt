@@ -1,12 +1,8 @@
 -- `tags::value_end` meets its contract. The loop's invariant: the parts from here go as far as those from the start.
-use Prim.Native.Nat.{◌≤◌, ◌-◌}
-use mathlib.Core.Path.{◌≡◌, refl, sym, ◌∙◌}
+use mathlib.Core.Path.{refl, sym, ◌∙◌}
 use native.Mathlib.Omega.{arith}
-use borrow.Author.Rules.{rules}
-use borrow.Author.Tests.{not-true, not-false}
-use lib.ListN.{length}
 use Rattle.documents.specs.Tokens.{in_value}
-use Rattle.reports.proofs.Laws.Read.Values.{PartsReach, amp-no, amp-to, plain-on, plain-off, parts-end}
+use Rattle.reports.proofs.Laws.Read.Values.{amp-no, amp-to, plain-on, plain-off, parts-end}
 use Rattle.reports.proofs.tags.value_end.Goals as goal
 
 pub loop-i-init : goal.loop-i-init

@@ -1,11 +1,8 @@
 use Prim.Native.Nat.{◌≤◌, ◌-◌}
-use mathlib.Core.Path.{◌≡◌, refl, sym, ◌∙◌}
-use native.Mathlib.Omega.{arith}
-use borrow.Author.Rules.{rules}
-use borrow.Author.Tests.{not-true, not-false}
+use mathlib.Core.Path.{◌≡◌}
 use lib.ListN.{length}
 use Rattle.documents.specs.Tokens.{in_value}
-use Rattle.reports.proofs.Laws.Read.Values.{PartsReach, amp-no, amp-to, plain-on, plain-off, parts-end}
+use Rattle.reports.proofs.Laws.Read.Values.{PartsReach}
 use Rattle.reports.proofs.tags.value_end.Given as goal
 
 abbrev pub invariant-loop-i : goal.invariant-loop-i

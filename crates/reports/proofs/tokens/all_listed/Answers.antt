@@ -1,12 +1,9 @@
 -- `tokens::all_listed` meets its contract. The loop's invariant: all are listed if those before i and those from i on are.
-use Prim.Native.Nat.{◌≤◌, ◌-◌}
-use mathlib.Core.Path.{◌≡◌, refl, sym, ap, ◌∙◌}
+use mathlib.Core.Path.{refl, sym, ap, ◌∙◌}
 use mathlib.Core.Bool.{Bool, ◌&&◌, and_assoc, and-true}
 use native.Mathlib.Omega.{arith}
 use native.Mathlib.Numerals.{add-one}
-use borrow.Author.Rules.{rules}
-use lib.ListN.{length, drop, get_or}
-use Rattle.text.specs.Lists.{every}
+use lib.ListN.{get_or}
 use Rattle.documents.specs.Tokens.{listed}
 use Rattle.text.proofs.Laws.Scans.{every-at, every-end}
 use Rattle.reports.proofs.tokens.all_listed.Goals as goal

@@ -1,13 +1,9 @@
 use Prim.Native.Nat.{◌≤◌, ◌-◌}
-use mathlib.Core.Path.{◌≡◌, refl, sym, ap, ◌∙◌}
-use mathlib.Core.Bool.{Bool, ◌&&◌, and_assoc, and-true}
-use native.Mathlib.Omega.{arith}
-use native.Mathlib.Numerals.{add-one}
-use borrow.Author.Rules.{rules}
-use lib.ListN.{length, drop, get_or}
+use mathlib.Core.Path.{◌≡◌}
+use mathlib.Core.Bool.{◌&&◌}
+use lib.ListN.{length, drop}
 use Rattle.text.specs.Lists.{every}
 use Rattle.documents.specs.Tokens.{listed}
-use Rattle.text.proofs.Laws.Scans.{every-at, every-end}
 use Rattle.reports.proofs.tokens.all_listed.Given as goal
 
 abbrev pub invariant-loop-i : goal.invariant-loop-i

@@ -1,9 +1,7 @@
 -- `tokens::comment` meets its contract.
 use mathlib.Core.Path.{sym, ◌∙◌}
 use native.Mathlib.Omega.{arith}
-use borrow.Author.Tests.{not-true, not-false}
 use Rattle.reports.proofs.Laws.Read.Comments.{comment-off, comment-bound, comment-no, comment-to}
-use borrow.Author.Rules.{rules}
 use Rattle.reports.proofs.tokens.comment.Goals as goal
 
 pub dashes-requires : goal.dashes-requires

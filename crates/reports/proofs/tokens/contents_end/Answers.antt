@@ -1,11 +1,7 @@
 -- `tokens::contents_end` meets its contract. The loop's invariant: the contents from here end where those from the start end.
-use Prim.Native.Nat.{◌-◌, ◌≤◌}
-use mathlib.Core.Path.{◌≡◌, refl, sym, ◌∙◌}
+use mathlib.Core.Path.{refl, sym, ◌∙◌}
 use native.Mathlib.Omega.{arith}
-use borrow.Author.Tests.{not-true, not-false}
-use lib.ListN.{length}
-use Rattle.reports.proofs.Laws.Read.Comments.{Contents, close-to, close-no, close-fits, foreign, onwards, unclosed}
-use borrow.Author.Rules.{rules}
+use Rattle.reports.proofs.Laws.Read.Comments.{close-to, close-no, close-fits, foreign, onwards, unclosed}
 use Rattle.reports.proofs.tokens.contents_end.Goals as goal
 
 pub loop-i-init : goal.loop-i-init

@@ -1,10 +1,7 @@
 use Prim.Native.Nat.{◌-◌, ◌≤◌}
-use mathlib.Core.Path.{◌≡◌, refl, sym, ◌∙◌}
-use native.Mathlib.Omega.{arith}
-use borrow.Author.Tests.{not-true, not-false}
+use mathlib.Core.Path.{◌≡◌}
 use lib.ListN.{length}
-use Rattle.reports.proofs.Laws.Read.Comments.{Contents, close-to, close-no, close-fits, foreign, onwards, unclosed}
-use borrow.Author.Rules.{rules}
+use Rattle.reports.proofs.Laws.Read.Comments.{Contents}
 use Rattle.reports.proofs.tokens.contents_end.Given as goal
 
 abbrev pub invariant-loop-i : goal.invariant-loop-i

@@ -2,7 +2,6 @@
 use mathlib.Core.Path.{sym, ◌∙◌}
 use Rattle.documents.specs.Tokens.{declaration_bytes}
 use Rattle.reports.proofs.Laws.Read.TokenAt.{declared-to, declared-no}
-use borrow.Author.Rules.{rules}
 use Rattle.reports.proofs.tokens.declaration.Goals as goal
 
 pub returns-then-word_at : goal.returns-then-word_at

@@ -3,7 +3,6 @@ use mathlib.Core.Path.{sym, ◌∙◌}
 use native.Mathlib.Omega.{arith}
 use Rattle.reports.proofs.Laws.Read.Offsets.{name-bound}
 use Rattle.reports.proofs.Laws.Read.Tags.{here, end-no, end-no₂, end-to, end-here}
-use borrow.Author.Rules.{rules}
 use Rattle.reports.proofs.tokens.end_tag.Goals as goal
 
 pub overflow_add-result : goal.overflow_add-result

@@ -1,11 +1,7 @@
 -- `tokens::is_run` meets its contract. The loop's invariant: the report is a run exactly when the rest from here is.
-use Prim.Native.Nat.{◌-◌, ◌≤◌}
-use mathlib.Core.Path.{◌≡◌, refl, sym, ◌∙◌}
+use mathlib.Core.Path.{refl, sym, ◌∙◌}
 use native.Mathlib.Omega.{arith}
-use lib.ListN.{length}
-use Rattle.documents.specs.Reading.{read_report}
-use Rattle.reports.proofs.Laws.Read.RunAt.{is_got, run-said, RunFrom, run_none, run-late, run-next, run-first, run_end}
-use borrow.Author.Rules.{rules}
+use Rattle.reports.proofs.Laws.Read.RunAt.{run-said, run_none, run-late, run-next, run-first, run_end}
 use Rattle.reports.proofs.tokens.is_run.Goals as goal
 
 pub loop-i-init : goal.loop-i-init

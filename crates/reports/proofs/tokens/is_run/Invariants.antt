@@ -1,10 +1,8 @@
 use Prim.Native.Nat.{◌-◌, ◌≤◌}
-use mathlib.Core.Path.{◌≡◌, refl, sym, ◌∙◌}
-use native.Mathlib.Omega.{arith}
+use mathlib.Core.Path.{◌≡◌}
 use lib.ListN.{length}
 use Rattle.documents.specs.Reading.{read_report}
-use Rattle.reports.proofs.Laws.Read.RunAt.{is_got, run-said, RunFrom, run_none, run-late, run-next, run-first, run_end}
-use borrow.Author.Rules.{rules}
+use Rattle.reports.proofs.Laws.Read.RunAt.{is_got, RunFrom}
 use Rattle.reports.proofs.tokens.is_run.Given as goal
 
 abbrev pub invariant-loop-i : goal.invariant-loop-i

@@ -1,5 +1,4 @@
 use mathlib.Core.Path.{refl}
-use borrow.Author.Rules.{rules}
 use Rattle.reports.proofs.tokens.name_span.Goals as goal
 
 pub returns-in-Start : goal.returns-in-Start

@@ -1,8 +1,6 @@
 -- `tokens::rare_word_at`: where its first byte is another, the word does not begin there; else the rest decides.
 use mathlib.Core.Path.{sym, ◌∙◌}
-use native.Mathlib.Omega.{arith}
 use Rattle.text.proofs.Laws.Scans.{begins-other, begins-past, begins-here}
-use borrow.Author.Rules.{rules}
 use Rattle.reports.proofs.tokens.rare_word_at.Goals as goal
 
 pub returns-then-s-at : goal.returns-then-s-at

@@ -4,7 +4,6 @@ use mathlib.Core.Path.{sym, ◌∙◌}
 use native.Mathlib.Omega.{arith}
 use Rattle.reports.proofs.Laws.Read.Offsets.{name-bound}
 use Rattle.reports.proofs.Laws.Read.Tags.{here, tag-no, tag-no₂, inside-bound, tag-to, tag-here}
-use borrow.Author.Rules.{rules}
 use Rattle.reports.proofs.tokens.tag.Goals as goal
 
 pub overflow_add-result : goal.overflow_add-result

@@ -1,6 +1,5 @@
 -- `tokens::tag_end` meets its contract.
 use borrow.Author.Tests.{lt-ltb, le-ltb, eq-eqb, ne_eqb}
-use borrow.Author.Rules.{rules}
 use Rattle.reports.proofs.tokens.tag_end.Goals as goal
 
 pub returns-then-s-e : goal.returns-then-s-e

@@ -2,7 +2,6 @@
 use Prim.Native.Nat.{ℕ}
 use native.Mathlib.Nat.{add_comm}
 use mathlib.Core.Path.{refl, ap}
-use borrow.Author.Rules.{rules}
 use Rattle.documents.proofs.Laws.Printed.TagAt.{tag-at-cut}
 use Rattle.reports.proofs.tokens.tag_name.Goals as goal
 
@@ -11,7 +10,7 @@ returns c = record {
   from = c.tag_span-p.result.from;
   to = c.tag_span-p.result.to;
   stands = c.tag_span-p.ensures;
-  part = record { begins = ap (λ (o : ℕ). (c.args.s.ptr.0, o)) (add_comm _ _); shows = refl };
+  part = record { begins = ap (λ (o : ℕ). (c.args.s.ref_ptr.0, o)) (add_comm _ _); shows = refl };
 }
 
 pub slice_bounds-result-count : goal.slice_bounds-result-count

@@ -1,5 +1,4 @@
 -- `tokens::tag_span` meets its contract: the token at the offset gives the offsets of its name.
-use borrow.Author.Rules.{rules}
 use Rattle.reports.proofs.Laws.Read.TagName.{spans}
 use Rattle.reports.proofs.tokens.tag_span.Goals as goal
 

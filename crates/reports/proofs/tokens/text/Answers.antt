@@ -1,16 +1,12 @@
 -- `tokens::text` meets its contract. The loop's invariant: the text is what the parts from here make of it, and it was blank so far.
-use Prim.Native.Nat.{◌+◌, ◌-◌, ◌≤◌, ◌<◌}
-use mathlib.Core.Path.{◌≡◌, sym, ap, ◌∙◌}
+use Prim.Native.Nat.{◌+◌, ◌<◌}
+use mathlib.Core.Path.{sym, ap, ◌∙◌}
 use native.Mathlib.Omega.{arith}
-use borrow.Author.Tests.{not-true, not-false, lt-ltb, le-ltb}
+use borrow.Author.Tests.{lt-ltb, le-ltb}
 use lib.Dec.{ltb}
-use lib.ListN.{length, drop}
 use mathlib.Core.Bool.{Bool, true}
-use Rattle.documents.specs.Reading.{read_text}
-use Rattle.reports.specs.Seen.{found_of}
 use Rattle.reports.specs.Code.Seen.{text_from}
 use Rattle.reports.proofs.Laws.Read.Texts.{text-start, text-less, text-end, text-blank, text-marked}
-use borrow.Author.Rules.{rules}
 use Rattle.reports.proofs.tokens.text.Goals as goal
 
 pub loop-i-init : goal.loop-i-init

@@ -1,15 +1,11 @@
-use Prim.Native.Nat.{◌+◌, ◌-◌, ◌≤◌, ◌<◌}
-use mathlib.Core.Path.{◌≡◌, sym, ap, ◌∙◌}
-use native.Mathlib.Omega.{arith}
-use borrow.Author.Tests.{not-true, not-false, lt-ltb, le-ltb}
+use Prim.Native.Nat.{◌-◌, ◌≤◌}
+use mathlib.Core.Path.{◌≡◌}
 use lib.Dec.{ltb}
 use lib.ListN.{length, drop}
-use mathlib.Core.Bool.{Bool, true}
+use mathlib.Core.Bool.{true}
 use Rattle.documents.specs.Reading.{read_text}
 use Rattle.reports.specs.Seen.{found_of}
 use Rattle.reports.specs.Code.Seen.{text_from}
-use Rattle.reports.proofs.Laws.Read.Texts.{text-start, text-less, text-end, text-blank, text-marked}
-use borrow.Author.Rules.{rules}
 use Rattle.reports.proofs.tokens.text.Given as goal
 
 abbrev pub invariant-loop-i : goal.invariant-loop-i

@@ -1,14 +1,12 @@
 -- `tokens::text_from` meets its contract. The loop's invariant: the text is what the parts from here make of it.
-use Prim.Native.Nat.{◌+◌, ◌-◌, ◌≤◌, ◌<◌}
-use mathlib.Core.Path.{◌≡◌, refl, sym, ap, ◌∙◌}
+use Prim.Native.Nat.{◌+◌, ◌<◌}
+use mathlib.Core.Path.{refl, sym, ap, ◌∙◌}
 use native.Mathlib.Omega.{arith}
-use borrow.Author.Tests.{not-true, not-false, lt-ltb}
+use borrow.Author.Tests.{lt-ltb}
 use lib.Dec.{ltb}
-use lib.ListN.{length}
 use mathlib.Core.Bool.{Bool, false}
 use Rattle.reports.specs.Code.Seen.{text_from}
 use Rattle.reports.proofs.Laws.Read.Texts.{text-less, text-end, text-foreign, text-amp-no, text-amp, text-section, text-plain, text-high, text-high-no}
-use borrow.Author.Rules.{rules}
 use Rattle.reports.proofs.tokens.text_from.Goals as goal
 
 pub loop-i-init : goal.loop-i-init

@@ -1,13 +1,9 @@
-use Prim.Native.Nat.{◌+◌, ◌-◌, ◌≤◌, ◌<◌}
-use mathlib.Core.Path.{◌≡◌, refl, sym, ap, ◌∙◌}
-use native.Mathlib.Omega.{arith}
-use borrow.Author.Tests.{not-true, not-false, lt-ltb}
+use Prim.Native.Nat.{◌-◌, ◌≤◌}
+use mathlib.Core.Path.{◌≡◌}
 use lib.Dec.{ltb}
 use lib.ListN.{length}
-use mathlib.Core.Bool.{Bool, false}
+use mathlib.Core.Bool.{false}
 use Rattle.reports.specs.Code.Seen.{text_from}
-use Rattle.reports.proofs.Laws.Read.Texts.{text-less, text-end, text-foreign, text-amp-no, text-amp, text-section, text-plain, text-high, text-high-no}
-use borrow.Author.Rules.{rules}
 use Rattle.reports.proofs.tokens.text_from.Given as goal
 
 abbrev pub invariant-loop-i : goal.invariant-loop-i

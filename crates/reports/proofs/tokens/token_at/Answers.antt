@@ -1,7 +1,6 @@
 -- `tokens::token_at` meets its contract: the first two bytes tell which token is read.
 use mathlib.Core.Path.{◌∙◌}
 use Rattle.reports.proofs.Laws.Read.TokenAt.{token-none, token-text, token-short, token-comment, token_end, token-declaration, token-tag}
-use borrow.Author.Rules.{rules}
 use Rattle.reports.proofs.tokens.token_at.Goals as goal
 
 pub returns-then-s-at : goal.returns-then-s-at
