@@ -1,0 +1,18 @@
+use native.Mathlib.Omega.{arith}
+use Prim.Native.Nat.{ℕ, ◌≤◌, ◌-◌}
+use native.Mathlib.Numerals.{add-one}
+use mathlib.Core.Path.{◌≡◌, sym, ◌∙◌, ap}
+use borrow.Author.Rules.{rules}
+use Rattle.model.specs.Folders.{count_from}
+use Rattle.stored.specs.HeldSet.{folders_held}
+use Rattle.text.specs.Output.{Adds, no_pieces}
+use Rattle.filing.specs.Listed.{folders_listed}
+use Rattle.text.proofs.Laws.Output.{and_then, same_bytes, size}
+use Rattle.filing.proofs.Laws.Listing.Steps.{folders-more}
+use Rattle.filing.proofs.listing.emit_folders.Given as goal
+
+abbrev pub invariant-loop-i : goal.invariant-loop-i
+invariant-loop-i l = (l.i ≤ l.top) × Adds l.initial.out l.initial.to (folders_listed l.a l.run (count_from 0 l.i)) l.out l.to
+
+abbrev pub decreases-loop-i : goal.decreases-loop-i
+decreases-loop-i l = l.top - l.i

@@ -1,0 +1,18 @@
+-- `listing::emit_line`: the line of the folder that is stored, if there is one.
+use native.Mathlib.Omega.{arith}
+use mathlib.Core.Path.{sym, ◌∙◌, ap}
+use Rattle.stored.specs.HeldSet.{top_held}
+use Rattle.filing.specs.Listed.{line_at}
+use Rattle.text.specs.Output.{no_pieces}
+use Rattle.text.proofs.Laws.Output.{same_bytes}
+use borrow.Author.Rules.{rules}
+use Rattle.filing.proofs.listing.emit_line.Goals as goal
+
+pub emit_folder_line-requires : goal.emit_folder_line-requires
+emit_folder_line-requires c = (omega (arith, ap top_held c.in-Folder.is, c.folder_at.ensures.1), omega (arith, ap top_held c.in-Folder.is, c.folder_at.ensures.1))
+
+pub returns-in-Folder : goal.returns-in-Folder
+returns-in-Folder c = same_bytes c.emit_folder_line.ensures (sym (ap (line_at _ _) (sym c.folder_at.ensures.0 ∙ c.in-Folder.is)))
+
+pub returns-in-Missing : goal.returns-in-Missing
+returns-in-Missing c = same_bytes no_pieces (sym (ap (line_at _ _) (sym c.folder_at.ensures.0 ∙ c.in-Missing.is)))

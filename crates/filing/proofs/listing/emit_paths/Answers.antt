@@ -1,0 +1,29 @@
+-- `listing::emit_paths`: after i turns the first i places are listed.
+use native.Mathlib.Omega.{arith}
+use Prim.Native.Nat.{ℕ, ◌≤◌, ◌-◌}
+use native.Mathlib.Numerals.{add-one}
+use mathlib.Core.Path.{◌≡◌, sym, ◌∙◌, ap}
+use Rattle.model.specs.Folders.{count_from}
+use borrow.Author.Rules.{rules}
+use Rattle.text.specs.Output.{Adds, no_pieces}
+use Rattle.filing.specs.Listed.{paths_listed}
+use Rattle.text.proofs.Laws.Output.{and_then, same_bytes, size}
+use Rattle.filing.proofs.Laws.Listing.Steps.{paths-more}
+use Rattle.filing.proofs.listing.emit_paths.Goals as goal
+
+pub loop-i-init : goal.loop-i-init
+unfolding paths_listed count_from
+loop-i-init c = (omega arith, no_pieces)
+
+pub loop-i-preserved : goal.loop-i-preserved
+loop-i-preserved c = let a = c.args in
+    let l = c.loop-i in
+    (omega arith, same_bytes (and_then l.invariant.1 c.emit_if_matched-to.ensures) (paths-more a.a.now a.run.now a.first l.i ∙ ap (λ (j : ℕ). paths_listed a.a.now a.run.now (count_from a.first j)) (sym (add-one l.i))))
+
+pub shape_of-out : goal.shape_of-out
+shape_of-out c = size c.loop-i.invariant.1
+
+pub returns : goal.returns
+returns c = let a = c.args in
+    let e : c.loop-i.i ≡ a.count = omega arith in
+    same_bytes c.loop-i.invariant.1 (ap (λ (j : ℕ). paths_listed a.a.now a.run.now (count_from a.first j)) e)
