@@ -5,3 +5,4 @@ pub mod limits;
 pub mod listing;
 pub mod printing;
 pub mod report;
+pub mod shown;

@@ -125,7 +125,8 @@ fn compose(a: &[u8], run: &[u8], c: Counters, out: &mut [u8], dry: bool) -> Curs
     emit(out, moves, b")\n")
 }
 
-fn compose_refused(n: u8, out: &mut [u8]) -> Cursor
+// An inner call: the line of a refusal, from the buffer's start on, as far as there is room.
+pub fn compose_refused(n: u8, out: &mut [u8]) -> Cursor
     ensures { Adds out.old (start false) (refused_line n) out.new result }
 {
     let word = begin(out, false, b"(refused ");

@@ -32,7 +32,8 @@ pub struct Taken {
     pub counters: Counters,
 }
 
-fn with_none(n: u8) -> Taken
+// A refusal, with the counters of a fresh run.
+pub fn with_none(n: u8) -> Taken
     ensures { (result.refusal ≡ n) × (result.counters ≡ no_counters) }
 {
     Taken {

@@ -1,3 +1,4 @@
 pub mod Sets
 pub mod Calls
+pub mod Shown
 pub mod Whole

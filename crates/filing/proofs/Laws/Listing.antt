@@ -3,6 +3,8 @@ pub mod PrintedText
 pub mod PrintedXPath
 pub mod Printing
 pub mod Same
+pub mod Showing
+pub mod Shown
 pub mod Sizes
 pub mod Steps
 pub mod Whole

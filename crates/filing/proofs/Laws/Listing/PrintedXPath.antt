@@ -28,10 +28,10 @@ use Rattle.filing.proofs.Laws.Filing.Demand2.{of-document}
 -- what is matched is what selects an element
 module _ (d : Document) (matched : ℕ → Bool) where
   -- of the paths from this place on
-  abbrev Matches : ℕ → List Path → Type 0
+  abbrev pub Matches : ℕ → List Path → Type 0
   Matches first ps = (j : ℕ) → j < length ps → (matched (first + j) ≡ true) ↔ SelectsElement d (get_or ps j [])
 
-  paths-selecting : (first : ℕ) (ps : List Path) → Matches first ps → Selecting d ps (matched_paths matched first ps)
+  pub paths-selecting : (first : ℕ) (ps : List Path) → Matches first ps → Selecting d ps (matched_paths matched first ps)
   unfolding matched_paths
   paths-selecting first [] h = no_paths
   paths-selecting first (p ∷ ps) h =

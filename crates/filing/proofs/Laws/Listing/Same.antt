@@ -85,7 +85,7 @@ module _ (a run : List ℕ) (matched : ℕ → Bool) where
       rw (e, d) (h (suc j) (suc-le-suc k))))
 
 -- the path of a place, by its folder
-path-of : (s : FolderSet) (i j : ℕ) → i < length s → j < length (folder_paths (get_or s i no_folder))
+pub path-of : (s : FolderSet) (i j : ℕ) → i < length s → j < length (folder_paths (get_or s i no_folder))
     → get_or (paths_of s) (paths_before s i + j) [] ≡ get_or (folder_paths (get_or s i no_folder)) j []
 unfolding paths_of
 path-of [] i j h k = absurd (not-suc-le-zero h)
@@ -98,7 +98,7 @@ module _ (s : FolderSet) (a : List ℕ) (m : Means s a) (st : State) (few : Few 
   abbrev run : List ℕ
   run = run_of s st ++ rest
 
-  place_same : (i j : ℕ) → i < length s → j < length (folder_paths (get_or s i no_folder)) → PlaceSame a run st.matched (paths_before s i + j) (get_or (folder_paths (get_or s i no_folder)) j [])
+  pub place_same : (i j : ℕ) → i < length s → j < length (folder_paths (get_or s i no_folder)) → PlaceSame a run st.matched (paths_before s i + j) (get_or (folder_paths (get_or s i no_folder)) j [])
   place_same i j h k =
       let l : paths_before s i + j < length (paths_of s) = omega (arith, paths-between s i h, paths-before-most s (suc i)) in
       record {

@@ -89,11 +89,15 @@ module _ (a run : List ℕ) (c : Counters) (out : List ℕ) where
       go false q k = k
 
 -- the line of a refusal has room
-pub refused-short : (n : ℕ) → n < 256 → length (refused_line n) ≤ listing_size
-unfolding refused_line refused_word footer listing_size max_set_bytes max_moves_line tens
-refused-short n h =
+pub refused-length : (n : ℕ) → n < 256 → length (refused_line n) ≤ 14
+unfolding refused_line refused_word footer tens
+refused-length n h =
     let k : length (decimal n) ≤ 3 = decimal-few 2 n (omega arith) in
     omega (arith, length-append (decimal n) footer)
+
+pub refused-short : (n : ℕ) → n < 256 → length (refused_line n) ≤ listing_size
+unfolding listing_size max_set_bytes max_moves_line
+refused-short n h = omega (arith, refused-length n h)
 
 pub line-written : (n : ℕ) (out : List ℕ) {after : List ℕ} {cursor : Cursor} → n < 256 → listing_size ≤ length out → Adds out (start false) (refused_line n) after cursor
     → RefusedWritten n out (Written.Bytes cursor.at) after

@@ -1,0 +1,57 @@
+-- What a program prints of a set's text and a report, whatever it shows of a filed one; and what the call that does the whole job promises,
+-- from the bytes of a set and a report to the bytes that are printed. Whether a report is filed or refused is the machine's word (Filing).
+use Rattle.std.specs.Prelude.{ℕ, ◌≤◌, ◌≡◌, Bool, true, false, ◌||◌, List, ◌++◌, ltb, length, drop}
+use Rattle.notation.specs.Sets.{FolderSet}
+use Rattle.text.specs.Refusals.{Refusal, short_buffer, number_of}
+use Rattle.text.specs.Answers.{refused, value}
+use Rattle.notation.specs.Accepted.{Accepted}
+use Rattle.notation.specs.Judged.{RefusedText, Verdict, Judged}
+use Rattle.text.specs.Written.{written_says}
+use Rattle.model.specs.Calls.{State}
+use Rattle.stored.specs.Build.{Built, built_into}
+use Rattle.stored.specs.RunCalls.{too_short, no_counters}
+use Rattle.text.specs.declared.written.Written.{Written}
+use Rattle.stored.specs.declared.counters.Counters.{Counters}
+use Rattle.filing.specs.Filing.{Refused, FiledWith}
+use Rattle.filing.specs.ReportRefusals.{Files}
+use Rattle.filing.specs.Listing.{refused_line}
+
+-- For s report bytes: these bytes are shown of the report, filed with the set
+module _ (For : FolderSet → List ℕ → List ℕ → Type 0) where
+  -- of any report: the refusal's number alone, or what is shown of a filed one
+  pub data ShownOf (s : FolderSet) (report : List ℕ) : List ℕ → Type 0 where
+    its_number : (r : Refusal) → Refused s report r → ShownOf s report (refused_line (number_of r))
+    its_text : {bytes : List ℕ} (m : State) → FiledWith s report m → For s report bytes → ShownOf s report bytes
+
+  -- of any text: the number of the set's refusal, or what the report brings with the set
+  pub data ShownText (text report : List ℕ) : List ℕ → Type 0 where
+    of_refused_set : {r : Refusal} → RefusedText text r → ShownText text report (refused_line (number_of r))
+    of_set : {s : FolderSet} {bytes : List ℕ} → Accepted text s → ShownOf s report bytes → ShownText text report bytes
+
+-- a set is built and a report filed with it: the number of the set's refusal, or what filing answers and leaves
+pub data FilesText (text report a run : List ℕ) : ℕ → List ℕ → List ℕ → Counters → Type 0 where
+  set_refused : {n : ℕ} {a' : List ℕ} → (n ≡ 0 → ⊥) → Built text a n a' → FilesText text report a run n a' run no_counters
+  set_built : {n : ℕ} {a' run' : List ℕ} {c' : Counters} → Built text a 0 a' → Files a' run no_counters report n run' c' → FilesText text report a run n a' run' c'
+
+-- automaton, run or printed bytes have less room than their size
+unfoldable pub too_small : ℕ → List ℕ → List ℕ → List ℕ → Bool
+too_small size a run out = too_short a run || ltb (length out) size
+
+-- this text is printed: it is no longer than the size, its length is answered, it stands first, and bytes past it stay
+pub record PrintsText (size : ℕ) (text before : List ℕ) (answer : Written) (after : List ℕ) : Type 0 where
+  pub fits : length text ≤ size
+  pub answers : written_says answer ≡ value (length text)
+  pub leaves : after ≡ text ++ drop (length text) before
+
+-- what is answered and left, of any text, report and buffers
+pub record PrintsBy (size : ℕ) (For : FolderSet → List ℕ → List ℕ → Type 0) (text report a run out : List ℕ) (answer : Written)
+    (a' run' out' : List ℕ) : Type 0 where
+  -- a short buffer: 1, and nothing is changed
+  pub short : too_small size a run out ≡ true → (written_says answer ≡ refused (number_of short_buffer)) × ((a' ≡ a) × ((run' ≡ run) × (out' ≡ out)))
+  -- else what text and report bring is printed
+  pub printed : too_small size a run out ≡ false → (bytes : List ℕ) → ShownText For text report bytes → PrintsText size bytes out answer out'
+  -- the automaton is left as a build leaves it
+  pub built : too_small size a run out ≡ false → (v : Verdict) → Judged text v → a' ≡ built_into v a
+  -- the run stays where the text is refused, and is else as filing the report leaves it
+  pub kept : too_small size a run out ≡ false → (r : Refusal) → RefusedText text r → run' ≡ run
+  pub filed : too_small size a run out ≡ false → (s : FolderSet) → Accepted text s → (n : ℕ) × (c' : Counters) × Files a' run no_counters report n run' c'
