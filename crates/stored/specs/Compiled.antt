@@ -1,10 +1,10 @@
 -- What an automaton's tables mean: the laws of the bytes that were built from a set. The calls on a run use nothing else of the
 -- build.
-use Rattle.std.specs.Prelude.{ℕ, suc, ◌*◌, ◌≤◌, ◌<◌, ◌≡◌, true, false, List, [], length, get_or, take}
+use Rattle.std.specs.Prelude.{ℕ, suc, ◌*◌, ◌≤◌, ◌<◌, ◌≡◌, true, false, List, [], length}
 use Rattle.text.specs.Names.{Name}
-use Rattle.notation.specs.Sets.{child, label, star, step, FolderSet, test_of}
-use Rattle.notation.specs.Form.{paths_of, labels_of}
-use Rattle.notation.specs.Reads.{label_step, path_count, step_count, label_count}
+use Rattle.notation.specs.Sets.{FolderSet}
+use Rattle.notation.specs.Form.{paths_of}
+use Rattle.notation.specs.Reads.{path_count, step_count, label_count}
 use Rattle.model.specs.Words.{Word, begins}
 use Rattle.model.specs.Prefix.{IsPrefix, failure}
 use Rattle.model.specs.Walk.{followed_by, Walked, moves_of, arrived_at, walk}

@@ -2,9 +2,9 @@
 use Prim.Native.Nat.{ℕ, ◌≤◌, ◌<◌}
 use native.Mathlib.Omega.{arith}
 use mathlib.Core.Path.{◌≡◌}
-use mathlib.Core.Bool.{false, and-true, and-false, or-false}
+use mathlib.Core.Bool.{false, and-true, and-false}
 use lib.Dec.{leb, eqb}
-use borrow.Author.Tests.{eq-eqb, ne_eqb, le-leb, lt-leb}
+use borrow.Author.Tests.{eq-eqb, ne_eqb, le-leb}
 use Rattle.documents.specs.Tokens.{blank, listed, in_text, in_value}
 
 module _ (b : ℕ) where

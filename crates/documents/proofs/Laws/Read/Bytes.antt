@@ -1,17 +1,15 @@
 -- Facts of single bytes, and of the longest front of bytes that pass a test.
 use Prim.Native.Nat.{ℕ}
 use mathlib.Core.Path.{◌≡◌, refl, sym, ap, ◌∙◌}
-use mathlib.Core.Logic.{◌⊎◌, ⊎_elim}
+use mathlib.Core.Logic.{⊎_elim}
 use mathlib.Core.Bool.{Bool, true, false, ◌||◌, true≢false}
 use lib.Dec.{eqb}
 use borrow.Author.Tests.{eqb-true}
 use Rattle.text.specs.Names.{Name, letter, digit, begins_name, in_name}
-use Rattle.text.specs.Lists.{every}
 use Rattle.text.proofs.Laws.Tests.{cases, and_left, either}
 use Rattle.text.proofs.Laws.Fronts.{differs}
 use Rattle.text.proofs.Laws.Bytes.SameName.{same_name-is}
 use Rattle.documents.specs.Tokens.{blank, listed, amp, lt, gt, quot, apos, is_entity, in_text, in_value}
-use Rattle.text.specs.Read.{front}
 
 -- what a test says of the four blanks it says of every blank
 pub at-blank : (ok : ℕ → Bool) (v : Bool) → ok 9 ≡ v → ok 10 ≡ v → ok 13 ≡ v → ok 32 ≡ v → (b : ℕ) → blank b ≡ true → ok b ≡ v

@@ -1,4 +1,3 @@
-use borrow.Author.Rules.{rules}
 use Rattle.machine.proofs.bits.bit_in.Goals as goal
 
 pub returns : goal.returns

@@ -1,6 +1,5 @@
 use Rattle.stored.proofs.Laws.Bytes.ByteBits.{one_on}
 use native.Mathlib.Omega.{arith}
-use borrow.Author.Rules.{rules}
 use Rattle.machine.proofs.bits.one_on.Goals as goal
 
 pub returns : goal.returns

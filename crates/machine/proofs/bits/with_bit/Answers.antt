@@ -4,7 +4,6 @@ use Rattle.stored.specs.Bits.{with_bit}
 use Rattle.stored.proofs.Laws.Bytes.ByteBits.{power_small}
 use Rattle.stored.proofs.Laws.Bytes.WithBit.{with-small}
 use native.Mathlib.Omega.{arith}
-use borrow.Author.Rules.{rules}
 use Rattle.machine.proofs.bits.with_bit.Goals as goal
 
 pub returns : goal.returns

@@ -1,7 +1,6 @@
 use Prim.Native.Nat.{ℕ, ◌≤◌, ◌<◌}
 use Rattle.stored.specs.Automaton.{automaton_size}
 use Rattle.stored.proofs.Laws.Building.Built.{built-short, built-refused, built-read, built-made}
-use borrow.Author.Rules.{rules}
 use Rattle.machine.proofs.build.build.Goals as goal
 
 short : (n : ℕ) → n < 65536 → n < automaton_size

@@ -4,7 +4,6 @@ use mathlib.Core.Path.{◌≡◌}
 use mathlib.Core.List.{List, [], ◌++◌, append-nil}
 use lib.ListN.{length, take, drop, replicate, drop_of_length-le}
 use borrow.Rule.Slice.PartMut.{mid_of, put_mid, mid_len, Post-is}
-use borrow.Author.Rules.{rules}
 use Rattle.machine.proofs.build.clear_between.Goals as goal
 
 between : (from to : ℕ) (xs ys : List ℕ) → from ≤ to → to ≤ length xs → ys ≡ replicate (min (to - from) (length (mid_of from (to - from) xs))) 0 ++ drop (to - from) (mid_of from (to - from) xs)

@@ -6,7 +6,6 @@ use Rattle.notation.specs.Layout.{set_size}
 use Rattle.stored.specs.Automaton.{automaton_size}
 use Rattle.stored.specs.Code.Passes.{cleared}
 use native.Mathlib.Omega.{arith}
-use borrow.Author.Rules.{rules}
 use Rattle.machine.proofs.build.clear_tables.Goals as goal
 
 -- zeros from one place up to another, where the places are those of the tables; of variables, so that no row of zeros is written out

@@ -2,7 +2,6 @@ use Rattle.stored.specs.Code.Passes.{made}
 use Rattle.stored.proofs.Laws.Building.Build.{cleared-read-in, groups-read-in, parents-read-in}
 use mathlib.Core.Path.{◌∙◌}
 use native.Mathlib.Omega.{arith}
-use borrow.Author.Rules.{rules}
 use Rattle.machine.proofs.build.make.Goals as goal
 
 pub chain-requires : goal.chain-requires

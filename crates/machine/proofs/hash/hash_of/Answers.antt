@@ -1,13 +1,12 @@
 -- `hash::hash_of`: the hash of the bytes still to come, from the hash so far, is that of all bytes.
-use Prim.Native.Nat.{ℕ, ◌+◌, ◌-◌, ◌*◌, ◌%◌, ◌≤◌, ◌<◌}
+use Prim.Native.Nat.{ℕ, ◌+◌, ◌*◌, ◌%◌, ◌≤◌, ◌<◌}
 use mathlib.Core.Path.{◌≡◌, refl, ◌∙◌}
 use mathlib.Core.List.{List}
 use native.Mathlib.Numerals.{add-one}
 use native.Mathlib.Omega.{arith}
-use borrow.Author.Rules.{rules}
 use lib.ListN.{length, get_or, drop, drop_of_length-le}
 use lib.Seq.{drop-cons}
-use Rattle.stored.specs.Automaton.{hashes, hash, hash_from}
+use Rattle.stored.specs.Automaton.{hashes, hash_from}
 use Rattle.machine.proofs.hash.hash_of.Goals as goal
 
 more : (e : List ℕ) (h i b : ℕ) → i < length e → b ≡ get_or e i 0 → hash_from ((31 * h + b) % hashes) (drop (i + 1) e) ≡ hash_from h (drop i e)

@@ -6,7 +6,6 @@ use native.Mathlib.Omega.{arith}
 use lib.ListN.{length, take, drop, length-drop}
 use lib.Seq.{length-take-le}
 use borrow.Author.Tests.{le-leb, lt-leb}
-use borrow.Author.Rules.{rules}
 use Rattle.notation.specs.Limits.{max_set_bytes}
 use Rattle.notation.specs.Layout.{set_size, text_at}
 use Rattle.notation.specs.Reads.{text_slice}

@@ -2,7 +2,6 @@
 use native.Mathlib.Omega.{arith}
 use Prim.Native.Nat.{◌+◌}
 use Rattle.notation.specs.Reads.{word16}
-use borrow.Author.Rules.{rules}
 use Rattle.machine.proofs.labels.word.Goals as goal
 
 pub overflow_cast-result : goal.overflow_cast-result

@@ -5,7 +5,6 @@ use Rattle.stored.specs.Automaton.{links_at, link_size, automaton_size}
 use Rattle.notation.specs.Limits.{max_labels}
 use native.Mathlib.Omega.{arith}
 use mathlib.Core.Path.{◌≡◌, sym, ◌∙◌}
-use borrow.Author.Rules.{rules}
 use Rattle.machine.proofs.lookup.first_label.Goals as goal
 
 pub returns-then-k-eq0 : goal.returns-then-k-eq0

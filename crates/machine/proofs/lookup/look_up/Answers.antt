@@ -1,14 +1,13 @@
 -- `lookup::look_up`: the search from the head is the search from the place that the loop has come to.
 use Rattle.stored.proofs.Laws.Tables.Goto.{hash-small}
 use Rattle.stored.proofs.Laws.Tables.LookTurns.{look-end, look-found, look-further}
-use Rattle.stored.proofs.Laws.Tables.Along.{left, low, rises}
+use Rattle.stored.proofs.Laws.Tables.Along.{low, rises}
 use Rattle.stored.specs.Tables.{head_at, other_at, look_from, look_up}
 use Rattle.stored.specs.Automaton.{hashes, hash, heads_at, links_at, link_size, automaton_size}
-use Rattle.notation.specs.Reads.{label_count}
 use Rattle.notation.specs.Limits.{max_labels}
 use native.Mathlib.Omega.{arith}
 use mathlib.Core.Path.{◌≡◌, sym, ◌∙◌, ap}
-use Prim.Native.Nat.{◌-◌, ◌≤◌}
+use Prim.Native.Nat.{◌-◌}
 use Rattle.machine.proofs.lookup.look_up.Goals as goal
 
 pub overflow_mul-h : goal.overflow_mul-h

@@ -1,13 +1,9 @@
-use Rattle.stored.proofs.Laws.Tables.Goto.{hash-small}
-use Rattle.stored.proofs.Laws.Tables.LookTurns.{look-end, look-found, look-further}
-use Rattle.stored.proofs.Laws.Tables.Along.{left, low, rises}
-use Rattle.stored.specs.Tables.{head_at, other_at, look_from, look_up}
-use Rattle.stored.specs.Automaton.{hashes, hash, heads_at, links_at, link_size, automaton_size}
+use Rattle.stored.proofs.Laws.Tables.Along.{left}
+use Rattle.stored.specs.Tables.{look_from, look_up}
 use Rattle.notation.specs.Reads.{label_count}
 use Rattle.notation.specs.Limits.{max_labels}
-use native.Mathlib.Omega.{arith}
-use mathlib.Core.Path.{◌≡◌, sym, ◌∙◌, ap}
-use Prim.Native.Nat.{◌-◌, ◌≤◌}
+use mathlib.Core.Path.{◌≡◌}
+use Prim.Native.Nat.{◌≤◌}
 use Rattle.machine.proofs.lookup.look_up.Given as goal
 
 abbrev pub invariant-loop-k : goal.invariant-loop-k

@@ -4,7 +4,6 @@ use mathlib.Core.Path.{◌∙◌, ap}
 use Rattle.notation.specs.Limits.{max_labels}
 use Rattle.stored.specs.Automaton.{automaton_size, links_at, link_size}
 use Rattle.stored.specs.Shape.{later_place}
-use borrow.Author.Rules.{rules}
 use Rattle.stored.proofs.Laws.Shapes.Tested.{fails_by, passes-by, leb-by}
 use Rattle.machine.proofs.shape.chain_shaped.Goals as goal
 

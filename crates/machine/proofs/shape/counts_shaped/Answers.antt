@@ -3,7 +3,6 @@ use native.Mathlib.Omega.{arith}
 use mathlib.Core.Path.{refl}
 use Rattle.notation.specs.Limits.{max_set_bytes, max_paths, max_steps, max_labels}
 use Rattle.stored.specs.Automaton.{start_at, automaton_size}
-use borrow.Author.Rules.{rules}
 use Rattle.stored.proofs.Laws.Shapes.Tested.{and-by, leb-by}
 use Rattle.machine.proofs.shape.counts_shaped.Goals as goal
 

@@ -3,7 +3,6 @@ use native.Mathlib.Omega.{arith}
 use Rattle.notation.specs.Limits.{max_number, max_paths}
 use Rattle.notation.specs.Layout.{folder_size, folders_at}
 use Rattle.stored.specs.Automaton.{automaton_size}
-use borrow.Author.Rules.{rules}
 use Rattle.stored.proofs.Laws.Shapes.Tested.{and-by, leb-by, within_by}
 use Rattle.machine.proofs.shape.folder_shaped.Goals as goal
 

@@ -1,11 +1,7 @@
-use native.Mathlib.Omega.{arith}
 use mathlib.Core.Path.{◌≡◌}
 use mathlib.Core.Bool.{true}
 use Prim.Native.Nat.{◌-◌, ◌≤◌}
-use Rattle.notation.specs.Reads.{folder_count}
 use Rattle.stored.specs.Shape.{all_below, folder_shaped}
-use borrow.Author.Rules.{rules}
-use Rattle.stored.proofs.Laws.Bytes.AllBelow.{all_none, all-goes, all-stops, all_end}
 use Rattle.machine.proofs.shape.folders_shaped.Given as goal
 
 abbrev pub invariant-loop-i : goal.invariant-loop-i

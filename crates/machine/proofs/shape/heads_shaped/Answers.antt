@@ -1,13 +1,10 @@
 -- `shape::heads_shaped`: the largest head so far is within its range exactly if each so far is.
 use native.Mathlib.Omega.{arith}
-use mathlib.Core.Path.{◌≡◌, refl, ◌∙◌}
-use Prim.Native.Nat.{◌-◌, ◌≤◌}
-use lib.Dec.{leb}
+use mathlib.Core.Path.{refl, ◌∙◌}
 use borrow.Author.Tests.{le-leb}
 use Rattle.notation.specs.Limits.{max_labels}
 use Rattle.stored.specs.Automaton.{automaton_size, hashes, heads_at}
-use Rattle.stored.specs.Shape.{all_below, head_shaped}
-use borrow.Author.Rules.{rules}
+use Rattle.stored.specs.Shape.{head_shaped}
 use Rattle.stored.proofs.Laws.Bytes.AllBelow.{all_none, all-next, all_end}
 use Rattle.stored.proofs.Laws.Shapes.Tested.{leb-by, max-within}
 use Rattle.machine.proofs.shape.heads_shaped.Goals as goal

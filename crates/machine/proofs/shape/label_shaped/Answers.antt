@@ -5,7 +5,6 @@ use Rattle.text.specs.Names.{max_name}
 use Rattle.notation.specs.Limits.{max_labels}
 use Rattle.notation.specs.Layout.{label_size, labels_at}
 use Rattle.stored.specs.Automaton.{automaton_size}
-use borrow.Author.Rules.{rules}
 use Rattle.stored.proofs.Laws.Shapes.Tested.{and-by, leb-by, ltb-by, sum_by}
 use Rattle.machine.proofs.shape.label_shaped.Goals as goal
 

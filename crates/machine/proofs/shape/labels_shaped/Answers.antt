@@ -1,11 +1,7 @@
 -- `shape::labels_shaped`: what was tested so far passed.
 use native.Mathlib.Omega.{arith}
-use mathlib.Core.Path.{◌≡◌}
-use mathlib.Core.Bool.{true}
-use Prim.Native.Nat.{◌-◌, ◌≤◌}
 use Rattle.notation.specs.Reads.{label_count}
-use Rattle.stored.specs.Shape.{all_below, label_shaped}
-use borrow.Author.Rules.{rules}
+use Rattle.stored.specs.Shape.{label_shaped}
 use Rattle.stored.proofs.Laws.Bytes.AllBelow.{all_none, all-goes, all-stops, all_end}
 use Rattle.machine.proofs.shape.labels_shaped.Goals as goal
 

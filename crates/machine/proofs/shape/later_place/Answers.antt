@@ -3,7 +3,6 @@ use native.Mathlib.Omega.{arith}
 use native.Mathlib.Numerals.{add-one}
 use borrow.Author.Tests.{eq-eqb, ne_eqb}
 use Rattle.notation.specs.Limits.{max_labels}
-use borrow.Author.Rules.{rules}
 use Rattle.machine.proofs.shape.later_place.Goals as goal
 
 pub returns-then-k-eq0 : goal.returns-then-k-eq0

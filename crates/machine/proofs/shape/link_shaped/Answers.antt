@@ -6,7 +6,6 @@ use Rattle.notation.specs.Limits.{max_steps, max_labels}
 use Rattle.notation.specs.Reads.{label_count}
 use Rattle.stored.specs.Automaton.{automaton_size, links_at, link_size}
 use Rattle.stored.specs.Tables.{parent_at, size_at}
-use borrow.Author.Rules.{rules}
 use Rattle.stored.proofs.Laws.Shapes.Tested.{fails_by, passes-by}
 use Rattle.machine.proofs.shape.link_shaped.Goals as goal
 

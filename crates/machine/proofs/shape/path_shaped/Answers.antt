@@ -3,7 +3,6 @@ use native.Mathlib.Omega.{arith}
 use Rattle.notation.specs.Limits.{max_paths, max_steps}
 use Rattle.notation.specs.Layout.{path_size, paths_at}
 use Rattle.stored.specs.Automaton.{automaton_size}
-use borrow.Author.Rules.{rules}
 use Rattle.stored.proofs.Laws.Shapes.Tested.{and-by, leb-by, sum_by, within_by}
 use Rattle.machine.proofs.shape.path_shaped.Goals as goal
 

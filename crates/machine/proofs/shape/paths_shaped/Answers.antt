@@ -1,11 +1,7 @@
 -- `shape::paths_shaped`: what was tested so far passed.
 use native.Mathlib.Omega.{arith}
-use mathlib.Core.Path.{◌≡◌}
-use mathlib.Core.Bool.{true}
-use Prim.Native.Nat.{◌-◌, ◌≤◌}
 use Rattle.notation.specs.Reads.{path_count}
-use Rattle.stored.specs.Shape.{all_below, path_shaped}
-use borrow.Author.Rules.{rules}
+use Rattle.stored.specs.Shape.{path_shaped}
 use Rattle.stored.proofs.Laws.Bytes.AllBelow.{all_none, all-goes, all-stops, all_end}
 use Rattle.machine.proofs.shape.paths_shaped.Goals as goal
 

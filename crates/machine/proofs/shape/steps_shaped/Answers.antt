@@ -1,15 +1,13 @@
 -- `shape::steps_shaped`: the bits so far are those of kinds exactly if each step so far is a kind.
 use native.Mathlib.Omega.{arith}
-use mathlib.Core.Path.{◌≡◌, refl, ◌∙◌}
-use Prim.Native.Nat.{◌+◌, ◌-◌, ◌≤◌}
-use lib.Dec.{ltb}
+use mathlib.Core.Path.{refl, ◌∙◌}
+use Prim.Native.Nat.{◌+◌}
 use lib.ListN.{get_or}
 use Rattle.notation.specs.Limits.{max_paths, max_steps}
-use Rattle.notation.specs.Layout.{step_kinds, steps_at}
+use Rattle.notation.specs.Layout.{steps_at}
 use Rattle.notation.specs.Reads.{step_count}
 use Rattle.stored.specs.Automaton.{automaton_size}
-use Rattle.stored.specs.Shape.{all_below, step_shaped}
-use borrow.Author.Rules.{rules}
+use Rattle.stored.specs.Shape.{step_shaped}
 use Rattle.stored.proofs.Laws.Bytes.AllBelow.{all_none, all-next, all_end}
 use Rattle.stored.proofs.Laws.Shapes.Tested.{ltb-by, or-below}
 use Rattle.machine.proofs.shape.steps_shaped.Goals as goal

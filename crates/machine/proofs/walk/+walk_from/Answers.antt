@@ -6,7 +6,7 @@ use Rattle.stored.specs.Tables.{size_of, fail_of, goto_by, one_more, walk_by}
 use Rattle.notation.specs.Limits.{max_steps, max_labels}
 use native.Mathlib.Omega.{arith}
 use mathlib.Core.Path.{◌≡◌, sym, ◌∙◌, ap}
-use Prim.Native.Nat.{ℕ, suc, ◌≤◌, ◌<◌}
+use Prim.Native.Nat.{suc, ◌≤◌, ◌<◌}
 use Rattle.machine.proofs.walk.+walk_from.Goals as goal
 
 pub goto_state-to-requires : goal.goto_state-to-requires

@@ -6,7 +6,6 @@ use native.Mathlib.Omega.{arith}
 use mathlib.Core.List.{List}
 use mathlib.Core.Path.{◌≡◌, refl, sym, ◌∙◌}
 use Prim.Native.Nat.{ℕ, zero, suc, ◌-◌, ◌≤◌, ◌<◌}
-use borrow.Author.Rules.{rules}
 use Rattle.machine.proofs.walk.fail_of.Goals as goal
 
 small : (a : List ℕ) (q : ℕ) → q < 2 → 0 ≡ fail_of a q

@@ -1,13 +1,12 @@
 -- `walk::goto_state`: the search from the first place is the search from the place that the loop has come to.
 use Rattle.stored.proofs.Laws.Tables.Fuel.{goto-end, goto-found, goto-further}
-use Rattle.stored.proofs.Laws.Tables.Along.{left, low, rises}
+use Rattle.stored.proofs.Laws.Tables.Along.{low, rises}
 use Rattle.stored.specs.Tables.{next_at, parent_at, goto_from, goto_by}
 use Rattle.stored.specs.Automaton.{links_at, link_size, automaton_size}
-use Rattle.notation.specs.Reads.{label_count}
 use Rattle.notation.specs.Limits.{max_labels}
 use native.Mathlib.Omega.{arith}
 use mathlib.Core.Path.{◌≡◌, refl, sym, ◌∙◌, ap}
-use Prim.Native.Nat.{suc, ◌+◌, ◌-◌, ◌≤◌}
+use Prim.Native.Nat.{suc, ◌+◌, ◌-◌}
 use Rattle.machine.proofs.walk.goto_state.Goals as goal
 
 pub loop-k-init : goal.loop-k-init

@@ -1,12 +1,9 @@
-use Rattle.stored.proofs.Laws.Tables.Fuel.{goto-end, goto-found, goto-further}
-use Rattle.stored.proofs.Laws.Tables.Along.{left, low, rises}
-use Rattle.stored.specs.Tables.{next_at, parent_at, goto_from, goto_by}
-use Rattle.stored.specs.Automaton.{links_at, link_size, automaton_size}
+use Rattle.stored.proofs.Laws.Tables.Along.{left}
+use Rattle.stored.specs.Tables.{goto_from, goto_by}
 use Rattle.notation.specs.Reads.{label_count}
 use Rattle.notation.specs.Limits.{max_labels}
-use native.Mathlib.Omega.{arith}
-use mathlib.Core.Path.{◌≡◌, refl, sym, ◌∙◌, ap}
-use Prim.Native.Nat.{suc, ◌+◌, ◌-◌, ◌≤◌}
+use mathlib.Core.Path.{◌≡◌}
+use Prim.Native.Nat.{◌≤◌}
 use Rattle.machine.proofs.walk.goto_state.Given as goal
 
 abbrev pub invariant-loop-k : goal.invariant-loop-k

@@ -1,6 +1,5 @@
 -- `walk::link_field`: where the label's links stand.
 use Rattle.stored.specs.Automaton.{link_size, links_at}
-use borrow.Author.Rules.{rules}
 use Rattle.machine.proofs.walk.link_field.Goals as goal
 
 pub returns : goal.returns

@@ -3,7 +3,6 @@ use native.Mathlib.Omega.{arith}
 use mathlib.Core.Path.{◌∙◌}
 use Rattle.stored.specs.Tables.{size_of}
 use Rattle.stored.proofs.Laws.Shapes.Tested.{size_small, size-label}
-use borrow.Author.Rules.{rules}
 use Rattle.machine.proofs.walk.size_of.Goals as goal
 
 pub returns-then-q-lt2 : goal.returns-then-q-lt2

@@ -1,5 +1,4 @@
 use Rattle.notation.specs.Layout.{folders_at, folder_size}
-use borrow.Author.Rules.{rules}
 use Rattle.notation.proofs.entries.put_folder.Goals as goal
 
 pub returns : goal.returns

@@ -1,7 +1,6 @@
 use native.Mathlib.Numerals.{towards_suc}
 use mathlib.Core.Path.{◌∙◌}
 use Rattle.notation.specs.Layout.{labels_at, label_size}
-use borrow.Author.Rules.{rules}
 use Rattle.notation.proofs.entries.put_label.Goals as goal
 
 pub returns : goal.returns

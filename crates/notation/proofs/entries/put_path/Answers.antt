@@ -1,7 +1,6 @@
 use native.Mathlib.Numerals.{towards_suc}
 use mathlib.Core.Path.{◌∙◌}
 use Rattle.notation.specs.Layout.{paths_at, path_size}
-use borrow.Author.Rules.{rules}
 use Rattle.notation.proofs.entries.put_path.Goals as goal
 
 pub returns : goal.returns

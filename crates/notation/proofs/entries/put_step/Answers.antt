@@ -1,5 +1,4 @@
 use Rattle.notation.specs.Layout.{steps_at}
-use borrow.Author.Rules.{rules}
 use Rattle.notation.proofs.entries.put_step.Goals as goal
 
 pub returns : goal.returns

@@ -6,7 +6,6 @@ use lib.Seq.{sets}
 use native.Mathlib.Omega.{arith}
 use Rattle.notation.specs.Layout.{text_at, set_size}
 use Rattle.notation.proofs.Laws.Refused.Taken.{cleared-is, taken, laid_out}
-use borrow.Author.Rules.{rules}
 use Rattle.notation.proofs.read.fill.Goals as goal
 
 pub put_counts-requires : goal.put_counts-requires

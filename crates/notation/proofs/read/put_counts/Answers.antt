@@ -1,5 +1,4 @@
 use mathlib.Core.Path.{◌∙◌}
-use borrow.Author.Rules.{rules}
 use Rattle.notation.proofs.read.put_counts.Goals as goal
 
 pub returns : goal.returns

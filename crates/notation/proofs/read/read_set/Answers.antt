@@ -4,7 +4,6 @@ use Rattle.notation.specs.Limits.{max_set_bytes}
 use Rattle.notation.specs.Layout.{set_size}
 use Rattle.notation.proofs.Laws.Refused.Taken.{short-text}
 use Rattle.notation.proofs.Laws.Refused.ReadAnswer.{read_short, read-refused, read-filled}
-use borrow.Author.Rules.{rules}
 use Rattle.notation.proofs.read.read_set.Goals as goal
 
 pub returns-then-part-lt-SET_SIZE : goal.returns-then-part-lt-SET_SIZE

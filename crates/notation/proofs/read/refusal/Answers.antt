@@ -3,7 +3,6 @@ use borrow.Author.Tests.{lt-ltb, le-ltb}
 use Rattle.notation.specs.Limits.{max_set_bytes}
 use Rattle.notation.specs.Code.Taking.{text_refusal}
 use Rattle.notation.proofs.Laws.Refused.Taken.{taken-verdict, untaken-verdict}
-use borrow.Author.Rules.{rules}
 use Rattle.notation.proofs.read.refusal.Goals as goal
 
 pub returns-then-text-gt-MAX_SET_BYTES : goal.returns-then-text-gt-MAX_SET_BYTES

@@ -2,7 +2,6 @@
 use native.Mathlib.Omega.{arith}
 use mathlib.Core.Path.{refl, sym}
 use lib.ListN.{get_or-eq_default}
-use borrow.Author.Rules.{rules}
 use Rattle.notation.proofs.reads.byte_at.Goals as goal
 
 pub overflow_cast-result : goal.overflow_cast-result

@@ -4,7 +4,6 @@ use lib.Dec.{lit<}
 use Rattle.notation.specs.Reads.{folder_at}
 use Rattle.notation.specs.Layout.{folders_at, folder_size}
 use Rattle.notation.specs.Limits.{max_paths}
-use borrow.Author.Rules.{rules}
 use Rattle.notation.proofs.reads.folder_at.Goals as goal
 
 pub overflow_mul-at : goal.overflow_mul-at

@@ -4,7 +4,6 @@ use lib.Dec.{lit<}
 use Rattle.notation.specs.Reads.{label_at}
 use Rattle.notation.specs.Layout.{labels_at, label_size}
 use Rattle.notation.specs.Limits.{max_labels}
-use borrow.Author.Rules.{rules}
 use Rattle.notation.proofs.reads.label_at.Goals as goal
 
 pub overflow_mul-from : goal.overflow_mul-from

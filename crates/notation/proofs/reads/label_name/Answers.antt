@@ -1,6 +1,5 @@
 -- `reads::label_name`: the slice that `label_at` names, if it names one.
 use mathlib.Core.Path.{sym, ◌∙◌}
-use borrow.Author.Rules.{rules}
 use Rattle.notation.proofs.reads.label_name.Goals as goal
 
 pub returns-in-Label : goal.returns-in-Label

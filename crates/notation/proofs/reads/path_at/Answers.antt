@@ -4,7 +4,6 @@ use lib.Dec.{lit<}
 use Rattle.notation.specs.Reads.{path_at}
 use Rattle.notation.specs.Layout.{paths_at, path_size}
 use Rattle.notation.specs.Limits.{max_paths}
-use borrow.Author.Rules.{rules}
 use Rattle.notation.proofs.reads.path_at.Goals as goal
 
 pub overflow_mul-from : goal.overflow_mul-from

@@ -1,6 +1,5 @@
 -- `reads::path_text`: the slice that `path_at` names, if it names one.
 use mathlib.Core.Path.{sym, ◌∙◌}
-use borrow.Author.Rules.{rules}
 use Rattle.notation.proofs.reads.path_text.Goals as goal
 
 pub returns-in-Path : goal.returns-in-Path

@@ -3,7 +3,6 @@ use native.Mathlib.Omega.{arith}
 use Rattle.notation.specs.Reads.{step_at}
 use Rattle.notation.specs.Layout.{steps_at}
 use Rattle.notation.specs.Limits.{max_paths, max_steps}
-use borrow.Author.Rules.{rules}
 use Rattle.notation.proofs.reads.step_at.Goals as goal
 
 pub overflow_add-i : goal.overflow_add-i

@@ -1,5 +1,4 @@
 -- `reads::text`: the slice of the stored length.
-use borrow.Author.Rules.{rules}
 use Rattle.notation.proofs.reads.text.Goals as goal
 
 pub returns : goal.returns

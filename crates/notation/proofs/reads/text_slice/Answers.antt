@@ -6,7 +6,6 @@ use borrow.Author.Tests.{le-leb, lt-leb}
 use Rattle.notation.specs.Limits.{max_set_bytes}
 use Rattle.notation.specs.Reads.{text_slice}
 use Rattle.notation.specs.Layout.{set_size, text_at}
-use borrow.Author.Rules.{rules}
 use Rattle.notation.proofs.reads.text_slice.Goals as goal
 
 pub returns-then-part-lt-SET_SIZE : goal.returns-then-part-lt-SET_SIZE

@@ -3,7 +3,6 @@ use native.Mathlib.Omega.{arith}
 use Rattle.notation.specs.Reads.{word16}
 use lib.ListN.{length, get_or-eq_default}
 use Prim.Native.Nat.{◌≤◌, ◌+◌}
-use borrow.Author.Rules.{rules}
 use Rattle.notation.proofs.reads.word_at.Goals as goal
 
 pub returns-then-at-part : goal.returns-then-at-part

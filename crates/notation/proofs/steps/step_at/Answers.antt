@@ -3,7 +3,6 @@ use native.Mathlib.Omega.{arith}
 use mathlib.Core.Path.{sym, ◌∙◌}
 use Rattle.text.proofs.Laws.Reads.{word_fits}
 use Rattle.notation.proofs.Laws.Taking.Found.{deep_step, child-step, no_step-is}
-use borrow.Author.Rules.{rules}
 use Rattle.notation.proofs.steps.step_at.Goals as goal
 
 pub overflow_add-at : goal.overflow_add-at

@@ -1,10 +1,8 @@
 use mathlib.Core.List.{[], ◌∷◌}
 use native.Mathlib.Omega.{arith}
 use mathlib.Core.Path.{sym, ◌∙◌}
-use borrow.Author.Tests.{not-true, not-false}
 use Rattle.text.proofs.Laws.Reads.{word_fits}
 use Rattle.notation.proofs.Laws.Taking.Found.{test-star, test-past, test-none, test-label}
-use borrow.Author.Rules.{rules}
 use Rattle.notation.proofs.steps.test_at.Goals as goal
 
 pub overflow_add-result-then-word_at : goal.overflow_add-result-then-word_at

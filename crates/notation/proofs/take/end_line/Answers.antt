@@ -3,7 +3,6 @@ use native.Mathlib.Omega.{arith}
 use mathlib.Core.Path.{sym, ◌∙◌}
 use Rattle.text.proofs.Laws.Reads.{word_fits}
 use Rattle.notation.specs.Print.{footer}
-use borrow.Author.Rules.{rules}
 use Rattle.notation.proofs.take.end_line.Goals as goal
 
 pub moved-requires : goal.moved-requires

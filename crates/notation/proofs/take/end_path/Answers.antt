@@ -1,7 +1,5 @@
-use borrow.Author.Tests.{not-true, not-false}
 use mathlib.Core.Path.{sym, ◌∙◌}
 use Rattle.notation.proofs.Laws.Taking.Paths.{no_steps, no-bracket, path-ended}
-use borrow.Author.Rules.{rules}
 use Rattle.notation.proofs.take.end_path.Goals as goal
 
 pub returns-then-u-t : goal.returns-then-u-t

@@ -1,5 +1,4 @@
 use borrow.Author.Tests.{eq-eqb, ne_eqb}
-use borrow.Author.Rules.{rules}
 use Rattle.notation.proofs.take.end_text.Goals as goal
 
 pub returns-then-text-t : goal.returns-then-text-t

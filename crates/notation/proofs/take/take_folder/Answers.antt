@@ -1,14 +1,12 @@
 use mathlib.Core.Path.{sym, ◌∙◌}
 use native.Mathlib.Omega.{arith}
 use lib.ListN.{drop}
-use borrow.Author.Tests.{not-true, not-false}
 use Rattle.notation.specs.Limits.{max_number}
 use Rattle.notation.specs.Print.{folder_word}
 use Rattle.notation.specs.Code.Reader.{read_folder}
 use Rattle.notation.specs.Code.Taking.{take_folder}
 use Rattle.notation.proofs.Laws.Taking.Paths.{no_word}
 use Rattle.notation.proofs.Laws.Taking.Folders.{number-unread, number-end, number_small, folder-read}
-use borrow.Author.Rules.{rules}
 use Rattle.notation.proofs.take.take_folder.Goals as goal
 
 pub returns-then-not-word_at : goal.returns-then-not-word_at

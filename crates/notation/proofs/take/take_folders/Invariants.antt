@@ -1,16 +1,10 @@
 use Prim.Native.Nat.{ℕ, ◌-◌}
-use mathlib.Core.Path.{◌≡◌, refl, sym, ◌∙◌}
-use mathlib.Core.List.{List, [], ◌∷◌}
+use mathlib.Core.Path.{◌≡◌}
+use mathlib.Core.List.{List}
 use lib.ListN.{length, drop}
-use native.Mathlib.Omega.{arith}
-use borrow.Author.Tests.{not-true, not-false}
 use Rattle.notation.specs.Code.Reader.{read_folders}
 use Rattle.notation.specs.Code.Taking.{state, take_folder, take_all, Took, Small}
 use Rattle.notation.specs.declared.tally.Taken.{Taken}
-use Rattle.notation.proofs.Laws.Reading.Folders.{folders-more}
-use Rattle.notation.proofs.Laws.Taking.Levels.{none_more, no_item, one-item}
-use Rattle.notation.proofs.Laws.Taking.Folders.{folder-level}
-use borrow.Author.Rules.{rules}
 use Rattle.notation.proofs.take.take_folders.Given as goal
 
 abbrev pub invariant-loop-u : goal.invariant-loop-u

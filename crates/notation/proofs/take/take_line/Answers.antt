@@ -1,5 +1,4 @@
 use Rattle.notation.proofs.Laws.Taking.Folders.{paths-unread, no-paths, line_read}
-use borrow.Author.Rules.{rules}
 use Rattle.notation.proofs.take.take_line.Goals as goal
 
 pub returns-in-No : goal.returns-in-No

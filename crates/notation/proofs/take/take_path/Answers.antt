@@ -2,11 +2,9 @@ use mathlib.Core.Path.{sym, ◌∙◌}
 use mathlib.Core.List.{[], ◌∷◌}
 use lib.ListN.{drop}
 use native.Mathlib.Omega.{arith}
-use borrow.Author.Tests.{not-true, not-false}
 use Rattle.notation.specs.Code.Reader.{read_path}
 use Rattle.notation.specs.Code.Taking.{take_path}
 use Rattle.notation.proofs.Laws.Taking.Paths.{no_word, begun-small, steps-unread, u-small, path-read}
-use borrow.Author.Rules.{rules}
 use Rattle.notation.proofs.take.take_path.Goals as goal
 
 pub returns-then-not-word_at : goal.returns-then-not-word_at

@@ -1,12 +1,10 @@
 use mathlib.Core.Path.{sym, ap, ◌∙◌}
 use native.Mathlib.Omega.{arith}
-use borrow.Author.Tests.{not-true, not-false}
 use Rattle.notation.specs.Print.{header}
 use Rattle.notation.specs.Code.Reader.{read_set}
 use Rattle.notation.specs.Code.Taking.{moved_tally, take_set}
 use Rattle.notation.proofs.Laws.Taking.Paths.{no_word}
 use Rattle.notation.proofs.Laws.Taking.Folders.{begun-small, folders-unread, folders-small, set-read}
-use borrow.Author.Rules.{rules}
 use Rattle.notation.proofs.take.take_set.Goals as goal
 
 pub returns-then-not-word_at : goal.returns-then-not-word_at

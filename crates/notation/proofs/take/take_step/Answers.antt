@@ -4,7 +4,6 @@ use Rattle.notation.specs.Code.Taking.{state}
 use mathlib.Core.Path.{sym, ap, ◌∙◌}
 use Rattle.notation.specs.declared.steps.StepFound.{StepFound}
 use Rattle.notation.proofs.Laws.Taking.Paths.{step-none, step-taken}
-use borrow.Author.Rules.{rules}
 use Rattle.notation.proofs.take.take_step.Goals as goal
 
 pub returns-then-s-eq0 : goal.returns-then-s-eq0

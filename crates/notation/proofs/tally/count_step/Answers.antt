@@ -1,5 +1,4 @@
 use Rattle.notation.specs.Limits.{max_steps}
-use borrow.Author.Rules.{rules}
 use Rattle.notation.proofs.tally.count_step.Goals as goal
 
 pub returns : goal.returns

@@ -3,7 +3,6 @@ use native.Mathlib.Omega.{arith}
 use mathlib.Core.Path.{◌≡◌, refl, ◌∙◌}
 use lib.ListN.{length}
 use Rattle.notation.specs.Print.{print_path}
-use borrow.Author.Rules.{rules}
 use Rattle.notation.proofs.tally.with_path.Goals as goal
 
 pub returns : goal.returns

@@ -1,7 +1,6 @@
 use Rattle.text.specs.Names.{max_name}
 use mathlib.Core.Path.{◌∙◌}
 use Rattle.notation.proofs.Laws.Taking.Steps.{star-given, label-given}
-use borrow.Author.Rules.{rules}
 use Rattle.notation.proofs.tally.with_step.Goals as goal
 
 pub returns-then-s : goal.returns-then-s

@@ -10,7 +10,6 @@ use Rattle.notation.specs.Reads.{text_of}
 use Rattle.text.specs.Order.{first, given}
 use Rattle.notation.specs.WriteText.{WriteText}
 use Rattle.text.specs.declared.written.Written.{Written}
-use borrow.Author.Rules.{rules}
 use Rattle.notation.proofs.write.write_text.Goals as goal
 
 short : (part before text : List ℕ) → text ≡ text_of part → length before < length text → WriteText part before (Written.Refused (number_of short_buffer)) before

@@ -1,6 +1,5 @@
 -- `text::names::begins_class` meets its contract: the class tells.
 use mathlib.Core.Path.{sym}
-use borrow.Author.Rules.{rules}
 use Rattle.text.proofs.Laws.Bytes.Classes.{begins-class}
 use Rattle.text.proofs.names.begins_class.Goals as goal
 

@@ -1,12 +1,7 @@
 -- `text::names::class_end` meets its contract. The loop's invariant: the end is as far from here as the name bytes go, and the table is
 -- the rule's.
-use Prim.Native.Nat.{◌+◌, ◌-◌}
-use mathlib.Core.Path.{◌≡◌, refl, sym, ◌∙◌}
-use native.Mathlib.Omega.{arith}
-use borrow.Author.Rules.{rules}
-use lib.ListN.{length, drop}
+use mathlib.Core.Path.{refl, sym, ◌∙◌}
 use Rattle.text.specs.Names.{in_name}
-use Rattle.text.specs.Read.{front}
 use Rattle.text.specs.Classes.{class_of, look_up, ranges}
 use Rattle.text.proofs.Laws.Bytes.Table.{values}
 use Rattle.text.proofs.Laws.Bytes.Names.{past-no, entry-no, entry-yes}

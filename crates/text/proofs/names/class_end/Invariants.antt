@@ -1,14 +1,10 @@
 use Prim.Native.Nat.{◌+◌, ◌-◌}
-use mathlib.Core.Path.{◌≡◌, refl, sym, ◌∙◌}
-use native.Mathlib.Omega.{arith}
-use borrow.Author.Rules.{rules}
+use mathlib.Core.Path.{◌≡◌}
 use lib.ListN.{length, drop}
 use Rattle.text.specs.Names.{in_name}
 use Rattle.text.specs.Read.{front}
-use Rattle.text.specs.Classes.{class_of, look_up, ranges}
+use Rattle.text.specs.Classes.{class_of}
 use Rattle.text.proofs.Laws.Bytes.Table.{values}
-use Rattle.text.proofs.Laws.Bytes.Names.{past-no, entry-no, entry-yes}
-use Rattle.text.proofs.Laws.Scans.{span-no, span-yes, span-end}
 use Rattle.text.proofs.names.class_end.Given as goal
 
 abbrev pub invariant-loop-i : goal.invariant-loop-i

@@ -1,7 +1,6 @@
 -- `text::names::class_of` meets its contract: the table is the list of the rule's values at 0 .. 127, which is computed here;
 -- a byte of 128 and more is of no range.
 use mathlib.Core.Path.{sym}
-use borrow.Author.Rules.{rules}
 use Rattle.text.specs.Classes.{class_of, look_up, ranges}
 use Rattle.text.proofs.Laws.Bytes.Table.{values, entry}
 use Rattle.text.proofs.Laws.Bytes.Classes.{class-past}

@@ -1,7 +1,6 @@
 -- `text::names::in_name` meets its contract.
 use mathlib.Core.Path.{sym, ap, ◌∙◌}
 use native.Mathlib.Omega.{arith}
-use borrow.Author.Rules.{rules}
 use Rattle.text.specs.Names.{in_name, begins_name, letter, digit}
 use Rattle.text.proofs.Laws.Bytes.Names.{begins-low, in_small, in-begins, in-last}
 use Rattle.text.proofs.names.in_name.Goals as goal

@@ -1,12 +1,6 @@
 -- `text::names::name_end` meets its contract. The loop's invariant: the end is as far from here as the name bytes go.
-use Prim.Native.Nat.{◌+◌, ◌-◌}
-use mathlib.Core.Path.{◌≡◌, refl, sym, ◌∙◌}
-use native.Mathlib.Omega.{arith}
-use borrow.Author.Rules.{rules}
-use borrow.Author.Tests.{not-true, not-false}
-use lib.ListN.{length, drop}
+use mathlib.Core.Path.{refl, sym, ◌∙◌}
 use Rattle.text.specs.Names.{in_name}
-use Rattle.text.specs.Read.{front}
 use Rattle.text.proofs.Laws.Scans.{span-no, span-yes, span-end}
 use Rattle.text.proofs.names.name_end.Goals as goal
 

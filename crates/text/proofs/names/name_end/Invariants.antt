@@ -1,12 +1,8 @@
 use Prim.Native.Nat.{◌+◌, ◌-◌}
-use mathlib.Core.Path.{◌≡◌, refl, sym, ◌∙◌}
-use native.Mathlib.Omega.{arith}
-use borrow.Author.Rules.{rules}
-use borrow.Author.Tests.{not-true, not-false}
+use mathlib.Core.Path.{◌≡◌}
 use lib.ListN.{length, drop}
 use Rattle.text.specs.Names.{in_name}
 use Rattle.text.specs.Read.{front}
-use Rattle.text.proofs.Laws.Scans.{span-no, span-yes, span-end}
 use Rattle.text.proofs.names.name_end.Given as goal
 
 abbrev pub invariant-loop-i : goal.invariant-loop-i

@@ -1,8 +1,6 @@
 -- `text::names::name_form` meets its contract: after a first byte of a name, the run of name bytes must go to the end.
 use mathlib.Core.Path.{sym, ◌∙◌}
 use native.Mathlib.Omega.{arith}
-use borrow.Author.Rules.{rules}
-use borrow.Author.Tests.{not-true, not-false}
 use Rattle.text.proofs.Laws.Bytes.Names.{form-empty, form-no, form-run}
 use Rattle.text.proofs.names.name_form.Goals as goal
 

@@ -1,10 +1,7 @@
 -- `text::names::same_name` meets its contract. The loop's invariant: the answer is whether what is left of both is the same.
-use Prim.Native.Nat.{◌≤◌, ◌-◌}
-use mathlib.Core.Path.{◌≡◌, refl, ◌∙◌, sym}
+use mathlib.Core.Path.{refl, ◌∙◌, sym}
 use native.Mathlib.Omega.{arith}
 use native.Mathlib.Numerals.{add-one}
-use lib.ListN.{length, drop}
-use Rattle.text.specs.Names.{same_name}
 use Rattle.text.proofs.Laws.Bytes.SameName.{unequal-length, same-no, same-yes, same_end}
 use Rattle.text.proofs.names.same_name.Goals as goal
 

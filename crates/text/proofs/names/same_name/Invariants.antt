@@ -1,10 +1,7 @@
 use Prim.Native.Nat.{◌≤◌, ◌-◌}
-use mathlib.Core.Path.{◌≡◌, refl, ◌∙◌, sym}
-use native.Mathlib.Omega.{arith}
-use native.Mathlib.Numerals.{add-one}
+use mathlib.Core.Path.{◌≡◌}
 use lib.ListN.{length, drop}
 use Rattle.text.specs.Names.{same_name}
-use Rattle.text.proofs.Laws.Bytes.SameName.{unequal-length, same-no, same-yes, same_end}
 use Rattle.text.proofs.names.same_name.Given as goal
 
 abbrev pub invariant-loop-i : goal.invariant-loop-i

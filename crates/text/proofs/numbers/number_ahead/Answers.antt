@@ -1,6 +1,5 @@
 -- `text::numbers::number_ahead` meets its contract: by the byte at the offset, if there is one.
 use native.Mathlib.Omega.{arith}
-use borrow.Author.Rules.{rules}
 use lib.ListN.{drop_of_length-le}
 use lib.Seq.{drop-cons}
 use Rattle.text.proofs.numbers.number_ahead.Goals as goal

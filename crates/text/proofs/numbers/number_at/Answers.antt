@@ -1,13 +1,9 @@
 -- `text::numbers::number_at` meets its contract. The loop's invariant: the digits so far make the value, which is at most `most`.
-use Prim.Native.Nat.{◌-◌}
 use native.Mathlib.Omega.{arith}
 use mathlib.Core.Path.{sym, ◌∙◌}
-use borrow.Author.Rules.{rules}
-use borrow.Author.Tests.{not-true, not-false}
-use lib.ListN.{length}
 use Rattle.text.specs.Names.{digit}
 use Rattle.text.proofs.Laws.ReadNumber.{digit-is}
-use Rattle.text.proofs.Laws.NumberScan.{Scanned, no_number, nothing_yet, ended, foreign, over, onwards}
+use Rattle.text.proofs.Laws.NumberScan.{no_number, nothing_yet, ended, foreign, over, onwards}
 use Rattle.text.proofs.numbers.number_at.Goals as goal
 
 pub returns-then-not-number_ahead : goal.returns-then-not-number_ahead

@@ -5,7 +5,6 @@ use lib.ListN.{length}
 use native.Mathlib.Omega.{arith}
 use borrow.Author.Tests.{not-true, not-false, leb-true}
 use Rattle.text.proofs.Laws.Output.{stopped, no_room, passed, put}
-use borrow.Author.Rules.{rules}
 use Rattle.text.proofs.output.emit.Goals as goal
 
 pub returns-then-not-cursor : goal.returns-then-not-cursor

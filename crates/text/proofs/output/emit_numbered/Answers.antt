@@ -1,6 +1,5 @@
 -- `output::emit_numbered`: the word, then the number.
 use Rattle.text.specs.Output.{a_piece}
-use borrow.Author.Rules.{rules}
 use Rattle.text.proofs.output.emit_numbered.Goals as goal
 
 pub returns : goal.returns

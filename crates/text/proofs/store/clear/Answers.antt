@@ -1,9 +1,8 @@
 use borrow.Author.Fill.{fill_none, fill_more}
-use borrow.Author.Rules.{rules}
-use lib.ListN.{length, drop, replicate, set, length-set}
+use lib.ListN.{length, replicate, set, length-set}
 use mathlib.Core.List.{List, ◌++◌}
 use mathlib.Core.Path.{◌≡◌, refl, ◌∙◌, ap}
-use Prim.Native.Nat.{ℕ, ◌≤◌, ◌<◌, ◌-◌, min}
+use Prim.Native.Nat.{ℕ, ◌<◌, min}
 use native.Mathlib.Omega.{arith}
 use Rattle.text.proofs.Laws.Bytes.Cut.{drop-least}
 use Rattle.text.proofs.store.clear.Goals as goal

@@ -1,11 +1,7 @@
-use borrow.Author.Fill.{fill_none, fill_more}
-use borrow.Author.Rules.{rules}
-use lib.ListN.{length, drop, replicate, set, length-set}
-use mathlib.Core.List.{List, ◌++◌}
-use mathlib.Core.Path.{◌≡◌, refl, ◌∙◌, ap}
-use Prim.Native.Nat.{ℕ, ◌≤◌, ◌<◌, ◌-◌, min}
-use native.Mathlib.Omega.{arith}
-use Rattle.text.proofs.Laws.Bytes.Cut.{drop-least}
+use lib.ListN.{length, drop, replicate}
+use mathlib.Core.List.{◌++◌}
+use mathlib.Core.Path.{◌≡◌}
+use Prim.Native.Nat.{◌≤◌, ◌-◌, min}
 use Rattle.text.proofs.store.clear.Given as goal
 
 abbrev pub invariant-loop-i : goal.invariant-loop-i

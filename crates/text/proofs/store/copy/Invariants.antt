@@ -1,12 +1,7 @@
-use borrow.Author.Rules.{rules}
-use lib.Seq.{paste, paste-zero, paste-suc}
-use lib.ListN.{length, set, get_or, length-set}
-use native.Mathlib.Numerals.{add-one}
-use mathlib.Core.List.{List}
-use mathlib.Core.Path.{◌≡◌, refl, ◌∙◌, sym, ap}
-use Prim.Native.Nat.{ℕ, ◌+◌, ◌≤◌, ◌<◌, ◌-◌, min}
-use native.Mathlib.Omega.{arith}
-use Rattle.text.proofs.Laws.Bytes.Cut.{paste-cut}
+use lib.Seq.{paste}
+use lib.ListN.{length}
+use mathlib.Core.Path.{◌≡◌}
+use Prim.Native.Nat.{◌≤◌, ◌-◌, min}
 use Rattle.text.proofs.store.copy.Given as goal
 
 abbrev pub invariant-loop-i : goal.invariant-loop-i

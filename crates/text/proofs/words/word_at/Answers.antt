@@ -1,12 +1,10 @@
 -- `text::words::word_at` meets its contract. The loop's invariant: the answer is whether the rest of the word stands at the rest of the bytes.
-use Prim.Native.Nat.{◌+◌, ◌≤◌, ◌-◌}
-use mathlib.Core.Path.{◌≡◌, sym, ◌∙◌}
+use Prim.Native.Nat.{◌+◌}
+use mathlib.Core.Path.{sym, ◌∙◌}
 use native.Mathlib.Omega.{arith}
-use borrow.Author.Rules.{rules}
 use native.Mathlib.Numerals.{add-one}
-use lib.ListN.{length, drop, length-drop}
+use lib.ListN.{length-drop}
 use native.Mathlib.Nat.{add-zero, add-suc}
-use Rattle.text.specs.Read.{starts_with}
 use Rattle.text.proofs.Laws.Scans.{begins-no, begins-yes, begins-end, begins-short}
 use Rattle.text.proofs.words.word_at.Goals as goal
 

@@ -1,13 +1,9 @@
 -- `build::chains::chain`: what the labels still to do make of the bytes is what all labels make of those at entry, and a name can be looked up
 -- at each of them.
-use Prim.Native.Nat.{ℕ, suc, ◌-◌, ◌≤◌, ◌<◌, min}
+use Prim.Native.Nat.{ℕ, suc, ◌-◌, ◌<◌}
 use mathlib.Core.Path.{◌≡◌, refl, sym, ◌∙◌, ap}
 use mathlib.Core.List.{List}
 use native.Mathlib.Omega.{arith}
-use borrow.Author.Rules.{rules}
-use lib.ListN.{length}
-use Rattle.notation.specs.Limits.{max_labels}
-use Rattle.notation.specs.Reads.{label_count}
 use Rattle.stored.specs.Usable.{Lookable}
 use Rattle.stored.specs.Code.Chains.{linked, chained, Linkable}
 use Rattle.machine.proofs.build.chains.chain.Goals as goal

@@ -1,13 +1,9 @@
-use Prim.Native.Nat.{ℕ, suc, ◌-◌, ◌≤◌, ◌<◌, min}
-use mathlib.Core.Path.{◌≡◌, refl, sym, ◌∙◌, ap}
-use mathlib.Core.List.{List}
-use native.Mathlib.Omega.{arith}
-use borrow.Author.Rules.{rules}
+use Prim.Native.Nat.{◌≤◌, min}
+use mathlib.Core.Path.{◌≡◌}
 use lib.ListN.{length}
 use Rattle.notation.specs.Limits.{max_labels}
 use Rattle.notation.specs.Reads.{label_count}
-use Rattle.stored.specs.Usable.{Lookable}
-use Rattle.stored.specs.Code.Chains.{linked, chained, Linkable}
+use Rattle.stored.specs.Code.Chains.{chained, Linkable}
 use Rattle.machine.proofs.build.chains.chain.Given as goal
 
 abbrev pub invariant-loop-l : goal.invariant-loop-l

@@ -1,6 +1,5 @@
 -- `build::chains::enter_name`: the three stores are those of `entered`.
 use native.Mathlib.Omega.{arith}
-use borrow.Author.Rules.{rules}
 use Rattle.notation.specs.Limits.{max_labels}
 use Rattle.stored.specs.Automaton.{hashes, heads_at, links_at, link_size, automaton_size}
 use Rattle.machine.proofs.build.chains.enter_name.Goals as goal

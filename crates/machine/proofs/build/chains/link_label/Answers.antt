@@ -3,7 +3,6 @@ use Prim.Native.Nat.{ℕ, suc, ◌-◌, ◌<◌}
 use native.Mathlib.Omega.{arith}
 use mathlib.Core.Path.{◌≡◌}
 use mathlib.Core.List.{List}
-use borrow.Author.Rules.{rules}
 use Rattle.notation.specs.Reads.{label_name}
 use Rattle.stored.specs.Automaton.{hash}
 use Rattle.stored.specs.Tables.{look_up}

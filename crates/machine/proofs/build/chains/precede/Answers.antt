@@ -1,6 +1,5 @@
 -- `build::chains::precede`: the two stores are those of `preceded`.
 use native.Mathlib.Omega.{arith}
-use borrow.Author.Rules.{rules}
 use Rattle.notation.specs.Limits.{max_labels}
 use Rattle.stored.specs.Automaton.{links_at, link_size, automaton_size}
 use Rattle.machine.proofs.build.chains.precede.Goals as goal

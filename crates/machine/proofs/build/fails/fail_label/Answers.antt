@@ -10,7 +10,6 @@ use native.Mathlib.Omega.{arith}
 use mathlib.Core.List.{List}
 use mathlib.Core.Path.{◌≡◌, sym, ◌∙◌}
 use Prim.Native.Nat.{ℕ, ◌+◌}
-use borrow.Author.Rules.{rules}
 use Rattle.machine.proofs.build.fails.fail_label.Goals as goal
 
 done : (a : List ℕ) (l n v : ℕ) {d : List ℕ} → size_at a l ≡ n → v ≡ fail_to a l → d ≡ sets a (link_entry_at l + fail_in) (le16 v) → d ≡ failed_if n l a

@@ -3,11 +3,9 @@ use native.Mathlib.Numerals.{add-one}
 use Rattle.stored.proofs.Laws.Building.Growing.{grows-below}
 use Rattle.stored.specs.Code.Fails.{failed_if, failed_below}
 use Rattle.notation.specs.Reads.{label_count}
-use lib.ListN.{length}
 use native.Mathlib.Omega.{arith}
 use mathlib.Core.Path.{◌≡◌, refl, ◌∙◌, ap}
-use Prim.Native.Nat.{ℕ, ◌-◌, ◌≤◌, ◌<◌}
-use borrow.Author.Rules.{rules}
+use Prim.Native.Nat.{ℕ, ◌<◌}
 use Rattle.machine.proofs.build.fails.fail_labels.Goals as goal
 
 pub loop-l-init : goal.loop-l-init

@@ -1,12 +1,7 @@
-use native.Mathlib.Numerals.{add-one}
-use Rattle.stored.proofs.Laws.Building.Growing.{grows-below}
-use Rattle.stored.specs.Code.Fails.{failed_if, failed_below}
-use Rattle.notation.specs.Reads.{label_count}
+use Rattle.stored.specs.Code.Fails.{failed_below}
 use lib.ListN.{length}
-use native.Mathlib.Omega.{arith}
-use mathlib.Core.Path.{◌≡◌, refl, ◌∙◌, ap}
-use Prim.Native.Nat.{ℕ, ◌-◌, ◌≤◌, ◌<◌}
-use borrow.Author.Rules.{rules}
+use mathlib.Core.Path.{◌≡◌}
+use Prim.Native.Nat.{◌-◌, ◌≤◌}
 use Rattle.machine.proofs.build.fails.fail_labels.Given as goal
 
 abbrev pub invariant-loop-l : goal.invariant-loop-l

@@ -8,7 +8,6 @@ use Rattle.notation.specs.Limits.{max_labels}
 use native.Mathlib.Omega.{arith}
 use mathlib.Core.Path.{◌≡◌, sym, ◌∙◌, ap}
 use Prim.Native.Nat.{◌<◌}
-use borrow.Author.Rules.{rules}
 use Rattle.machine.proofs.build.fails.fail_to.Goals as goal
 
 pub link_field-parent-requires : goal.link_field-parent-requires

@@ -4,11 +4,10 @@ use Rattle.stored.proofs.Laws.Building.Growing.{grows-to}
 use Rattle.stored.specs.Code.Fails.{failed_below, failed_to, Growing}
 use Rattle.notation.specs.Reads.{label_count}
 use Rattle.notation.specs.Limits.{max_steps}
-use lib.ListN.{length}
 use native.Mathlib.Omega.{arith}
 use mathlib.Core.List.{List}
 use mathlib.Core.Path.{◌≡◌, refl, ◌∙◌, ap}
-use Prim.Native.Nat.{ℕ, suc, ◌+◌, ◌-◌, ◌≤◌}
+use Prim.Native.Nat.{ℕ, suc, ◌+◌}
 use Rattle.machine.proofs.build.fails.fails.Goals as goal
 
 next : (n : ℕ) (a b : List ℕ) {d : List ℕ} → Growing a → b ≡ failed_to (label_count a) n a → d ≡ failed_below (n + 1) (label_count b) b → d ≡ failed_to (label_count a) (n + 1) a

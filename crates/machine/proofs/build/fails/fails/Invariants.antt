@@ -1,13 +1,9 @@
-use native.Mathlib.Numerals.{add-one}
-use Rattle.stored.proofs.Laws.Building.Growing.{grows-to}
-use Rattle.stored.specs.Code.Fails.{failed_below, failed_to, Growing}
+use Rattle.stored.specs.Code.Fails.{failed_to}
 use Rattle.notation.specs.Reads.{label_count}
 use Rattle.notation.specs.Limits.{max_steps}
 use lib.ListN.{length}
-use native.Mathlib.Omega.{arith}
-use mathlib.Core.List.{List}
-use mathlib.Core.Path.{◌≡◌, refl, ◌∙◌, ap}
-use Prim.Native.Nat.{ℕ, suc, ◌+◌, ◌-◌, ◌≤◌}
+use mathlib.Core.Path.{◌≡◌}
+use Prim.Native.Nat.{suc, ◌-◌, ◌≤◌}
 use Rattle.machine.proofs.build.fails.fails.Given as goal
 
 abbrev pub invariant-loop-n : goal.invariant-loop-n

@@ -5,7 +5,6 @@ use mathlib.Core.List.{List}
 use Rattle.stored.specs.Tables.{bits_at}
 use Rattle.stored.specs.Code.Groups.{bits_over}
 use native.Mathlib.Omega.{arith}
-use borrow.Author.Rules.{rules}
 use Rattle.notation.specs.Limits.{max_labels}
 use Rattle.stored.specs.Automaton.{links_at, link_size}
 use Rattle.machine.proofs.build.groups.bits_over.Goals as goal

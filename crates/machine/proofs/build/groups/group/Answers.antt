@@ -1,12 +1,8 @@
 -- `build::groups::group`: what the labels still to do make of the bytes is what all labels make of those at entry.
-use Prim.Native.Nat.{ℕ, suc, ◌-◌, ◌≤◌, ◌<◌, min}
+use Prim.Native.Nat.{ℕ, suc, ◌-◌, ◌<◌}
 use mathlib.Core.Path.{◌≡◌, refl, sym, ◌∙◌, ap}
 use mathlib.Core.List.{List}
 use native.Mathlib.Omega.{arith}
-use borrow.Author.Rules.{rules}
-use lib.ListN.{length}
-use Rattle.notation.specs.Limits.{max_labels}
-use Rattle.notation.specs.Reads.{label_count}
 use Rattle.stored.specs.Code.Groups.{grouped, grouped_below}
 use Rattle.machine.proofs.build.groups.group.Goals as goal
 

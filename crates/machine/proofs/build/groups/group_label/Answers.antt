@@ -1,7 +1,6 @@
 use mathlib.Core.Path.{◌∙◌}
 use Rattle.stored.specs.Code.Groups.{grouped}
 use native.Mathlib.Omega.{arith}
-use borrow.Author.Rules.{rules}
 use Rattle.notation.specs.Limits.{max_labels}
 use Rattle.stored.specs.Automaton.{links_at, link_size, automaton_size}
 use Rattle.machine.proofs.build.groups.group_label.Goals as goal

@@ -5,7 +5,6 @@ use lib.Dec.{eqb}
 use Rattle.notation.specs.Reads.{label_step}
 use Rattle.stored.specs.Code.Groups.{joins}
 use native.Mathlib.Omega.{arith}
-use borrow.Author.Rules.{rules}
 use Rattle.notation.specs.Limits.{max_labels}
 use Rattle.machine.proofs.build.groups.joins_byte.Goals as goal
 

@@ -1,5 +1,4 @@
 use native.Mathlib.Omega.{arith}
-use borrow.Author.Rules.{rules}
 use Rattle.notation.specs.Limits.{max_labels}
 use Rattle.stored.specs.Automaton.{links_at, link_size}
 use Rattle.machine.proofs.build.groups.store_group.Goals as goal

@@ -1,7 +1,6 @@
 use Rattle.stored.specs.Code.Masks.{flagged}
 use Rattle.stored.specs.Automaton.{mask_size, masks_at, automaton_size}
 use native.Mathlib.Omega.{arith}
-use borrow.Author.Rules.{rules}
 use Rattle.machine.proofs.build.masks.flag.Goals as goal
 
 pub overflow_add-j : goal.overflow_add-j

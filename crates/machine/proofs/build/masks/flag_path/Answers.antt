@@ -1,7 +1,6 @@
 use native.Mathlib.Omega.{arith}
 use Rattle.stored.specs.Code.Masks.{flag_path}
 use mathlib.Core.Path.{sym, ◌∙◌}
-use borrow.Author.Rules.{rules}
 use Rattle.machine.proofs.build.masks.flag_path.Goals as goal
 
 pub flag_steps-requires : goal.flag_steps-requires

@@ -1,6 +1,5 @@
 use Rattle.stored.specs.Code.Masks.{flag_role}
 use mathlib.Core.Path.{◌∙◌}
-use borrow.Author.Rules.{rules}
 use Rattle.machine.proofs.build.masks.flag_role.Goals as goal
 
 pub returns : goal.returns

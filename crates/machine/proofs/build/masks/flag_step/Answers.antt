@@ -4,7 +4,6 @@ use borrow.Author.Tests.{le-ltb, lt-ltb}
 use native.Mathlib.Omega.{arith}
 use mathlib.Core.Path.{sym, ◌∙◌}
 use Prim.Native.Nat.{◌*◌}
-use borrow.Author.Rules.{rules}
 use Rattle.machine.proofs.build.masks.flag_step.Goals as goal
 
 pub returns-then-i-ge-STEP_BITS : goal.returns-then-i-ge-STEP_BITS

@@ -1,11 +1,9 @@
-use Rattle.stored.proofs.Laws.Building.Flagging.{steps-start, steps-turn, steps-end}
 use Rattle.stored.specs.Code.Masks.{flag_steps}
 use lib.ListN.{length}
 use lib.Dec.{eqb}
 use mathlib.Core.Bool.{true}
 use Prim.Native.Nat.{◌+◌, ◌-◌, ◌≤◌}
-use native.Mathlib.Omega.{arith}
-use mathlib.Core.Path.{◌≡◌, refl, sym, ◌∙◌, ap}
+use mathlib.Core.Path.{◌≡◌}
 use Rattle.machine.proofs.build.masks.flag_steps.Given as goal
 
 abbrev pub invariant-loop-k : goal.invariant-loop-k

@@ -1,5 +1,4 @@
 use mathlib.Core.Path.{sym, ◌∙◌}
-use borrow.Author.Rules.{rules}
 use Rattle.machine.proofs.build.masks.is_child.Goals as goal
 
 pub returns-in-Step : goal.returns-in-Step

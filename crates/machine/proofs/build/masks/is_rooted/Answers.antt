@@ -1,6 +1,5 @@
 use Rattle.stored.specs.Code.Masks.{rooted}
 use mathlib.Core.Path.{sym, ◌∙◌}
-use borrow.Author.Rules.{rules}
 use Rattle.machine.proofs.build.masks.is_rooted.Goals as goal
 
 pub returns-in-Path : goal.returns-in-Path

@@ -1,9 +1,6 @@
 use Rattle.stored.proofs.Laws.Building.Flagging.{rooted-start, rooted-here, rooted-later, rooted-end}
-use Rattle.stored.specs.Code.Masks.{any_rooted}
-use Prim.Native.Nat.{◌-◌, ◌≤◌}
 use native.Mathlib.Omega.{arith}
-use mathlib.Core.Path.{◌≡◌, sym, ◌∙◌}
-use borrow.Author.Rules.{rules}
+use mathlib.Core.Path.{sym, ◌∙◌}
 use Rattle.machine.proofs.build.masks.start_state.Goals as goal
 
 pub loop-place-init : goal.loop-place-init

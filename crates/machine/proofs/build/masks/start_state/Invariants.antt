@@ -1,9 +1,6 @@
-use Rattle.stored.proofs.Laws.Building.Flagging.{rooted-start, rooted-here, rooted-later, rooted-end}
 use Rattle.stored.specs.Code.Masks.{any_rooted}
 use Prim.Native.Nat.{◌-◌, ◌≤◌}
-use native.Mathlib.Omega.{arith}
-use mathlib.Core.Path.{◌≡◌, sym, ◌∙◌}
-use borrow.Author.Rules.{rules}
+use mathlib.Core.Path.{◌≡◌}
 use Rattle.machine.proofs.build.masks.start_state.Given as goal
 
 abbrev pub invariant-loop-place : goal.invariant-loop-place

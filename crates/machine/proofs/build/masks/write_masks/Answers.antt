@@ -1,10 +1,9 @@
-use borrow.Author.Rules.{rules}
 use Rattle.stored.proofs.Laws.Building.Flagging.{paths-start, paths-turn, paths-end}
 use Rattle.stored.specs.Code.Masks.{flag_paths, with_masks}
 use lib.ListN.{length}
-use Prim.Native.Nat.{ℕ, ◌-◌, ◌≤◌}
+use Prim.Native.Nat.{ℕ}
 use native.Mathlib.Omega.{arith}
-use mathlib.Core.Path.{◌≡◌, refl, sym, ◌∙◌, ap}
+use mathlib.Core.Path.{refl, sym, ◌∙◌, ap}
 use Rattle.machine.proofs.build.masks.write_masks.Goals as goal
 
 pub loop-place-init : goal.loop-place-init

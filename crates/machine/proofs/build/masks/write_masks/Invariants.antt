@@ -1,10 +1,7 @@
-use borrow.Author.Rules.{rules}
-use Rattle.stored.proofs.Laws.Building.Flagging.{paths-start, paths-turn, paths-end}
-use Rattle.stored.specs.Code.Masks.{flag_paths, with_masks}
+use Rattle.stored.specs.Code.Masks.{flag_paths}
 use lib.ListN.{length}
-use Prim.Native.Nat.{ℕ, ◌-◌, ◌≤◌}
-use native.Mathlib.Omega.{arith}
-use mathlib.Core.Path.{◌≡◌, refl, sym, ◌∙◌, ap}
+use Prim.Native.Nat.{◌-◌, ◌≤◌}
+use mathlib.Core.Path.{◌≡◌}
 use Rattle.machine.proofs.build.masks.write_masks.Given as goal
 
 abbrev pub invariant-loop-place : goal.invariant-loop-place

@@ -1,7 +1,6 @@
 use Rattle.stored.specs.Code.Masks.{with_start}
 use Rattle.stored.specs.Automaton.{start_at}
 use mathlib.Core.Path.{◌∙◌}
-use borrow.Author.Rules.{rules}
 use Rattle.machine.proofs.build.masks.write_start.Goals as goal
 
 pub returns : goal.returns

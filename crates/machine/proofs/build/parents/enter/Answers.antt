@@ -1,4 +1,3 @@
-use borrow.Author.Rules.{rules}
 use Rattle.machine.proofs.build.parents.enter.Goals as goal
 
 pub returns-then-deep : goal.returns-then-deep

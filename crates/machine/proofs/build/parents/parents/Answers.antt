@@ -4,9 +4,7 @@ use mathlib.Core.Path.{◌≡◌, refl, sym, ap, ◌∙◌}
 use mathlib.Core.List.{List}
 use native.Mathlib.Nat.{sub-zero}
 use native.Mathlib.Omega.{arith}
-use borrow.Author.Rules.{rules}
-use lib.ListN.{length}
-use Rattle.stored.specs.Code.Parents.{passed, parented, before_paths, Sound}
+use Rattle.stored.specs.Code.Parents.{passed, parented, before_paths}
 use Rattle.stored.specs.declared.place.Place.{Place}
 use Rattle.machine.proofs.build.parents.parents.Goals as goal
 

@@ -1,12 +1,7 @@
-use Prim.Native.Nat.{ℕ, suc, ◌+◌, ◌-◌, ◌≤◌, ◌<◌}
-use mathlib.Core.Path.{◌≡◌, refl, sym, ap, ◌∙◌}
-use mathlib.Core.List.{List}
-use native.Mathlib.Nat.{sub-zero}
-use native.Mathlib.Omega.{arith}
-use borrow.Author.Rules.{rules}
+use Prim.Native.Nat.{◌-◌, ◌≤◌}
+use mathlib.Core.Path.{◌≡◌}
 use lib.ListN.{length}
-use Rattle.stored.specs.Code.Parents.{passed, parented, before_paths, Sound}
-use Rattle.stored.specs.declared.place.Place.{Place}
+use Rattle.stored.specs.Code.Parents.{parented, before_paths, Sound}
 use Rattle.machine.proofs.build.parents.parents.Given as goal
 
 abbrev pub invariant-loop-i : goal.invariant-loop-i

@@ -8,7 +8,6 @@ use Rattle.notation.specs.Reads.{path_at, step_at}
 use Rattle.notation.specs.declared.reads.StepAt.{StepAt}
 use Rattle.stored.specs.Code.Parents.{Passed, starts_at, entered, emptied, labelled, passed_by, passed}
 use Rattle.stored.specs.declared.place.Place.{Place}
-use borrow.Author.Rules.{rules}
 use Rattle.machine.proofs.build.parents.pass_step.Goals as goal
 
 -- what a step does, by what is stored of it

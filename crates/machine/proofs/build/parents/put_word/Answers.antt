@@ -11,7 +11,6 @@ use Rattle.stored.specs.Usable.{Searchable}
 use Rattle.stored.specs.Code.Parents.{Passed, word_stored, labelled}
 use Rattle.stored.specs.declared.place.Place.{Place}
 use Rattle.stored.proofs.Laws.Building.Elsewhere.{searchable-stored}
-use borrow.Author.Rules.{rules}
 use Rattle.machine.proofs.build.parents.put_word.Goals as goal
 
 over_capacity : (at : Place) (a : List ℕ) → max_labels ≤ at.labels → labelled at a ≡ record { bytes = a; place = at }

@@ -9,7 +9,6 @@ use Rattle.text.specs.Bytes.{le16}
 use Rattle.stored.specs.Automaton.{links_at, link_size, parent_in, size_in, link_entry_at}
 use Rattle.stored.specs.Tables.{size_of}
 use Rattle.stored.specs.Code.Parents.{word_stored}
-use borrow.Author.Rules.{rules}
 use Rattle.machine.proofs.build.parents.store_word.Goals as goal
 
 done : (a b : List ℕ) {d : List ℕ} (l q size : ℕ) → size ≡ size_of a q → b ≡ sets a (link_entry_at l + parent_in) (le16 q)

@@ -8,7 +8,6 @@ use Rattle.stored.specs.Asking.{ask_refusal}
 use Rattle.stored.specs.RunCalls.{depth_of, active_at}
 use Rattle.stored.proofs.Laws.Running.Answered.{step-low}
 use Rattle.stored.proofs.Laws.Shapes.Given.{may-ask}
-use borrow.Author.Rules.{rules}
 use Rattle.machine.proofs.run.asking.ask_step.Goals as goal
 
 pub returns-then-refused-ne0 : goal.returns-then-refused-ne0

@@ -4,7 +4,6 @@ use Prim.Native.Nat.{ℕ, ◌+◌, ◌-◌}
 use Rattle.stored.specs.Bits.{bit_in}
 use Rattle.stored.specs.Run.{row_at, row_size, run_size, active_in}
 use Rattle.stored.proofs.Laws.Shapes.RunShape.{run-shape}
-use borrow.Author.Rules.{rules}
 use Rattle.machine.proofs.run.asking.bit_active.Goals as goal
 
 pub row_at-at-requires : goal.row_at-at-requires

@@ -1,7 +1,6 @@
 use mathlib.Core.Path.{sym, ◌∙◌}
 use Rattle.text.specs.Lists.{any}
 use Rattle.stored.specs.Asking.{ask_folder}
-use borrow.Author.Rules.{rules}
 use Rattle.machine.proofs.run.asking.folder_matched.Goals as goal
 
 pub returns-in-At : goal.returns-in-At

@@ -1,5 +1,4 @@
 use mathlib.Core.Path.{sym, ◌∙◌}
-use borrow.Author.Rules.{rules}
 use Rattle.machine.proofs.run.asking.has_path.Goals as goal
 
 pub returns-in-Path : goal.returns-in-Path

@@ -2,7 +2,6 @@ use mathlib.Core.Path.{◌∙◌, ap}
 use Prim.Native.Nat.{ℕ}
 use Rattle.text.specs.Names.{within}
 use Rattle.stored.specs.Asking.{ask_refusal, name_refusal}
-use borrow.Author.Rules.{rules}
 use Rattle.machine.proofs.run.asking.name_refusal.Goals as goal
 
 pub returns : goal.returns

@@ -5,7 +5,6 @@ use Rattle.stored.specs.Asking.{name_refusal, has_depth}
 use Rattle.stored.specs.RunCalls.{depth_of}
 use Rattle.stored.proofs.Laws.Shapes.Given.{may-ask}
 use Rattle.stored.proofs.Laws.Running.Answered.{depth_low}
-use borrow.Author.Rules.{rules}
 use Rattle.machine.proofs.run.asking.open_name.Goals as goal
 
 pub returns-then-name_refusal-ne0 : goal.returns-then-name_refusal-ne0

@@ -1,7 +1,6 @@
 use mathlib.Core.Path.{◌∙◌, ap, ap₂}
 use Rattle.text.specs.Answers.{said}
 use Rattle.stored.specs.Asking.{ask_refusal, ask_path}
-use borrow.Author.Rules.{rules}
 use Rattle.machine.proofs.run.asking.path_matched.Goals as goal
 
 pub returns : goal.returns

@@ -9,7 +9,6 @@ use Rattle.text.proofs.Laws.Said.{said-refused}
 use Rattle.stored.specs.Asking.{ask_refusal, ask_prefix}
 use Rattle.stored.proofs.Laws.Shapes.Given.{may-ask}
 use Rattle.stored.proofs.Laws.Shapes.RunShape.{run-shape}
-use borrow.Author.Rules.{rules}
 use Rattle.machine.proofs.run.asking.prefix_length.Goals as goal
 
 pub returns-then-refused-ne0 : goal.returns-then-refused-ne0

@@ -2,7 +2,6 @@ use Rattle.notation.specs.Reads.{path_top}
 use native.Mathlib.Omega.{arith}
 use mathlib.Core.Path.{sym, ◌∙◌, ap}
 use Rattle.stored.specs.Asking.{ask_step}
-use borrow.Author.Rules.{rules}
 use Rattle.machine.proofs.run.asking.step_active.Goals as goal
 
 pub ask_step-requires : goal.ask_step-requires

@@ -5,7 +5,6 @@ use lib.Dec.{eqb}
 use Rattle.stored.specs.Bits.{bit_of, bit_at}
 use Rattle.stored.proofs.Laws.Bytes.BitRows.{bits-joined}
 use native.Mathlib.Omega.{arith}
-use borrow.Author.Rules.{rules}
 use Rattle.notation.specs.Limits.{max_labels, max_paths, max_steps}
 use Rattle.stored.specs.Automaton.{mask_size, links_at, link_size, automaton_size}
 use Rattle.machine.proofs.run.candidates.flag_label.Goals as goal

@@ -1,15 +1,13 @@
 use native.Mathlib.Omega.{arith}
 use mathlib.Core.Path.{◌≡◌, refl, sym, ◌∙◌, ap}
 use mathlib.Core.Bool.{Bool, ◌||◌, or-false}
-use Prim.Native.Nat.{ℕ, ◌-◌, ◌≤◌}
-use lib.ListN.{length}
+use Prim.Native.Nat.{ℕ, ◌-◌}
 use Rattle.notation.specs.Limits.{max_labels}
-use Rattle.notation.specs.Reads.{label_count}
 use Rattle.stored.specs.Automaton.{links_at, link_size, automaton_size}
 use Rattle.stored.specs.Tables.{far_at}
 use Rattle.stored.specs.Bits.{bit_at}
 use Rattle.stored.specs.Marked.{marked_from}
-use Rattle.stored.proofs.Laws.Tables.Along.{left, low, rises}
+use Rattle.stored.proofs.Laws.Tables.Along.{low, rises}
 use Rattle.stored.proofs.Laws.Tables.MarkTurns.{marked-none, flagged}
 use Rattle.machine.proofs.run.candidates.flag_labels.Goals as goal
 

@@ -2,11 +2,10 @@ use mathlib.Core.Path.{◌≡◌, sym, ◌∙◌}
 use mathlib.Core.Bool.{false}
 use lib.Dec.{eqb}
 use native.Mathlib.Omega.{arith}
-use borrow.Author.Tests.{ne_eqb, not-true, not-false}
+use borrow.Author.Tests.{ne_eqb}
 use Rattle.stored.specs.RunCalls.{close_refusal}
 use Rattle.stored.proofs.Laws.Shapes.Given.{lent-usable, close-lent, close-unformed}
 use Rattle.text.specs.Refusals.{syntax_error, number_of}
-use borrow.Author.Rules.{rules}
 use Rattle.machine.proofs.run.close.close_by.Goals as goal
 
 pub returns-then-refused-ne0 : goal.returns-then-refused-ne0

@@ -4,7 +4,6 @@ use lib.ListN.{length}
 use Rattle.stored.specs.Automaton.{mask_size}
 use Rattle.stored.specs.Run.{active_in, seen_in, row_size, run_size}
 use Rattle.stored.proofs.Laws.Running.Rows.{closed}
-use borrow.Author.Rules.{rules}
 use Rattle.machine.proofs.run.close.close_on.Goals as goal
 
 pub clear_from-requires : goal.clear_from-requires

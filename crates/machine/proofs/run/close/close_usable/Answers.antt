@@ -7,7 +7,6 @@ use Rattle.stored.specs.RunCalls.{close_refusal, depth_of}
 use Rattle.stored.proofs.Laws.Shapes.Given.{may-close, close-others}
 use Rattle.stored.proofs.Laws.Shapes.RunShape.{run-shape}
 use Rattle.stored.proofs.Laws.Shapes.CounterShape.{closes-fit}
-use borrow.Author.Rules.{rules}
 use Rattle.machine.proofs.run.close.close_usable.Goals as goal
 
 pub close_others-refused-requires : goal.close_others-refused-requires

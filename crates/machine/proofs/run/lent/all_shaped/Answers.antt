@@ -1,6 +1,5 @@
 use mathlib.Core.Path.{sym, ◌∙◌}
 use Rattle.stored.proofs.Laws.Shapes.Given.{shaped-parts}
-use borrow.Author.Rules.{rules}
 use Rattle.machine.proofs.run.lent.all_shaped.Goals as goal
 
 pub returns-then-both_shaped : goal.returns-then-both_shaped

@@ -1,5 +1,5 @@
 use mathlib.Core.Path.{sym, ◌∙◌}
-use borrow.Author.Tests.{lt-ltb, le-ltb, not-true, not-false}
+use borrow.Author.Tests.{lt-ltb, le-ltb}
 use Rattle.stored.specs.Automaton.{automaton_size}
 use Rattle.stored.specs.Run.{run_size}
 use Rattle.text.specs.Order.{first, given}

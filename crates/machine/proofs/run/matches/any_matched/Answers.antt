@@ -1,10 +1,8 @@
 use native.Mathlib.Omega.{arith}
-use mathlib.Core.Path.{◌≡◌, sym, ◌∙◌}
-use Prim.Native.Nat.{◌+◌, ◌-◌, ◌≤◌}
+use mathlib.Core.Path.{sym, ◌∙◌}
+use Prim.Native.Nat.{◌-◌}
 use native.Mathlib.Nat.{add-zero, sub-zero}
-use borrow.Author.Rules.{rules}
-use Rattle.model.specs.Folders.{count_from}
-use Rattle.stored.specs.Asking.{place_matched, any_matched}
+use Rattle.stored.specs.Asking.{place_matched}
 use Rattle.stored.proofs.Laws.Running.Answered.{any_none, any_here, any_next}
 use Rattle.machine.proofs.run.matches.any_matched.Goals as goal
 

@@ -1,11 +1,7 @@
-use native.Mathlib.Omega.{arith}
-use mathlib.Core.Path.{◌≡◌, sym, ◌∙◌}
+use mathlib.Core.Path.{◌≡◌}
 use Prim.Native.Nat.{◌+◌, ◌-◌, ◌≤◌}
-use native.Mathlib.Nat.{add-zero, sub-zero}
-use borrow.Author.Rules.{rules}
 use Rattle.model.specs.Folders.{count_from}
-use Rattle.stored.specs.Asking.{place_matched, any_matched}
-use Rattle.stored.proofs.Laws.Running.Answered.{any_none, any_here, any_next}
+use Rattle.stored.specs.Asking.{any_matched}
 use Rattle.machine.proofs.run.matches.any_matched.Given as goal
 
 abbrev pub invariant-loop-i : goal.invariant-loop-i

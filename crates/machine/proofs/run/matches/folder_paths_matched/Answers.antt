@@ -2,7 +2,6 @@ use native.Mathlib.Omega.{arith}
 use mathlib.Core.Path.{sym, ◌∙◌, ap}
 use Rattle.stored.specs.HeldSet.{top_held}
 use Rattle.text.specs.Lists.{any}
-use borrow.Author.Rules.{rules}
 use Rattle.machine.proofs.run.matches.folder_paths_matched.Goals as goal
 
 pub any_matched-requires : goal.any_matched-requires

@@ -3,7 +3,6 @@ use mathlib.Core.Path.{sym, ◌∙◌, ap}
 use Rattle.stored.specs.Run.{matches_at}
 use Rattle.stored.specs.Asking.{place_matched}
 use Rattle.notation.specs.Reads.{path_top}
-use borrow.Author.Rules.{rules}
 use Rattle.machine.proofs.run.matches.place_matched.Goals as goal
 
 pub overflow_add-first : goal.overflow_add-first

@@ -3,13 +3,12 @@ use mathlib.Core.Bool.{false}
 use Prim.Native.Nat.{ℕ}
 use lib.Dec.{eqb}
 use native.Mathlib.Omega.{arith}
-use borrow.Author.Tests.{ne_eqb, not-true, not-false}
+use borrow.Author.Tests.{ne_eqb}
 use Rattle.text.specs.Answers.{refused}
 use Rattle.text.proofs.Laws.Said.{said-refused}
 use Rattle.stored.specs.RunCalls.{open_refusal}
 use Rattle.stored.proofs.Laws.Shapes.Given.{lent-usable, open_lent, open-unformed}
 use Rattle.text.specs.Refusals.{syntax_error, number_of}
-use borrow.Author.Rules.{rules}
 use Rattle.machine.proofs.run.open.open_by.Goals as goal
 
 pub returns-then-refused-ne0 : goal.returns-then-refused-ne0

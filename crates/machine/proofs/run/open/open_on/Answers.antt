@@ -8,7 +8,6 @@ use Rattle.stored.specs.declared.walk.Walk.{Walk}
 use Rattle.stored.proofs.Laws.Shapes.RunShape.{run-shape}
 use Rattle.stored.proofs.Laws.Tables.MarkTurns.{openable}
 use Rattle.stored.proofs.Laws.Tables.Fuel.{size-within}
-use borrow.Author.Rules.{rules}
 use Rattle.machine.proofs.run.open.open_on.Goals as goal
 
 pub first_label-first-requires : goal.first_label-first-requires

@@ -12,7 +12,6 @@ use Rattle.stored.specs.RunCalls.{open_refusal, after_open, open_counters}
 use Rattle.stored.specs.declared.walk.Walk.{Walk}
 use Rattle.stored.proofs.Laws.Shapes.Given.{may-open, open-others}
 use Rattle.stored.proofs.Laws.Shapes.CounterShape.{moves-fit}
-use borrow.Author.Rules.{rules}
 use Rattle.machine.proofs.run.open.open_usable.Goals as goal
 
 pub open_others-refused-requires : goal.open_others-refused-requires

@@ -5,7 +5,6 @@ use Prim.Native.Nat.{◌+◌}
 use Rattle.model.specs.Limits.{max_depth}
 use Rattle.stored.specs.Run.{row_size, run_size}
 use Rattle.stored.proofs.Laws.Running.Rows.{row-width, row_back}
-use borrow.Author.Rules.{rules}
 use Rattle.machine.proofs.run.open.store.Goals as goal
 
 pub overflow_add-d : goal.overflow_add-d

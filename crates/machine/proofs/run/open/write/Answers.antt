@@ -8,7 +8,6 @@ use Rattle.stored.specs.Run.{row_at, row_size, run_size}
 use Rattle.stored.proofs.Laws.Tables.LookTurns.{first-within}
 use Rattle.stored.proofs.Laws.Running.RunBytes.{used-room, row_room}
 use Rattle.stored.proofs.Laws.Running.Flagged.{opened}
-use borrow.Author.Rules.{rules}
 use Rattle.machine.proofs.run.open.write.Goals as goal
 
 pub flag_labels-requires : goal.flag_labels-requires

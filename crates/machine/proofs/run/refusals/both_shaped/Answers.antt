@@ -1,5 +1,4 @@
 use mathlib.Core.Path.{sym, ◌∙◌}
-use borrow.Author.Rules.{rules}
 use Rattle.machine.proofs.run.refusals.both_shaped.Goals as goal
 
 pub returns-then-automaton_shaped : goal.returns-then-automaton_shaped

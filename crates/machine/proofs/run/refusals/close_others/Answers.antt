@@ -3,13 +3,12 @@ use mathlib.Core.Bool.{true, false}
 use mathlib.Core.List.{List}
 use native.Mathlib.Omega.{arith}
 use Prim.Native.Nat.{ℕ}
-use borrow.Author.Tests.{eq-eqb, ne_eqb, not-true, not-false}
+use borrow.Author.Tests.{eq-eqb, ne_eqb}
 use Rattle.text.specs.Names.{same_name}
 use Rattle.text.specs.Order.{first, given}
 use Rattle.stored.specs.RunCalls.{stored_name, depth_of}
 use Rattle.stored.proofs.Laws.Shapes.Given.{close-name, close-named}
 use Rattle.stored.proofs.Laws.Running.OpenName.{row-name}
-use borrow.Author.Rules.{rules}
 use Rattle.machine.proofs.run.refusals.close_others.Goals as goal
 
 pub returns-then-first-ne0 : goal.returns-then-first-ne0

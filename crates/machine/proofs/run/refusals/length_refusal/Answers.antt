@@ -1,6 +1,5 @@
 use mathlib.Core.Path.{sym, ◌∙◌}
 use Rattle.text.specs.Order.{first, given}
-use borrow.Author.Rules.{rules}
 use Rattle.machine.proofs.run.refusals.length_refusal.Goals as goal
 
 pub returns-then-too_long : goal.returns-then-too_long

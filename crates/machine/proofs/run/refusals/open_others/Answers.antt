@@ -3,7 +3,6 @@ use borrow.Author.Tests.{le-leb, lt-leb}
 use Rattle.model.specs.Limits.{max_depth, max_opens}
 use Rattle.text.specs.Order.{first, given}
 use Rattle.stored.proofs.Laws.Shapes.Given.{open-name, open-named}
-use borrow.Author.Rules.{rules}
 use Rattle.machine.proofs.run.refusals.open_others.Goals as goal
 
 pub returns-then-first-ne0 : goal.returns-then-first-ne0

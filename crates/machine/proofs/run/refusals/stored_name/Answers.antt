@@ -6,7 +6,6 @@ use lib.ListN.{take, drop}
 use Rattle.text.specs.Names.{max_name}
 use Rattle.stored.specs.Run.{row_at, row_size, run_size, name_in}
 use Rattle.stored.proofs.Laws.Shapes.RunShape.{run-shape}
-use borrow.Author.Rules.{rules}
 use Rattle.machine.proofs.run.refusals.stored_name.Goals as goal
 
 pub row_at-from-requires : goal.row_at-from-requires

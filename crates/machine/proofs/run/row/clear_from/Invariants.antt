@@ -1,10 +1,7 @@
-use lib.Seq.{paste, paste-zero, paste-suc, take-length, sets-eq}
-use lib.ListN.{length, take, drop, set, replicate, length-set, length-replicate, get_or-replicate}
-use native.Mathlib.Numerals.{add-one}
-use mathlib.Core.List.{List, ◌++◌}
-use mathlib.Core.Path.{◌≡◌, refl, ◌∙◌, sym, ap}
-use Prim.Native.Nat.{ℕ, ◌+◌, ◌≤◌, ◌<◌, ◌-◌}
-use native.Mathlib.Omega.{arith}
+use lib.Seq.{paste}
+use lib.ListN.{length, replicate}
+use mathlib.Core.Path.{◌≡◌}
+use Prim.Native.Nat.{◌≤◌, ◌-◌}
 use Rattle.machine.proofs.run.row.clear_from.Given as goal
 
 abbrev pub invariant-loop-i : goal.invariant-loop-i

@@ -3,7 +3,7 @@ use lib.ListN.{length, take, drop, set, get_or, length-set}
 use native.Mathlib.Numerals.{add-one}
 use mathlib.Core.List.{List, ◌++◌}
 use mathlib.Core.Path.{◌≡◌, refl, ◌∙◌, sym, ap}
-use Prim.Native.Nat.{ℕ, ◌+◌, ◌≤◌, ◌<◌, ◌-◌}
+use Prim.Native.Nat.{ℕ, ◌+◌, ◌≤◌, ◌<◌}
 use native.Mathlib.Omega.{arith}
 use Rattle.machine.proofs.run.row.put.Goals as goal
 

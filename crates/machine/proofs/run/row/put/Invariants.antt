@@ -1,10 +1,7 @@
-use lib.Seq.{paste, paste-zero, paste-suc, take-length, sets-eq}
-use lib.ListN.{length, take, drop, set, get_or, length-set}
-use native.Mathlib.Numerals.{add-one}
-use mathlib.Core.List.{List, ◌++◌}
-use mathlib.Core.Path.{◌≡◌, refl, ◌∙◌, sym, ap}
-use Prim.Native.Nat.{ℕ, ◌+◌, ◌≤◌, ◌<◌, ◌-◌}
-use native.Mathlib.Omega.{arith}
+use lib.Seq.{paste}
+use lib.ListN.{length}
+use mathlib.Core.Path.{◌≡◌}
+use Prim.Native.Nat.{◌≤◌, ◌-◌}
 use Rattle.machine.proofs.run.row.put.Given as goal
 
 abbrev pub invariant-loop-i : goal.invariant-loop-i

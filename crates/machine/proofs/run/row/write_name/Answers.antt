@@ -7,7 +7,6 @@ use lib.Seq.{sets}
 use Rattle.text.specs.Names.{max_name}
 use Rattle.stored.specs.Run.{name_in, row_size}
 use Rattle.stored.proofs.Laws.Running.Written.{name-written}
-use borrow.Author.Rules.{rules}
 use Rattle.machine.proofs.run.row.write_name.Goals as goal
 
 pub put-requires : goal.put-requires

@@ -3,7 +3,6 @@ use mathlib.Core.Path.{◌∙◌}
 use Rattle.stored.specs.Automaton.{mask_size}
 use Rattle.stored.specs.Run.{state_in, active_in, seen_in, row_size}
 use Rattle.stored.proofs.Laws.Running.Written.{row_written}
-use borrow.Author.Rules.{rules}
 use Rattle.machine.proofs.run.row.write_row.Goals as goal
 
 pub clear_from-requires : goal.clear_from-requires

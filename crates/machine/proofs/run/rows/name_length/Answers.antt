@@ -1,4 +1,3 @@
-use borrow.Author.Rules.{rules}
 use Rattle.machine.proofs.run.rows.name_length.Goals as goal
 
 pub returns : goal.returns

@@ -1,6 +1,5 @@
 use native.Mathlib.Omega.{arith}
 use Rattle.stored.specs.Run.{row_size, run_size, state_in}
-use borrow.Author.Rules.{rules}
 use Rattle.machine.proofs.run.rows.state_at.Goals as goal
 
 pub overflow_add-row_at : goal.overflow_add-row_at

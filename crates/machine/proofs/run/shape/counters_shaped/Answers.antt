@@ -4,7 +4,6 @@ use Prim.Native.Nat.{◌+◌}
 use mathlib.Core.Path.{◌≡◌}
 use Rattle.model.specs.Limits.{max_depth, max_opens}
 use Rattle.stored.specs.RunCalls.{counters_shaped, depth_of}
-use borrow.Author.Rules.{rules}
 use Rattle.machine.proofs.run.shape.counters_shaped.Goals as goal
 
 pub returns-then-opens-gt-MAX_OPENS : goal.returns-then-opens-gt-MAX_OPENS

@@ -1,7 +1,6 @@
 use native.Mathlib.Numerals.{add-one}
 use borrow.Author.Tests.{lt-leb, le-leb}
 use Rattle.text.specs.Names.{max_name}
-use borrow.Author.Rules.{rules}
 use Rattle.machine.proofs.run.shape.row_shaped.Goals as goal
 
 pub returns-then-name_length-gt-MAX_NAME : goal.returns-then-name_length-gt-MAX_NAME

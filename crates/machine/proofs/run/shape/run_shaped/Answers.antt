@@ -1,10 +1,7 @@
 use native.Mathlib.Omega.{arith}
 use mathlib.Core.Path.{◌≡◌, sym}
-use mathlib.Core.Bool.{true}
-use Prim.Native.Nat.{◌+◌, ◌-◌, ◌≤◌}
-use borrow.Author.Rules.{rules}
+use Prim.Native.Nat.{◌+◌}
 use Rattle.model.specs.Limits.{max_depth}
-use Rattle.stored.specs.Shape.{all_below}
 use Rattle.stored.specs.RunCalls.{depth_of, row_shaped}
 use Rattle.stored.proofs.Laws.Bytes.AllBelow.{all_none, all-goes}
 use Rattle.stored.proofs.Laws.Shapes.RunShape.{too-deep, bad-row, all-rows}

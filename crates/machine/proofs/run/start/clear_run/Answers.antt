@@ -1,6 +1,5 @@
 use Rattle.stored.specs.Run.{run_size}
 use native.Mathlib.Nat.{min-eq_left}
-use borrow.Author.Rules.{rules}
 use Rattle.machine.proofs.run.start.clear_run.Goals as goal
 
 pub returns : goal.returns

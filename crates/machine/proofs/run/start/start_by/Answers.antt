@@ -4,7 +4,6 @@ use lib.Dec.{eqb}
 use borrow.Author.Tests.{eq-eqb, ne_eqb}
 use Rattle.stored.specs.RunCalls.{start_refusal}
 use Rattle.stored.proofs.Laws.Shapes.Given.{may-start}
-use borrow.Author.Rules.{rules}
 use Rattle.machine.proofs.run.start.start_by.Goals as goal
 
 pub returns-then-refused-ne0 : goal.returns-then-refused-ne0

@@ -7,7 +7,6 @@ use Rattle.text.specs.Bytes.{le16}
 use Rattle.stored.specs.Automaton.{start_at}
 use Rattle.stored.specs.Run.{rows_at, row_size, state_in, row_at, run_size}
 use Rattle.stored.proofs.Laws.Shapes.Given.{started}
-use borrow.Author.Rules.{rules}
 use Rattle.machine.proofs.run.start.start_on.Goals as goal
 
 pub returns : goal.returns

@@ -5,7 +5,6 @@ use Rattle.stored.specs.Automaton.{mask_size}
 use Rattle.stored.specs.Bits.{bit_in}
 use Rattle.stored.specs.Run.{active_in, row_size, run_size}
 use Rattle.stored.specs.RunCalls.{shifted}
-use borrow.Author.Rules.{rules}
 use Rattle.machine.proofs.run.steps.active_before.Goals as goal
 
 pub byte_before-requires : goal.byte_before-requires

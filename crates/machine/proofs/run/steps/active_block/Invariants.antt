@@ -1,12 +1,7 @@
-use native.Mathlib.Omega.{arith}
 use mathlib.Core.Path.{◌≡◌}
 use Prim.Native.Nat.{◌+◌, ◌-◌, ◌*◌, ◌≤◌}
-use Rattle.stored.specs.Automaton.{mask_size}
-use Rattle.stored.specs.Bits.{bit_of}
 use Rattle.stored.specs.Code.OpenSteps.{taken_active}
-use Rattle.stored.proofs.Laws.Running.Flagged.{made, none_made, one-made, all_made, active-in}
-use borrow.Author.Rules.{elem_Fits}
-use mir.Syntax.{w8}
+use Rattle.stored.proofs.Laws.Running.Flagged.{made}
 use Rattle.machine.proofs.run.steps.active_block.Given as goal
 
 abbrev pub invariant-loop-j : goal.invariant-loop-j

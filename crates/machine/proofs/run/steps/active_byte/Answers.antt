@@ -5,7 +5,6 @@ use Rattle.stored.specs.Bits.{bit_of, bit_at}
 use Rattle.stored.specs.Automaton.{star_mask}
 use Rattle.stored.specs.RunCalls.{mask_bit, permitted}
 use Rattle.stored.proofs.Laws.Bytes.ByteSteps.{byte-at-bit, join-and, join-or}
-use borrow.Author.Rules.{rules}
 use Rattle.machine.proofs.run.steps.active_byte.Goals as goal
 
 pub returns : goal.returns

@@ -5,7 +5,6 @@ use Rattle.stored.specs.Automaton.{mask_size}
 use Rattle.stored.specs.Run.{run_size}
 use Rattle.stored.specs.Bits.{bit_of}
 use Rattle.stored.proofs.Laws.Bytes.ByteSteps.{byte-bit}
-use borrow.Author.Rules.{rules}
 use Rattle.machine.proofs.run.steps.bits_byte.Goals as goal
 
 pub overflow_add-base : goal.overflow_add-base

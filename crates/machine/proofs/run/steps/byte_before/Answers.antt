@@ -1,12 +1,11 @@
 use native.Mathlib.Omega.{arith}
 use mathlib.Core.Bool.{◌&&◌}
 use mathlib.Core.Path.{◌∙◌, ap}
-use Prim.Native.Nat.{ℕ, ◌-◌}
+use Prim.Native.Nat.{ℕ}
 use Rattle.stored.specs.Automaton.{mask_size}
 use Rattle.stored.specs.Run.{run_size}
 use Rattle.stored.specs.Bits.{bit_of}
 use Rattle.stored.proofs.Laws.Bytes.ByteSteps.{before-edge}
-use borrow.Author.Rules.{rules}
 use Rattle.machine.proofs.run.steps.byte_before.Goals as goal
 
 pub overflow_add-base : goal.overflow_add-base

@@ -1,5 +1,4 @@
 use Rattle.stored.proofs.Laws.Bytes.ByteSteps.{edge-cut, edge_kept}
-use borrow.Author.Rules.{rules}
 use Rattle.machine.proofs.run.steps.edge_of.Goals as goal
 
 pub returns-then-from-eq0 : goal.returns-then-from-eq0

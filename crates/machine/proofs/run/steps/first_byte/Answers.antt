@@ -3,7 +3,6 @@ use mathlib.Core.Bool.{Bool, true, false, ◌||◌}
 use borrow.Author.Tests.{eq-eqb, ne_eqb}
 use Rattle.stored.specs.Bits.{bit_of}
 use Rattle.stored.proofs.Laws.Bytes.ByteSteps.{join-or}
-use borrow.Author.Rules.{rules}
 use Rattle.machine.proofs.run.steps.first_byte.Goals as goal
 
 or-false : (b : Bool) → (b || false) ≡ b

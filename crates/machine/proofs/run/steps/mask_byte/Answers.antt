@@ -4,7 +4,6 @@ use Prim.Native.Nat.{ℕ}
 use Rattle.stored.specs.Automaton.{mask_size, masks_at, automaton_size, mask_at}
 use Rattle.stored.specs.Bits.{bit_of}
 use Rattle.stored.proofs.Laws.Bytes.ByteSteps.{byte-bit}
-use borrow.Author.Rules.{rules}
 use Rattle.machine.proofs.run.steps.mask_byte.Goals as goal
 
 pub overflow_add-m-2 : goal.overflow_add-m-2

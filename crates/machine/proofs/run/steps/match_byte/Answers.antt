@@ -7,7 +7,6 @@ use Rattle.stored.specs.Run.{run_size, matches_at}
 use Rattle.stored.specs.RunCalls.{mask_bit, matched_at}
 use Rattle.stored.proofs.Laws.Bytes.ByteSteps.{join-and, join-or}
 use mathlib.Core.Path.{refl}
-use borrow.Author.Rules.{rules}
 use Rattle.machine.proofs.run.steps.match_byte.Goals as goal
 
 pub bits_byte-requires : goal.bits_byte-requires

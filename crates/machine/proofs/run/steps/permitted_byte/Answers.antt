@@ -8,7 +8,6 @@ use Rattle.stored.specs.Run.{active_in, seen_in, row_size, run_size}
 use Rattle.stored.specs.Automaton.{mask_size, child_mask, descendant_mask, anywhere_mask, root_mask}
 use Rattle.stored.specs.Bits.{bit_of, bit_in}
 use Rattle.stored.proofs.Laws.Bytes.ByteSteps.{join-and, join-or}
-use borrow.Author.Rules.{rules}
 use Rattle.machine.proofs.run.steps.permitted_byte.Goals as goal
 
 pub overflow_add-at : goal.overflow_add-at

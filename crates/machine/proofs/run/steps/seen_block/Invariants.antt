@@ -1,13 +1,9 @@
-use native.Mathlib.Omega.{arith}
 use mathlib.Core.Path.{◌≡◌}
 use mathlib.Core.Bool.{◌||◌}
 use Prim.Native.Nat.{◌+◌, ◌-◌, ◌*◌, ◌≤◌}
-use Rattle.stored.specs.Automaton.{mask_size}
-use Rattle.stored.specs.Bits.{bit_of, bit_at}
+use Rattle.stored.specs.Bits.{bit_at}
 use Rattle.stored.specs.RunCalls.{seen_at}
-use Rattle.stored.proofs.Laws.Running.Flagged.{made, none_made, one-made, all_made, seen-in}
-use borrow.Author.Rules.{elem_Fits}
-use mir.Syntax.{w8}
+use Rattle.stored.proofs.Laws.Running.Flagged.{made}
 use Rattle.machine.proofs.run.steps.seen_block.Given as goal
 
 abbrev pub invariant-loop-j : goal.invariant-loop-j

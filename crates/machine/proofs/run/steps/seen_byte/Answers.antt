@@ -6,7 +6,6 @@ use Rattle.stored.specs.Bits.{bit_of, bit_in}
 use Rattle.stored.specs.Run.{seen_in, row_size}
 use Rattle.stored.specs.RunCalls.{seen_at}
 use Rattle.stored.proofs.Laws.Bytes.ByteSteps.{join-or}
-use borrow.Author.Rules.{rules}
 use Rattle.machine.proofs.run.steps.seen_byte.Goals as goal
 
 pub bits_byte-requires : goal.bits_byte-requires

@@ -1,9 +1,9 @@
 use native.Mathlib.Omega.{arith}
 use mathlib.Core.Path.{◌≡◌, ◌∙◌, ap}
-use Prim.Native.Nat.{◌-◌, ◌*◌, ◌≤◌}
+use Prim.Native.Nat.{◌*◌}
 use lib.ListN.{length}
 use Rattle.stored.specs.Automaton.{mask_size}
-use Rattle.stored.specs.Code.OpenSteps.{taken_active, taken_seen, taken_matched, stored_bits}
+use Rattle.stored.specs.Code.OpenSteps.{taken_active, taken_seen, taken_matched}
 use Rattle.stored.proofs.Laws.Running.Blocks.{none-stored, next-stored, stored-length}
 use Rattle.machine.proofs.run.steps.store_bits.Goals as goal
 

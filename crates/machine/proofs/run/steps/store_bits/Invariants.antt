@@ -1,10 +1,6 @@
-use native.Mathlib.Omega.{arith}
-use mathlib.Core.Path.{◌≡◌, ◌∙◌, ap}
+use mathlib.Core.Path.{◌≡◌}
 use Prim.Native.Nat.{◌-◌, ◌*◌, ◌≤◌}
-use lib.ListN.{length}
-use Rattle.stored.specs.Automaton.{mask_size}
 use Rattle.stored.specs.Code.OpenSteps.{taken_active, taken_seen, taken_matched, stored_bits}
-use Rattle.stored.proofs.Laws.Running.Blocks.{none-stored, next-stored, stored-length}
 use Rattle.machine.proofs.run.steps.store_bits.Given as goal
 
 abbrev pub invariant-loop-i : goal.invariant-loop-i

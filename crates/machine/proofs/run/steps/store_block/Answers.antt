@@ -5,7 +5,6 @@ use Rattle.stored.specs.Run.{active_in, seen_in, matches_at, row_size, run_size}
 use Rattle.stored.specs.RunCalls.{mask_bit, seen_at, matched_at}
 use Rattle.stored.specs.Code.OpenSteps.{taken_active}
 use Rattle.stored.proofs.Laws.Running.Flagged.{block-put}
-use borrow.Author.Rules.{rules}
 use Rattle.machine.proofs.run.steps.store_block.Goals as goal
 
 pub overflow_add-d : goal.overflow_add-d

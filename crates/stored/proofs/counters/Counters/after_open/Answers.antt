@@ -1,6 +1,5 @@
 use native.Mathlib.Omega.{arith}
 use Rattle.model.specs.Limits.{max_depth, max_opens}
-use borrow.Author.Rules.{rules}
 use Rattle.stored.proofs.counters.Counters.after_open.Goals as goal
 
 pub overflow_add-result : goal.overflow_add-result
