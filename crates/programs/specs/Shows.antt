@@ -1,8 +1,5 @@
 -- What a program prints, whatever it shows of a filed report.
-use Prim.Native.Nat.{ℕ}
-use mathlib.Core.Path.{◌≡◌}
-use mathlib.Core.List.{List}
-use lib.ListN.{take}
+use Rattle.std.specs.Prelude.{ℕ, ◌≡◌, List, take}
 use Rattle.io.specs.Counts.{IsPrefixLen}
 use Rattle.text.specs.declared.written.Written.{Written}
 use Rattle.notation.specs.Sets.{FolderSet}

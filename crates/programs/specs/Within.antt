@@ -1,5 +1,5 @@
 -- What was read lies within its buffer.
-use Prim.Native.Nat.{ℕ, ◌≤◌}
+use Rattle.std.specs.Prelude.{ℕ, ◌≤◌}
 use Rattle.programs.specs.declared.files.Read.{Read}
 use Rattle.programs.specs.declared.files.Inputs.{Inputs}
 

@@ -1,6 +1,5 @@
 // Reading whole files into buffers: one, and the two that a program files by.
-ghost use Prim.Native.Nat.{◌≤◌, ◌-◌};
-ghost use lib.ListN.{length};
+ghost use Rattle.std.specs.Prelude.{◌≤◌, ◌-◌, length};
 ghost use Rattle.programs.specs.Within.{Within, BothWithin};
 
 // A file's bytes at the start of a buffer, all that it has or as many as the buffer takes; or the file could not be opened or read.

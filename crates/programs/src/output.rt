@@ -1,5 +1,5 @@
 // What a program prints.
-ghost use mathlib.Core.Path.{◌≡◌};
+ghost use Rattle.std.specs.Prelude.{◌≡◌};
 ghost use Rattle.programs.specs.Shows.{size_of};
 
 use text::written::Written;

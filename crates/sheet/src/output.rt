@@ -1,6 +1,5 @@
 // What is printed, at the start of a lent buffer of a sheet's size.
-ghost use Prim.Native.Nat.{◌≤◌};
-ghost use lib.ListN.{length};
+ghost use Rattle.std.specs.Prelude.{◌≤◌, length};
 ghost use Rattle.stored.specs.Automaton.{automaton_size};
 ghost use Rattle.stored.specs.Run.{run_size};
 ghost use Rattle.sheets.specs.Limits.{sheet_size};

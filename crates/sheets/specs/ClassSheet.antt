@@ -1,10 +1,6 @@
 -- The class sheet (paper 02, A.2) as one statement. Of each call the contract alone is used.
-use Prim.Native.Nat.{ℕ, suc, ◌-◌, ◌*◌, ◌≤◌, ◌<◌}
-use mathlib.Core.Path.{◌≡◌}
-use mathlib.Core.Bool.{true, false}
-use mathlib.Core.Logic.{◌↔◌}
-use mathlib.Core.List.{List, ◌∷◌, ◌++◌, map, Memᴰ}
-use lib.ListN.{length, get_or, take, drop, replicate}
+use Rattle.std.specs.Prelude.{ℕ, suc, ◌-◌, ◌*◌, ◌≤◌, ◌<◌, ◌≡◌, true, false, ◌↔◌, List, ◌∷◌, ◌++◌, map, length, get_or, take, drop, replicate}
+use mathlib.Core.List.{Memᴰ}
 use Rattle.text.specs.Bytes.{joined}
 use Rattle.text.specs.declared.written.Written.{Written}
 use Rattle.notation.specs.Limits.{max_paths}
@@ -21,10 +17,11 @@ use Rattle.stored.specs.HeldSet.{folders_held, folder_held}
 use Rattle.stored.specs.Asking.{place_matched}
 use Rattle.stored.specs.declared.counters.Counters.{Counters}
 use Rattle.documents.specs.Document.{document_in}
-use Rattle.filing.specs.Demand1.{WrittenBy, RefusesShort}
+use Rattle.filing.specs.Demand1.{WrittenBy}
 use Rattle.filing.specs.Demand2.{SelectsElement}
 use Rattle.filing.specs.ReportRefusals.{Files}
 use Rattle.filing.specs.Shown.{ShownText, PrintsText}
+use Rattle.filing.specs.ShownShort.{RefusesShort}
 use Rattle.sheets.specs.Limits.{line_width, body_lines, page_size, sheet_size}
 use Rattle.sheets.specs.Sheet.{Row, spaces, head_line, body_line, ended, Pages, sheet}
 use Rattle.sheets.specs.Lines.{InLines, PlainLines}

@@ -1,5 +1,5 @@
 -- The measures of a class sheet (paper 02, A.2), once. A proof that needs the number says `unfolding` of its name.
-use Prim.Native.Nat.{ℕ, suc, ◌+◌, ◌*◌}
+use Rattle.std.specs.Prelude.{ℕ, suc, ◌+◌, ◌*◌}
 
 -- places of a folder's or a page's number
 unfoldable pub number_width : ℕ

@@ -1,8 +1,6 @@
 -- Bytes that are lines of 72 bytes, each ended by byte 10 (paper 02, A.2).
-use Prim.Native.Nat.{ℕ}
-use mathlib.Core.Path.{◌≡◌}
-use mathlib.Core.List.{List, map, Memᴰ}
-use lib.ListN.{length}
+use Rattle.std.specs.Prelude.{ℕ, ◌≡◌, List, map, length}
+use mathlib.Core.List.{Memᴰ}
 use Rattle.text.specs.Bytes.{joined}
 use Rattle.sheets.specs.Limits.{line_width}
 use Rattle.sheets.specs.Sheet.{ended}

@@ -1,7 +1,6 @@
 -- What the one call of the program that prints the class sheet promises, from the bytes of a set and a report to the bytes that are printed:
 -- the number of a refusal, or the sheet of the filed report.
-use Prim.Native.Nat.{ℕ}
-use mathlib.Core.List.{List}
+use Rattle.std.specs.Prelude.{ℕ, List}
 use Rattle.text.specs.declared.written.Written.{Written}
 use Rattle.filing.specs.Shown.{PrintsBy}
 use Rattle.sheets.specs.Limits.{sheet_size}

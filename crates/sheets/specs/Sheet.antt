@@ -1,10 +1,6 @@
 -- The class sheet (paper 02, A.2), by printing: pages of a head line and 40 body lines, one matched path on each body line, blank ones where
 -- there are no more.
-use Prim.Native.Nat.{ℕ, zero, suc, ◌+◌, ◌-◌, ◌*◌, ◌/◌, ◌≤◌, max}
-use mathlib.Core.Bool.{cond}
-use mathlib.Core.List.{List, [], ◌∷◌, ◌++◌, map}
-use lib.Dec.{leb}
-use lib.ListN.{length, get_or, take, replicate}
+use Rattle.std.specs.Prelude.{ℕ, zero, suc, ◌+◌, ◌-◌, ◌*◌, ◌/◌, ◌≤◌, max, cond, List, [], ◌∷◌, ◌++◌, map, leb, length, get_or, take, replicate}
 use Rattle.text.specs.Bytes.{joined}
 use Rattle.text.specs.Decimal.{decimal}
 use Rattle.model.specs.Folders.{count_from}

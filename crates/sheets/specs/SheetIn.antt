@@ -1,10 +1,6 @@
 -- The class sheet of any automaton and run, by what is stored, and what the call that writes it promises. Rows go by path place: each matched
 -- place once, with the number of the last folder whose first path is not after it.
-use Prim.Native.Nat.{ℕ, zero, suc}
-use mathlib.Core.Bool.{not, ◌&&◌, ◌||◌, cond}
-use mathlib.Core.List.{List, [], ◌∷◌, map}
-use lib.Dec.{leb, ltb}
-use lib.ListN.{length}
+use Rattle.std.specs.Prelude.{ℕ, zero, suc, not, ◌&&◌, ◌||◌, cond, List, [], ◌∷◌, map, leb, ltb, length}
 use Rattle.text.specs.Bytes.{joined}
 use Rattle.text.specs.Refusals.{short_buffer, bad_shape}
 use Rattle.text.specs.Order.{Condition, gives}

@@ -1,7 +1,5 @@
 // The lines of a sheet, each put together piece by piece.
-ghost use mathlib.Core.Path.{◌≡◌};
-ghost use Prim.Native.Nat.{◌+◌, ◌≤◌};
-ghost use lib.ListN.{length};
+ghost use Rattle.std.specs.Prelude.{◌≡◌, ◌+◌, ◌≤◌, length};
 ghost use Rattle.text.specs.Decimal.{decimal};
 ghost use Rattle.text.specs.Output.{Puts, Adds};
 ghost use Rattle.notation.specs.Limits.{max_number};

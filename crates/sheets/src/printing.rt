@@ -1,6 +1,5 @@
 // The job of the program that prints the class sheet: a set is built, a report filed with it, and the sheet written.
-ghost use Prim.Native.Nat.{◌≤◌};
-ghost use lib.ListN.{length};
+ghost use Rattle.std.specs.Prelude.{◌≤◌, length};
 ghost use Rattle.sheets.specs.Limits.{sheet_size};
 ghost use Rattle.sheets.specs.Printer.{PrintsSheet};
 ghost use Rattle.sheets.specs.Code.Printing.{OutcomeShown};
@@ -8,7 +7,7 @@ ghost use Rattle.sheets.specs.Code.Printing.{OutcomeShown};
 use crate::limits::SHEET_SIZE;
 use crate::sheet::write_sheet;
 use filing::listing::compose_refused;
-use filing::printing::{file_text, too_small};
+use filing::shown::{file_text, too_small};
 use text::refusals::SHORT_BUFFER;
 use text::written::Written;
 

@@ -1,7 +1,5 @@
 // The rows of a sheet: the matched places in order, and the number of each place's folder.
-ghost use mathlib.Core.Path.{◌≡◌};
-ghost use Prim.Native.Nat.{◌<◌};
-ghost use lib.ListN.{length};
+ghost use Rattle.std.specs.Prelude.{◌≡◌, ◌<◌, length};
 ghost use Rattle.notation.specs.Limits.{max_paths};
 ghost use Rattle.stored.specs.HeldSet.{folders_held, folder_held};
 ghost use Rattle.sheets.specs.Code.Rows.{Filled, Entered, Numbered, Collected};

@@ -1,7 +1,5 @@
 // Writing the class sheet of a run.
-ghost use mathlib.Core.Path.{◌≡◌};
-ghost use mathlib.Core.Bool.{true, false};
-ghost use Prim.Native.Nat.{◌≤◌, suc};
+ghost use Rattle.std.specs.Prelude.{◌≡◌, true, false, ◌≤◌, suc};
 ghost use Rattle.text.specs.Order.{given};
 ghost use Rattle.text.specs.Output.{start, Adds};
 ghost use Rattle.notation.specs.Limits.{max_paths};

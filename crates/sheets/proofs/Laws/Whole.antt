@@ -20,7 +20,8 @@ use Rattle.filing.specs.ReportRefusals.{Files}
 use Rattle.filing.specs.Shown.{PrintsText}
 use Rattle.filing.specs.Code.Filing.{file_with}
 use Rattle.filing.proofs.Laws.Listing.Shown.{shown-once, shown-some}
-use Rattle.filing.proofs.Laws.Demand1.Calls.{written-by, printed-by}
+use Rattle.filing.proofs.Laws.Demand1.Calls.{written-by}
+use Rattle.filing.proofs.Laws.Demand1.Shown.{printed-by}
 use Rattle.filing.proofs.Laws.Filing.FilingParts.{given-filed}
 use Rattle.filing.proofs.Laws.Filing.FilingOrder.{filing-is}
 use Rattle.filing.proofs.Laws.Filing.FromBytes.{answer-is, left-filed}

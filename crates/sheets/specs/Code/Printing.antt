@@ -1,6 +1,5 @@
 -- What is written of what filing left.
-use Prim.Native.Nat.{ℕ, zero, suc}
-use mathlib.Core.List.{List}
+use Rattle.std.specs.Prelude.{ℕ, zero, suc, List}
 use Rattle.text.specs.declared.written.Written.{Written}
 use Rattle.filing.specs.Listing.{refused_line}
 use Rattle.filing.specs.Shown.{PrintsText}

@@ -1,10 +1,5 @@
 -- The tables from which the lines of a sheet are made: places of matched paths, and the number of each place's folder.
-use Prim.Native.Nat.{ℕ, ◌≤◌, ◌<◌}
-use mathlib.Core.Path.{◌≡◌}
-use mathlib.Core.Bool.{cond}
-use mathlib.Core.List.{List, map}
-use lib.Dec.{leb}
-use lib.ListN.{length, get_or, take}
+use Rattle.std.specs.Prelude.{ℕ, ◌≤◌, ◌<◌, ◌≡◌, cond, List, map, leb, length, get_or, take}
 use Rattle.notation.specs.Limits.{max_number, max_paths}
 use Rattle.notation.specs.declared.reads.FolderAt.{FolderAt}
 use Rattle.stored.specs.HeldSet.{path_held}

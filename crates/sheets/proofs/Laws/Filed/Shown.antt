@@ -22,7 +22,7 @@ use Rattle.stored.proofs.Laws.Running.Means.{Means}
 use Rattle.stored.proofs.Laws.Shapes.Passing.{run-shaped, long-enough}
 use Rattle.filing.specs.Listing.{refused_line}
 use Rattle.filing.specs.Shown.{PrintsText}
-use Rattle.filing.proofs.Laws.Listing.Printing.{text-printed, put-printed, Showing}
+use Rattle.filing.proofs.Laws.Listing.Showing.{text-printed, put-printed, Showing}
 use Rattle.filing.proofs.Laws.Listing.Written.{refused-length}
 use Rattle.sheets.specs.Limits.{number_width, path_width, line_width, body_lines, page_size, max_pages, sheet_size}
 use Rattle.sheets.specs.Sheet.{sheet}
