@@ -1,5 +1,5 @@
 -- As few pages as hold all rows, one at least: the computed count is that, and nothing else is.
-use Prim.Native.Nat.{ℕ, ◌-◌, ◌≤◌}
+use Prim.Native.Nat.{ℕ, ◌≤◌}
 use native.Mathlib.Omega.{arith}
 use mathlib.Core.Path.{◌≡◌, refl}
 use Rattle.notation.specs.Limits.{max_paths}

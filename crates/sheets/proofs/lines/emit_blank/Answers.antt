@@ -1,6 +1,5 @@
 -- `lines::emit_blank`: a line of spaces and its end.
 use native.Mathlib.Omega.{arith}
-use borrow.Author.Rules.{rules}
 use Rattle.text.specs.Output.{a_piece}
 use Rattle.text.proofs.Laws.Output.{one}
 use Rattle.sheets.specs.Limits.{number_width, path_width, line_width}

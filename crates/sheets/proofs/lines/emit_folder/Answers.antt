@@ -2,7 +2,6 @@
 use native.Mathlib.Omega.{arith}
 use mathlib.Core.Path.{sym, ◌∙◌, ap}
 use Prim.Native.Nat.{ℕ}
-use borrow.Author.Rules.{rules}
 use Rattle.text.proofs.Laws.Output.{one, same_bytes}
 use Rattle.sheets.specs.Limits.{number_width, path_width, line_width}
 use Rattle.sheets.specs.Sheet.{right_aligned, number_shown}

@@ -1,7 +1,6 @@
 -- `lines::emit_head`: the word, the spaces, the page's number, and the line's end.
 use native.Mathlib.Omega.{arith}
 use mathlib.Core.List.{append_assoc}
-use borrow.Author.Rules.{rules}
 use Rattle.text.specs.Output.{a_piece}
 use Rattle.text.proofs.Laws.Output.{one, and_then, same_bytes}
 use Rattle.sheets.specs.Limits.{number_width, path_width, line_width}

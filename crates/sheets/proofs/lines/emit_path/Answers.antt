@@ -2,7 +2,6 @@
 use native.Mathlib.Omega.{arith}
 use mathlib.Core.Path.{sym}
 use lib.Seq.{length-take-le}
-use borrow.Author.Rules.{rules}
 use Rattle.text.specs.Output.{a_piece}
 use Rattle.text.proofs.Laws.Output.{one, same_bytes}
 use Rattle.sheets.specs.Limits.{number_width, path_width, line_width}

@@ -1,6 +1,5 @@
 -- `lines::emit_row`: number, two spaces, path, and the line's end.
 use mathlib.Core.List.{append_assoc}
-use borrow.Author.Rules.{rules}
 use Rattle.text.specs.Output.{a_piece}
 use Rattle.text.proofs.Laws.Output.{one, and_then, same_bytes}
 use Rattle.sheets.specs.Sheet.{spaces, body_line}

@@ -2,7 +2,6 @@
 use native.Mathlib.Omega.{arith}
 use mathlib.Core.Path.{sym, ◌∙◌, ap}
 use lib.ListN.{length, length-replicate}
-use borrow.Author.Rules.{rules}
 use Rattle.sheets.specs.Limits.{line_width}
 use Rattle.sheets.specs.Sheet.{spaces}
 use Rattle.sheets.proofs.Laws.Page.Aligned.{front_same}

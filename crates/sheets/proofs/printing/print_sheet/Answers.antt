@@ -1,6 +1,5 @@
 -- `printing::print_sheet`: a short buffer, or what is printed.
 use mathlib.Core.Path.{sym, ◌∙◌}
-use borrow.Author.Rules.{rules}
 use Rattle.filing.proofs.Laws.Listing.Showing.{out-room, too_small-is, prints-by}
 use Rattle.sheets.specs.Limits.{number_width, path_width, line_width, body_lines, page_size, max_pages, sheet_size}
 use Rattle.sheets.specs.SheetOf.{SheetFor}

@@ -1,6 +1,5 @@
 -- `printing::show_filed`: a refusal's line, or the sheet.
 use native.Mathlib.Omega.{arith}
-use borrow.Author.Rules.{rules}
 use Rattle.sheets.proofs.Laws.Filed.Shown.{refused-shown, none-shown}
 use Rattle.sheets.proofs.printing.show_filed.Goals as goal
 

@@ -1,7 +1,6 @@
 -- `rows::enter`: the folder's number from its first path on, or nothing.
 use native.Mathlib.Omega.{arith}
 use mathlib.Core.Path.{sym, ◌∙◌, ap}
-use borrow.Author.Rules.{rules}
 use Rattle.stored.specs.HeldSet.{top_held}
 use Rattle.sheets.proofs.Laws.Stored.Tables.{entered, not_entered}
 use Rattle.sheets.proofs.rows.enter.Goals as goal

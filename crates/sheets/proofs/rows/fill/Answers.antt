@@ -1,9 +1,9 @@
 -- `rows::fill`: after each turn the places from `from` on, as far as it came, have the number.
-use Prim.Native.Nat.{ℕ, ◌≤◌, ◌<◌, ◌-◌}
+use Prim.Native.Nat.{◌<◌}
 use native.Mathlib.Omega.{arith}
 use native.Mathlib.Numerals.{add-one}
-use mathlib.Core.Path.{◌≡◌, refl, ◌∙◌}
-use lib.ListN.{length, get_or, length-set}
+use mathlib.Core.Path.{refl, ◌∙◌}
+use lib.ListN.{length, length-set}
 use lib.Seq.{get_or-set_other}
 use Rattle.notation.specs.Limits.{max_paths}
 use Rattle.sheets.proofs.Laws.Stored.Tables.{filled-turn, filled}

@@ -1,10 +1,7 @@
 -- `rows::number_places`: after i turns the numbers are those by the first i folders.
-use Prim.Native.Nat.{◌≤◌, ◌-◌}
 use native.Mathlib.Omega.{arith}
 use native.Mathlib.Numerals.{add-one}
 use mathlib.Core.Path.{◌≡◌, sym, ◌∙◌}
-use borrow.Author.Rules.{rules}
-use Rattle.sheets.specs.Code.Rows.{Numbered}
 use Rattle.sheets.proofs.Laws.Stored.Tables.{numbered-none, numbered_more}
 use Rattle.sheets.proofs.rows.number_places.Goals as goal
 

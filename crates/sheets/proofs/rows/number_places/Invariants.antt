@@ -1,10 +1,5 @@
 use Prim.Native.Nat.{◌≤◌, ◌-◌}
-use native.Mathlib.Omega.{arith}
-use native.Mathlib.Numerals.{add-one}
-use mathlib.Core.Path.{◌≡◌, sym, ◌∙◌}
-use borrow.Author.Rules.{rules}
 use Rattle.sheets.specs.Code.Rows.{Numbered}
-use Rattle.sheets.proofs.Laws.Stored.Tables.{numbered-none, numbered_more}
 use Rattle.sheets.proofs.rows.number_places.Given as goal
 
 abbrev pub invariant-loop-i : goal.invariant-loop-i

@@ -1,6 +1,5 @@
 -- `sheet::compose`: the pages of the rows that the tables hold.
 use mathlib.Core.Path.{refl}
-use borrow.Author.Rules.{rules}
 use Rattle.text.proofs.Laws.Output.{same_bytes}
 use Rattle.notation.specs.Limits.{max_paths}
 use Rattle.sheets.proofs.Laws.Stored.Tables.{in_tables, sheet-is}

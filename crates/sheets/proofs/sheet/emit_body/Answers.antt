@@ -1,10 +1,9 @@
 -- `sheet::emit_body`: the line of a row, or a blank one.
 use native.Mathlib.Omega.{arith}
 use mathlib.Core.Path.{sym, ap}
-use borrow.Author.Rules.{rules}
 use Rattle.text.proofs.Laws.Output.{same_bytes}
 use Rattle.notation.specs.Limits.{max_number, max_paths}
-use Rattle.sheets.specs.Sheet.{row, ended}
+use Rattle.sheets.specs.Sheet.{ended}
 use Rattle.sheets.specs.Code.Rows.{table_row}
 use Rattle.sheets.proofs.Laws.Stored.Tables.{table-row, table_none}
 use Rattle.sheets.proofs.sheet.emit_body.Goals as goal

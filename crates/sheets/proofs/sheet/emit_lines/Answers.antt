@@ -1,10 +1,9 @@
 -- `sheet::emit_lines`: after i turns the first i body lines of the page stand there.
-use Prim.Native.Nat.{◌≤◌, ◌-◌}
 use native.Mathlib.Omega.{arith}
 use native.Mathlib.Numerals.{add-one}
 use mathlib.Core.Path.{◌≡◌, sym, ap, ◌∙◌}
 use Rattle.text.specs.Bytes.{joined}
-use Rattle.text.specs.Output.{Adds, no_pieces}
+use Rattle.text.specs.Output.{no_pieces}
 use Rattle.text.proofs.Laws.Output.{and_then, same_bytes, size}
 use Rattle.model.specs.Folders.{count_from}
 use Rattle.sheets.specs.Limits.{body_lines}

@@ -1,7 +1,6 @@
 -- `sheet::emit_page`: the head line and the body lines.
 use native.Mathlib.Omega.{arith}
 use native.Mathlib.Numerals.{add-one}
-use borrow.Author.Rules.{rules}
 use Rattle.text.proofs.Laws.Output.{and_then}
 use Rattle.notation.specs.Limits.{max_number}
 use Rattle.sheets.specs.Limits.{body_lines, max_pages}

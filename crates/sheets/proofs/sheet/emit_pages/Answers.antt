@@ -1,11 +1,10 @@
 -- `sheet::emit_pages`: after k turns the first k pages stand there.
-use Prim.Native.Nat.{◌≤◌, ◌-◌}
 use native.Mathlib.Omega.{arith}
 use native.Mathlib.Nat.{zero-add}
 use native.Mathlib.Numerals.{add-one}
 use mathlib.Core.Path.{◌≡◌, sym, ap, ◌∙◌}
 use Rattle.text.specs.Bytes.{joined}
-use Rattle.text.specs.Output.{Adds, no_pieces}
+use Rattle.text.specs.Output.{no_pieces}
 use Rattle.text.proofs.Laws.Output.{and_then, same_bytes, size}
 use Rattle.model.specs.Folders.{count_from}
 use Rattle.sheets.specs.Limits.{max_pages}

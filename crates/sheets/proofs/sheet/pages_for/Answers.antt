@@ -1,6 +1,5 @@
 -- `sheet::pages_for`: one page where there is no row.
 use native.Mathlib.Omega.{arith}
-use borrow.Author.Rules.{rules}
 use Rattle.notation.specs.Limits.{max_paths}
 use Rattle.sheets.specs.Limits.{body_lines, max_pages}
 use Rattle.sheets.specs.Sheet.{pages_for}

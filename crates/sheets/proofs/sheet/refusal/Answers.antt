@@ -1,6 +1,5 @@
 -- `sheet::refusal`: a short sheet, then what is lent.
 use mathlib.Core.Path.{sym, ◌∙◌}
-use borrow.Author.Rules.{rules}
 use Rattle.sheets.specs.Limits.{number_width, path_width, line_width, body_lines, page_size, max_pages, sheet_size}
 use Rattle.sheets.proofs.Laws.Stored.Refused.{sheet-short, pair-refused}
 use Rattle.sheets.proofs.sheet.refusal.Goals as goal

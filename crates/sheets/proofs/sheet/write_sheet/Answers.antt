@@ -1,7 +1,6 @@
 -- `sheet::write_sheet`: the refusal, or the sheet, which has room.
 use native.Mathlib.Omega.{arith}
 use mathlib.Core.Path.{sym, ◌∙◌}
-use borrow.Author.Rules.{rules}
 use Rattle.text.proofs.Laws.Output.{refused-with, written_as}
 use Rattle.sheets.specs.SheetIn.{sheet_in, sheet_conditions}
 use Rattle.sheets.proofs.Laws.Stored.Refused.{shaped-then, room-then}
