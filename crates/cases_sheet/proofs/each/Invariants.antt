@@ -1,0 +1,12 @@
+-- The loop ends within the script, and keeps the lengths of the buffers.
+use Prim.Native.Nat.{◌≤◌, ◌-◌}
+use mathlib.Core.Path.{◌≡◌}
+use lib.ListN.{length}
+use Rattle.cases_sheet.proofs.each.Given as goal
+
+abbrev pub invariant-loop-from : goal.invariant-loop-from
+invariant-loop-from l =
+    (l.from ≤ length l.script) × (length l.a ≡ length l.initial.a) × (length l.run ≡ length l.initial.run) × (length l.out ≡ length l.initial.out)
+
+abbrev pub decreases-loop-from : goal.decreases-loop-from
+decreases-loop-from l = length l.script - l.from
