@@ -15,8 +15,8 @@ pub fn size_of(answer: Written) -> usize
 }
 
 // Writes to standard output; a write that fails is told on standard error.
-pub fn print(text: &[u8]) {
-    if !io::write_all(libc::STDOUT_FILENO, text) {
-        os::fail(b"standard output");
+pub fn print(rt: &(impl Print + Eprint), text: &[u8]) {
+    if let Err(why) = rt.write_all(text) {
+        let _ = eprintln!(rt; "standard output: {why}");
     }
 }

@@ -12,19 +12,19 @@ use programs::output::print;
 use reports::limits::MAX_REPORT;
 use sheets::limits::SHEET_SIZE;
 
-fn print_shown(set: &[u8], report: &[u8]) {
+fn print_shown(rt: &(impl Print + Eprint), set: &[u8], report: &[u8]) {
     let mut a = [0u8; AUTOMATON_SIZE];
     let mut run = [0u8; RUN_SIZE];
     let mut out = [0u8; SHEET_SIZE];
     let n = output::shown(set, report, &mut a, &mut run, &mut out);
-    print(&out[..n]);
+    print(rt, &out[..n]);
 }
 
 // One byte more than each limit is read, so that a longer file is refused and never cut.
-fn main() {
+fn main(rt: HostRuntime) {
     let mut set = [0u8; MAX_SET_BYTES + 1];
     let mut report = [0u8; MAX_REPORT + 1];
-    if let Inputs::Read { set: m, report: n } = read_both(&mut set, &mut report) {
-        print_shown(&set[..m], &report[..n]);
+    if let Inputs::Read { set: m, report: n } = read_both(&rt, &mut set, &mut report) {
+        print_shown(&rt, &set[..m], &report[..n]);
     }
 }

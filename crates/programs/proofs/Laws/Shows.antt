@@ -16,7 +16,7 @@ use Rattle.text.specs.declared.written.Written.{Written}
 use Rattle.notation.specs.Sets.{FolderSet}
 use Rattle.filing.specs.Shown.{too_small, PrintsText, PrintsBy}
 use Rattle.filing.proofs.Laws.Listing.Shown.{Total}
-use Rattle.filing.proofs.Laws.Listing.Printing.{some-printed}
+use Rattle.filing.proofs.Laws.Listing.Showing.{some-printed}
 use Rattle.programs.specs.Shows.{size_of, Shows}
 
 size-said : (answer : Written) (n : ℕ) → written_says answer ≡ value n → size_of answer ≡ n
