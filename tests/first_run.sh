@@ -3,7 +3,7 @@
 # that only prints what rt prints.
 set -uo pipefail
 cd "$(dirname "$0")/.."
-rt check filer >/dev/null || { echo "filer is not proved: rt check filer"; exit 1; }
+(cd crates/filer && rt run) >/dev/null 2>&1 || { echo "filer is not proved and built: rt run, in crates/filer"; exit 1; }
 
 work=$(mktemp -d)
 trap 'rm -rf "$work"' EXIT
@@ -61,17 +61,23 @@ printf '# a comment\ntext:\nfiling: text\nfiler: filing io\ncases: text\n' >"$cl
 cp -R crates/filer/data "$clone/crates/filer"
 cat >"$clone/bin/rt" <<'RT'
 #!/bin/sh
-if [ -e fails ]; then echo 'rt: text NOT PROVED (exit 1, 1 s)'; exit 1; fi
-for crate in text filing filer; do echo 'fn f: proved'; echo "rt: $crate proved (1 s)"; done
-mkdir -p target/bin
-printf '#!/bin/sh\necho "(filed"\n' >target/bin/filer
-chmod +x target/bin/filer
+if [ "$1" != run ]; then echo "rt: no $1 here"; exit 2; fi
+if [ -e ../../fails ]; then echo 'logic=not-proved'; echo 'rt: the library text did not build, so nothing above it was checked'; exit 1; fi
+for crate in text filing filer; do
+    echo 'fn f: proved'
+    echo "crate $crate: modules loaded=1 checked=2"
+    echo 'logic=proved functions=1'
+done
+mkdir -p out
+printf '#!/bin/sh\necho "(filed"\n' >out/filer
+chmod +x out/filer
+echo '(refused 3)'
 RT
 chmod +x "$clone/bin/rt"
 PATH=$clone/bin:$PATH
-runs 'the first run' "$clone" "$clone/crates/filer/data" 0 '(filed' '*, 3 crates *text proved (1 s), 2 left*filing proved (1 s), 1 left*filer proved (1 s), 0 left'
+runs 'the first run' "$clone" "$clone/crates/filer/data" 0 '(filed' '*, 3 crates *text proved, 2 left*filing proved, 1 left*filer proved, 0 left'
 touch "$clone/fails"
-runs 'a run that fails' "$clone" "$clone/crates/filer/data" 2 '' 'rt: text NOT PROVED*the whole log is *file-report.log*'
+runs 'a run that fails' "$clone" "$clone/crates/filer/data" 2 '' 'rt: the library text did not build*the whole log is *file-report.log*'
 
 echo "first run's cases: $count, $wrong differ"
 [ "$wrong" -eq 0 ]

@@ -3,7 +3,7 @@
 if [ $# -gt 0 ]; then
     program=$(realpath "$1")
 else
-    rt check filer >/dev/null || { echo "filer is not proved: rt check filer"; exit 1; }
-    program=$PWD/target/bin/filer
+    (cd crates/filer && rt run) >/dev/null 2>&1 || { echo "filer is not proved and built: rt run, in crates/filer"; exit 1; }
+    program=$PWD/crates/filer/out/filer
 fi
 [ -x "$program" ] || { echo "there is no program $program"; exit 1; }

@@ -3,14 +3,22 @@ import pathlib
 import re
 import sys
 
-CODE = re.compile(r"^(?:ghost )?use Rattle·\w+(?:·specs)?\.specs\.Code\.\w+\.\{([^}]*)\}", re.M)
-PUBLIC = re.compile(r"^pub (?:extern \"C\" )?fn (\w+).*?^\{", re.M | re.S)
+USES = re.compile(r"^(?:pub |unfoldable |ghost )*use Rattle\.\w+\.specs\.Code\b([^;\n{]*)(?:\{([^}]*)\})?", re.M)
+PUBLIC = re.compile(r"^( *)pub (?:const |unsafe |extern \"C\" )*fn (\w+)", re.M)
+CLAUSE = re.compile(r"\s+(?:requires|ensures)\b")
 MODULE = re.compile(r"^(pub )?mod (\w+);", re.M)
+WORD = re.compile(r"[^\s.,;:(){}\[\]]+")
+
+
+def names_of(text):
+    """The names of specs/Code that a file brings in, as it calls them; of a whole module, the module's."""
+    for path, names in USES.findall(text):
+        yield from (part.split()[-1] for part in (names or path.replace(".", " ")).split(",") if part.strip())
 
 
 def specs(crate):
     for path in (crate / "specs").rglob("*.antt"):
-        if "Code" not in path.relative_to(crate / "specs").with_suffix("").parts and CODE.search(path.read_text()):
+        if "Code" not in path.relative_to(crate / "specs").with_suffix("").parts and USES.search(path.read_text()):
             yield f"{path} uses a definition of specs/Code"
 
 
@@ -23,20 +31,37 @@ def public_files(root):
             yield from public_files(below / f"{name}.rt")
 
 
+def roots(crate):
+    return [path for path in (crate / "src" / "lib.rt", crate / "src" / "main.rt") if path.exists()]
+
+
+def clauses(text, indent):
+    """The lines of a function's contract: from its first clause to the brace that opens its body."""
+    found = []
+    for line in text.split("\n"):
+        if line == f"{indent}{{" or line.endswith("{") and not found:
+            return found
+        if found or CLAUSE.match(line):
+            found.append(line)
+    return found
+
+
 def contracts(crate):
-    for root in (crate / "src" / "lib.rt", crate / "src" / "main.rt"):
-        for path in public_files(root) if root.exists() else ():
-            text = path.read_text()
-            names = {part.split()[-1] for found in CODE.findall(text) for part in found.split(",") if part.strip()}
-            for call in PUBLIC.finditer(text):
-                used = names & set(re.findall(r"[\w·]+", call.group(0)))
-                if used:
-                    yield f"{path}: the contract of {call.group(1)} names {', '.join(sorted(used))}"
+    """Each public function, its contract's words, and the names of specs/Code that its file brings in."""
+    for path in (path for root in roots(crate) for path in public_files(root)):
+        text = path.read_text()
+        for call in PUBLIC.finditer(text):
+            lines = clauses(text[call.end() :], call.group(1))
+            yield f"{path}: the contract of {call.group(2)}", set(WORD.findall("\n".join(lines))), set(names_of(text))
 
 
 crates = [path for path in sorted(pathlib.Path(sys.argv[1]).iterdir()) if path.is_dir()]
 files = sum(len(list(public_files(root))) for crate in crates for root in [crate / "src" / "lib.rt"] if root.exists())
-wrong = [line for crate in crates for line in [*specs(crate), *contracts(crate)]]
+calls = [found for crate in crates for found in contracts(crate)]
+code = [path for crate in crates for path in (crate / "specs" / "Code").rglob("*.antt")]
+wrong = [line for crate in crates for line in specs(crate)]
+wrong += [f"{call} names {', '.join(sorted(words & names))}" for call, words, names in calls if words & names]
+stated = sum(bool(words) for _, words, _ in calls)
 print(*wrong, sep="\n", end="\n" if wrong else "")
-print(f"contracts: {len(crates)} crates, {files} public files, {len(wrong)} reach specs/Code")
-sys.exit(1 if wrong or not files else 0)
+print(f"contracts: {len(crates)} crates, {files} public files, {stated} public contracts, {len(code)} files of specs/Code, {len(wrong)} reach them")
+sys.exit(1 if wrong or not files or not stated or not code else 0)

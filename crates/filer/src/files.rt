@@ -1,6 +1,13 @@
 // Reading a whole file into a buffer.
-ghost use Rattle.std.specs.Prelude.{◌≤◌, ◌-◌, length};
+ghost use Rattle.std.specs.Prelude.{◌≡◌, ◌≤◌, ◌<◌, ◌↔◌, length, take, IfOk};
+ghost use Rattle.std.specs.IoError.{error_kind};
+ghost use Rattle.std.specs.Io.KnownBytes.{Consumes, IsAtEnd};
 ghost use Rattle.filer.specs.Within.{Within};
+
+use std::fs::File;
+use std::io;
+use std::io::{Error, ErrorKind};
+use std::rt::Files;
 
 // A file's bytes at the start of a buffer, all that it has or as many as the buffer takes; or the file could not be opened or read.
 #[derive(Clone, Copy)]
@@ -9,80 +16,48 @@ pub enum Read {
     Failed,
 }
 
-fn counted(got: isize, part: &[u8]) -> Read
-    ensures { Within result (length part.now) }
-{
-    if got < 0 {
-        return Read::Failed;
-    }
-    Read::Bytes(io::count(got, part))
-}
-
-fn read_some(fd: i32, part: &mut [u8]) -> Read
-    ensures { Within result (length part.new) }
-{
-    let got = libc::read(fd, part);
-    counted(got, part)
-}
-
-// One read into a buffer from index `from` on.
-fn read_at(fd: i32, buf: &mut [u8], from: usize) -> Read
-    requires { from ≤ length buf.old }
-    ensures { Within result (length buf.new - from) }
-{
-    read_some(fd, &mut buf[from..])
-}
-
-// Reads until the file ends or the buffer is full. A read that fails is never taken for the end.
-fn read_all(fd: i32, buf: &mut [u8]) -> Read
-    ensures { Within result (length buf.new) }
+// Reads until the reader ends or the buffer is full; the count of bytes. A read that fails is never taken for the end.
+fn read_all<R: io::Read>(from: &mut R, buf: &mut [u8]) -> io::Result<usize>
+    ensures within { IfOk result (λ n. n ≤ length buf.new) }
+    ensures bytes { IfOk result (λ n. Consumes (R.remaining from.old) (R.remaining from.new) (take n buf.new)) }
+    ensures whole { IfOk result (λ n. n < length buf.new → IsAtEnd (R.remaining from.new)) }
 {
     let mut n = 0;
     while n < buf.len() {
-        match read_at(fd, buf, n) {
-            Read::Bytes(more) => {
-                if more == 0 {
-                    return Read::Bytes(n);
-                }
-                n += more;
-            }
-            Read::Failed => {
-                return Read::Failed;
-            }
+        let more = from.read(&mut buf[n..])?;
+        if more == 0 {
+            return Ok(n);
         }
+        n += more;
     }
-    Read::Bytes(n)
+    Ok(n)
 }
 
-// A missing file reads as an empty one.
-fn unopened(name: &[u8]) -> Read
-    ensures { Within result 0 }
+fn read_named(rt: &impl Files, name: &str, buf: &mut [u8]) -> io::Result<usize>
+    ensures { IfOk result (λ n. n ≤ length buf.new) }
 {
-    if os::errno() == libc::ENOENT {
+    let mut file = File::open(rt, name)?;
+    read_all(&mut file, buf)
+}
+
+// A missing file reads as an empty one. Any other failure is told on standard error.
+fn unread(rt: &impl Eprint, name: &str, why: Error) -> Read
+    ensures within { Within result 0 }
+    ensures missing { result ≡ Read.Bytes 0 ↔ error_kind why ≡ ErrorKind.NotFound }
+{
+    if why.kind() == ErrorKind::NotFound {
         return Read::Bytes(0);
     }
-    os::fail(name);
+    let _ = eprintln!(rt; "{name}: {why}");
     Read::Failed
 }
 
-fn read_opened(fd: i32, name: &[u8], buf: &mut [u8]) -> Read
-    ensures { Within result (length buf.new) }
-{
-    let got = read_all(fd, buf);
-    if let Read::Failed = got {
-        os::fail(name);
-    }
-    libc::close(fd);
-    got
-}
-
 // Reads the named file into a buffer; what fails is told on standard error.
-pub fn read_file(name: &[u8], buf: &mut [u8]) -> Read
+pub fn read_file(rt: &(impl Files + Eprint), name: &str, buf: &mut [u8]) -> Read
     ensures { Within result (length buf.new) }
 {
-    let fd = os::open_read(name);
-    if fd < 0 {
-        return unopened(name);
+    match read_named(rt, name, buf) {
+        Ok(n) => Read::Bytes(n),
+        Err(why) => unread(rt, name, why),
     }
-    read_opened(fd, name, buf)
 }

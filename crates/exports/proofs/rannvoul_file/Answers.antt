@@ -1,5 +1,4 @@
 -- `rannvoul_file`: the counters are taken from where they stand and put back there.
-use borrow.Author.Rules.{rules}
 use Rattle.exports.proofs.rannvoul_file.Goals as goal
 
 pub returns : goal.returns

@@ -1,5 +1,4 @@
 -- `rannvoul_folder_matched`: what the asking call answers is told.
-use borrow.Author.Rules.{rules}
 use Rattle.exports.proofs.rannvoul_folder_matched.Goals as goal
 
 pub returns : goal.returns

@@ -1,5 +1,4 @@
 -- `rannvoul_list`: what the listing's call answers is told.
-use borrow.Author.Rules.{rules}
 use Rattle.exports.proofs.rannvoul_list.Goals as goal
 
 pub returns : goal.returns

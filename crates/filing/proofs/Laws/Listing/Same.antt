@@ -7,7 +7,7 @@ use mathlib.Core.Bool.{Bool, cond}
 use mathlib.Core.List.{List, [], ◌∷◌, ◌++◌, append_assoc}
 use lib.ListN.{length, get_or, take, length-append, get_or-append}
 use lib.Seq.{get_or-append-add}
-use Rattle.notation.specs.Sets.{Path, Folder, folder, FolderSet, folder_number, folder_paths}
+use Rattle.notation.specs.Sets.{Path, folder, FolderSet, folder_number, folder_paths}
 use Rattle.text.specs.Lists.{non_empty, any}
 use Rattle.notation.specs.Form.{paths_of}
 use Rattle.notation.specs.Print.{print_path, print_paths, print_folder}

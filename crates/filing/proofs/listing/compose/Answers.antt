@@ -1,5 +1,4 @@
 -- `listing::compose`: the header, the folders, the moves and the footer.
-use borrow.Author.Rules.{rules}
 use Rattle.notation.specs.Print.{footer}
 use Rattle.filing.specs.Listing.{filed_header}
 use Rattle.filing.specs.Listed.{listing_in}

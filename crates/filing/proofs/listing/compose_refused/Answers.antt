@@ -3,7 +3,6 @@ use Rattle.notation.specs.Print.{footer}
 use Rattle.filing.specs.Listing.{refused_word, refused_line}
 use Rattle.text.specs.Output.{a_piece}
 use Rattle.text.proofs.Laws.Output.{one, and_then}
-use borrow.Author.Rules.{rules}
 use Rattle.filing.proofs.listing.compose_refused.Goals as goal
 
 pub returns : goal.returns

@@ -3,7 +3,6 @@ use mathlib.Core.Path.{sym, ◌∙◌}
 use Rattle.text.specs.Output.{no_pieces}
 use Rattle.text.proofs.Laws.Output.{same_bytes}
 use Rattle.filing.proofs.Laws.Listing.Steps.{folder-yes, folder-no}
-use borrow.Author.Rules.{rules}
 use Rattle.filing.proofs.listing.emit_folder.Goals as goal
 
 pub returns-then-folder_paths_matched : goal.returns-then-folder_paths_matched

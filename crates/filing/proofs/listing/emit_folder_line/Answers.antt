@@ -3,7 +3,6 @@ use Rattle.model.specs.Folders.{count_from}
 use Rattle.filing.proofs.Laws.Listing.Steps.{line-joined}
 use Rattle.notation.specs.Print.{footer, folder_word}
 use Rattle.text.proofs.Laws.Output.{one, and_then, same_bytes}
-use borrow.Author.Rules.{rules}
 use Rattle.filing.proofs.listing.emit_folder_line.Goals as goal
 
 pub returns : goal.returns

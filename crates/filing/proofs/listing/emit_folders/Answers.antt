@@ -1,12 +1,11 @@
 -- `listing::emit_folders`: after i turns the first i folders are listed.
 use native.Mathlib.Omega.{arith}
-use Prim.Native.Nat.{ℕ, ◌≤◌, ◌-◌}
+use Prim.Native.Nat.{ℕ}
 use native.Mathlib.Numerals.{add-one}
 use mathlib.Core.Path.{◌≡◌, sym, ◌∙◌, ap}
-use borrow.Author.Rules.{rules}
 use Rattle.model.specs.Folders.{count_from}
 use Rattle.stored.specs.HeldSet.{folders_held}
-use Rattle.text.specs.Output.{Adds, no_pieces}
+use Rattle.text.specs.Output.{no_pieces}
 use Rattle.filing.specs.Listed.{folders_listed}
 use Rattle.text.proofs.Laws.Output.{and_then, same_bytes, size}
 use Rattle.filing.proofs.Laws.Listing.Steps.{folders-more}

@@ -3,7 +3,6 @@ use mathlib.Core.Path.{sym, ◌∙◌}
 use Rattle.text.specs.Output.{no_pieces}
 use Rattle.text.proofs.Laws.Output.{same_bytes}
 use Rattle.filing.proofs.Laws.Listing.Steps.{path-yes, path-no}
-use borrow.Author.Rules.{rules}
 use Rattle.filing.proofs.listing.emit_if_matched.Goals as goal
 
 pub returns-then-place_matched : goal.returns-then-place_matched

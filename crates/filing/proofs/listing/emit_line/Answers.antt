@@ -5,7 +5,6 @@ use Rattle.stored.specs.HeldSet.{top_held}
 use Rattle.filing.specs.Listed.{line_at}
 use Rattle.text.specs.Output.{no_pieces}
 use Rattle.text.proofs.Laws.Output.{same_bytes}
-use borrow.Author.Rules.{rules}
 use Rattle.filing.proofs.listing.emit_line.Goals as goal
 
 pub emit_folder_line-requires : goal.emit_folder_line-requires

@@ -4,7 +4,6 @@ use Rattle.notation.specs.Print.{footer}
 use Rattle.filing.specs.Listing.{moves_word}
 use Rattle.text.specs.Output.{a_piece}
 use Rattle.text.proofs.Laws.Output.{one, and_then, same_bytes}
-use borrow.Author.Rules.{rules}
 use Rattle.filing.proofs.listing.emit_moves.Goals as goal
 
 pub returns : goal.returns

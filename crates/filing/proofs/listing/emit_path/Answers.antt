@@ -5,7 +5,6 @@ use mathlib.Core.Path.{ap}
 use Rattle.text.specs.Output.{a_piece}
 use Rattle.text.proofs.Laws.Output.{one, same_bytes}
 use Rattle.filing.specs.Listed.{path_listed}
-use borrow.Author.Rules.{rules}
 use Rattle.filing.proofs.listing.emit_path.Goals as goal
 
 pub returns : goal.returns

@@ -1,11 +1,10 @@
 -- `listing::emit_paths`: after i turns the first i places are listed.
 use native.Mathlib.Omega.{arith}
-use Prim.Native.Nat.{ℕ, ◌≤◌, ◌-◌}
+use Prim.Native.Nat.{ℕ}
 use native.Mathlib.Numerals.{add-one}
 use mathlib.Core.Path.{◌≡◌, sym, ◌∙◌, ap}
 use Rattle.model.specs.Folders.{count_from}
-use borrow.Author.Rules.{rules}
-use Rattle.text.specs.Output.{Adds, no_pieces}
+use Rattle.text.specs.Output.{no_pieces}
 use Rattle.filing.specs.Listed.{paths_listed}
 use Rattle.text.proofs.Laws.Output.{and_then, same_bytes, size}
 use Rattle.filing.proofs.Laws.Listing.Steps.{paths-more}

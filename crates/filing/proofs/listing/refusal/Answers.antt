@@ -5,7 +5,6 @@ use Rattle.notation.specs.Limits.{max_set_bytes}
 use Rattle.filing.specs.Limits.{max_moves_line, listing_size}
 use Rattle.text.proofs.Laws.Output.{kept}
 use Rattle.filing.proofs.Laws.Listing.Written.{out-short, lent-refused, dry-says}
-use borrow.Author.Rules.{rules}
 use Rattle.filing.proofs.listing.refusal.Goals as goal
 
 pub returns-then-size-lt-LISTING_SIZE : goal.returns-then-size-lt-LISTING_SIZE

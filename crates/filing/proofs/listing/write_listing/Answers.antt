@@ -3,7 +3,6 @@ use mathlib.Core.Path.{sym, ◌∙◌}
 use Rattle.text.proofs.Laws.Output.{refused-with, written_as}
 use Rattle.filing.specs.Listed.{listing_in, listing_conditions}
 use Rattle.filing.proofs.Laws.Listing.Written.{listing-room}
-use borrow.Author.Rules.{rules}
 use Rattle.filing.proofs.listing.write_listing.Goals as goal
 
 pub returns-then-refused-ne0 : goal.returns-then-refused-ne0

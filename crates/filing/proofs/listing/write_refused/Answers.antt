@@ -3,7 +3,6 @@ use native.Mathlib.Omega.{arith}
 use Rattle.notation.specs.Limits.{max_set_bytes}
 use Rattle.filing.specs.Limits.{max_moves_line, listing_size}
 use Rattle.filing.proofs.Laws.Listing.Written.{line-short, line-written}
-use borrow.Author.Rules.{rules}
 use Rattle.filing.proofs.listing.write_refused.Goals as goal
 
 pub returns-then-out-lt-LISTING_SIZE : goal.returns-then-out-lt-LISTING_SIZE

@@ -1,5 +1,4 @@
 -- `printing::file_and_list`: what filing left is listed.
-use borrow.Author.Rules.{rules}
 use Rattle.filing.proofs.printing.file_and_list.Goals as goal
 
 pub returns : goal.returns

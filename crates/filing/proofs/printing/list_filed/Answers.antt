@@ -1,6 +1,5 @@
 -- `printing::list_filed`: a refusal's line, or the listing.
 use Rattle.filing.proofs.Laws.Listing.Printing.{refused-listed, none-refused}
-use borrow.Author.Rules.{rules}
 use Rattle.filing.proofs.printing.list_filed.Goals as goal
 
 pub returns-then-refused-ne0 : goal.returns-then-refused-ne0

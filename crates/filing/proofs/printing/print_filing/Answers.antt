@@ -1,7 +1,6 @@
 -- `printing::print_filing`: a short buffer, or what is printed.
 use mathlib.Core.Path.{sym, ◌∙◌}
 use Rattle.filing.proofs.Laws.Listing.Printing.{too_small-is}
-use borrow.Author.Rules.{rules}
 use Rattle.filing.proofs.printing.print_filing.Goals as goal
 
 pub returns-then-too_small : goal.returns-then-too_small

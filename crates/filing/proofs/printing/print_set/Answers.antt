@@ -1,6 +1,5 @@
 -- `printing::print_set`: a set that is refused, or what is filed with it.
 use Rattle.filing.proofs.Laws.Listing.Printing.{set-refused, set-filed}
-use borrow.Author.Rules.{rules}
 use Rattle.filing.proofs.printing.print_set.Goals as goal
 
 pub returns-then-refused-ne0 : goal.returns-then-refused-ne0

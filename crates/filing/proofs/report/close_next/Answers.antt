@@ -1,5 +1,4 @@
 use Rattle.filing.proofs.Laws.Filing.Taking.{stops, taken_here, taken-on}
-use borrow.Author.Rules.{rules}
 use Rattle.filing.proofs.report.close_next.Goals as goal
 
 pub returns-then-refusal-ne0 : goal.returns-then-refusal-ne0

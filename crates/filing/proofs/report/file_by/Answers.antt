@@ -1,5 +1,4 @@
 use Rattle.filing.proofs.Laws.Filing.Taking.{filed-refused, filed-on, fresh-run}
-use borrow.Author.Rules.{rules}
 use Rattle.filing.proofs.report.file_by.Goals as goal
 
 pub returns-then-started-ne0 : goal.returns-then-started-ne0

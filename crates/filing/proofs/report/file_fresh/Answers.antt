@@ -1,5 +1,4 @@
 use mathlib.Core.Path.{refl, sym, ◌∙◌}
-use borrow.Author.Tests.{not-true, not-false}
 use Rattle.stored.specs.RunCalls.{no_counters}
 use Rattle.documents.specs.Limits.{max_report_bytes}
 use Rattle.filing.proofs.Laws.Filing.Taking.{left-refused, report-long, report-foreign, report-run}

@@ -1,5 +1,4 @@
 use Rattle.filing.proofs.Laws.Filing.Taking.{left-done, left-fresh}
-use borrow.Author.Rules.{rules}
 use Rattle.filing.proofs.report.fresh_after.Goals as goal
 
 pub returns-then-done-eq0 : goal.returns-then-done-eq0

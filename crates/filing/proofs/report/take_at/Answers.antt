@@ -1,6 +1,5 @@
 -- `report::take_at` meets its contract: each kind of token by what its calls say, a tag with its name cut from the report.
 use mathlib.Core.Path.{refl, sym, ◌∙◌}
-use borrow.Author.Rules.{rules}
 use Rattle.filing.specs.Code.Taking.{with_repeat}
 use Rattle.filing.proofs.Laws.Filing.Named.{named-token, name-cut}
 use Rattle.filing.proofs.Laws.Filing.Taking.{taken_here, repeat-answered, repeat-zero, stepped, tag-stepped}

@@ -1,5 +1,4 @@
 use Rattle.filing.proofs.Laws.Filing.Taking.{close-taken}
-use borrow.Author.Rules.{rules}
 use Rattle.filing.proofs.report.take_close.Goals as goal
 
 pub close_usable-done-requires : goal.close_usable-done-requires

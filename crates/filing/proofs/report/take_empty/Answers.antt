@@ -1,5 +1,4 @@
 use Rattle.filing.proofs.Laws.Filing.Taking.{taken-stops, taken-on, opened-usable}
-use borrow.Author.Rules.{rules}
 use Rattle.filing.proofs.report.take_empty.Goals as goal
 
 pub take_open-opened-requires : goal.take_open-opened-requires

@@ -1,6 +1,5 @@
 use mathlib.Core.Path.{refl, sym, ◌∙◌}
 use Rattle.filing.proofs.Laws.Filing.Taking.{goes_on, stops, end-rootless, end-open, end-well}
-use borrow.Author.Rules.{rules}
 use Rattle.filing.proofs.report.take_end.Goals as goal
 
 pub returns-then-before-ne0 : goal.returns-then-before-ne0

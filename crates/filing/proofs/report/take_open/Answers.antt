@@ -1,5 +1,4 @@
 use Rattle.filing.proofs.Laws.Filing.Taking.{open-taken}
-use borrow.Author.Rules.{rules}
 use Rattle.filing.proofs.report.take_open.Goals as goal
 
 pub open_usable-done-requires : goal.open_usable-done-requires

@@ -3,7 +3,6 @@ use Rattle.stored.specs.RunCalls.{no_counters}
 use Rattle.documents.specs.Reading.{read_report}
 use Rattle.filing.specs.Filing.{filed, and_then}
 use Rattle.filing.specs.Code.Taking.{file_last, run_from}
-use borrow.Author.Rules.{rules}
 use Rattle.filing.proofs.report.take_run.Goals as goal
 
 pub take_tokens-taken-requires : goal.take_tokens-taken-requires

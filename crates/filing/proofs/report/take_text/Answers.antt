@@ -1,6 +1,5 @@
 use mathlib.Core.Path.{refl, sym, ◌∙◌}
 use Rattle.filing.proofs.Laws.Filing.Taking.{stops, goes_on, text-blank, text-outside, text-inside}
-use borrow.Author.Rules.{rules}
 use Rattle.filing.proofs.report.take_text.Goals as goal
 
 pub returns-then-refusal-ne0 : goal.returns-then-refusal-ne0

@@ -1,10 +1,7 @@
 -- The loop's invariant: the tokens from here make of what was taken what all tokens make of the fresh run.
-use Prim.Native.Nat.{◌-◌, ◌≤◌}
 use native.Mathlib.Omega.{arith}
-use mathlib.Core.Path.{◌≡◌, refl, sym, ◌∙◌}
-use lib.ListN.{length}
-use borrow.Author.Rules.{rules}
-use Rattle.stored.specs.RunCalls.{start_run, no_counters}
+use mathlib.Core.Path.{refl, sym, ◌∙◌}
+use Rattle.stored.specs.RunCalls.{no_counters}
 use Rattle.documents.specs.Reading.{read_report}
 use Rattle.filing.specs.Filing.{filed}
 use Rattle.filing.specs.Code.Taking.{run_from}

@@ -1,13 +1,11 @@
 use Prim.Native.Nat.{◌-◌, ◌≤◌}
-use native.Mathlib.Omega.{arith}
-use mathlib.Core.Path.{◌≡◌, refl, sym, ◌∙◌}
+use mathlib.Core.Path.{◌≡◌}
 use lib.ListN.{length}
-use borrow.Author.Rules.{rules}
 use Rattle.stored.specs.RunCalls.{start_run, no_counters}
 use Rattle.documents.specs.Reading.{read_report}
 use Rattle.filing.specs.Filing.{filed}
 use Rattle.filing.specs.Code.Taking.{run_from}
-use Rattle.filing.proofs.Laws.Filing.Taking.{taken-end, fit-answered, Turn, turn-past, turn-taken}
+use Rattle.filing.proofs.Laws.Filing.Taking.{Turn}
 use Rattle.filing.proofs.report.take_tokens.Given as goal
 
 abbrev pub invariant-loop-i : goal.invariant-loop-i
