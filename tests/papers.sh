@@ -2,7 +2,7 @@
 # The requirements' own cases: the worked example, where filing errs, the edges of sizes and depth, files that are missing or cannot be read.
 set -uo pipefail
 cd "$(dirname "$0")/.."
-. tests/program.bash
+. tests/program.bash filer "$@"
 
 work=$(mktemp -d)
 trap 'rm -rf "$work"' EXIT

@@ -9,7 +9,7 @@ cd "$(dirname "$0")/.."
 need xmllint libxml2-utils
 need python3 python3
 
-. tests/program.bash
+. tests/program.bash filer "$@"
 
 tests=$PWD/tests/xpath
 work=$(mktemp -d)

@@ -242,9 +242,9 @@ def cases(count):
             yield text, one, None, "same"
 
 
-def main():
-    where, count = sys.argv[1], int(sys.argv[2])
-    for i, (text, one, peer, kind) in enumerate(cases(count)):
+def write(where, made):
+    """A folder for each case."""
+    for i, (text, one, peer, kind) in enumerate(made):
         own = os.path.join(where, "%05d" % i)
         os.mkdir(own)
         files = {"folders.txt": text, "report.xml": one, "expression": expression(text), "kind": kind.encode()}
@@ -255,4 +255,5 @@ def main():
                 out.write(what)
 
 
-main()
+if __name__ == "__main__":
+    write(sys.argv[1], cases(int(sys.argv[2])))
