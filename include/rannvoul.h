@@ -1,5 +1,5 @@
 /*
- * Rannvoul for programs in C: sets of folders, reports filed into them, listings.
+ * Rannvoul for programs in C: sets of folders, reports filed into them, listings and class sheets.
  *
  * Each call returns 0, or the number of a refusal (below); what it finds it puts behind its last pointer. A refusal leaves all as it was,
  * but for a report refused for its own contents or size (rannvoul_file). Any bytes, sizes and numbers are answered.
@@ -25,6 +25,7 @@ extern "C" {
 #define RANNVOUL_AUTOMATON_SIZE 65536
 #define RANNVOUL_RUN_SIZE 65536
 #define RANNVOUL_LISTING_SIZE 16406
+#define RANNVOUL_SHEET_SIZE 11972
 
 /* Most bytes of a set's text and of a report. */
 #define RANNVOUL_MAX_SET_BYTES 16384
@@ -84,6 +85,14 @@ uint8_t rannvoul_folder_matched(const uint8_t *automaton, size_t automaton_size,
  */
 uint8_t rannvoul_list(const uint8_t *automaton, size_t automaton_size, const uint8_t *run, size_t run_size,
                       const rannvoul_counters *counters, uint8_t *out, size_t out_size, size_t *length);
+
+/*
+ * Writes the class sheet of a run to the first bytes of out and its length behind length; no zero byte ends it. A page has a head line and
+ * 40 lines for as many matched paths, each of 72 bytes and a line feed; there are as few pages as can be, one at least. Refuses with 1 and
+ * 14, and writes nothing then. RANNVOUL_SHEET_SIZE is enough for every automaton and run.
+ */
+uint8_t rannvoul_sheet(const uint8_t *automaton, size_t automaton_size, const uint8_t *run, size_t run_size, uint8_t *out, size_t out_size,
+                       size_t *length);
 
 /*
  * Builds, files and lists in one call: writes what the filing program prints to the first bytes of out, and its length behind length. If

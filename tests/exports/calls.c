@@ -18,6 +18,7 @@ static uint8_t run[RANNVOUL_RUN_SIZE + 1];
 static uint8_t out[RANNVOUL_LISTING_SIZE + 1];
 static uint8_t strange[RANNVOUL_AUTOMATON_SIZE];
 static size_t size_a = RANNVOUL_AUTOMATON_SIZE, size_r = RANNVOUL_RUN_SIZE, size_o = RANNVOUL_LISTING_SIZE;
+static size_t size_s = RANNVOUL_SHEET_SIZE;
 static int count, wrong;
 
 static void is(const char *what, size_t got, size_t expected)
@@ -120,6 +121,42 @@ static void lists(const rannvoul_counters *c)
     holds("the listing", length, LISTING);
 }
 
+/* The sheet of the example: one page, of two rows. */
+static const char *sheet(void)
+{
+    static const char *const rows[] = {"   3  //clock/drift", "   3  /lock/*/drift"};
+    static char text[41 * 73 + 1];
+    int end = sprintf(text, "%-68s%4d\n", "FILED", 1);
+    for (int i = 0; i < 40; i++)
+        end += sprintf(text + end, "%-72s\n", i < 2 ? rows[i] : "");
+    return text;
+}
+
+/* How many bytes from a place on are not as they were. */
+static size_t changed(size_t from)
+{
+    size_t n = 0;
+    for (size_t i = from; i < sizeof out; i++)
+        n += out[i] != KEPT;
+    return n;
+}
+
+static void sheets(void)
+{
+    size_t length = KEPT;
+    memset(out, KEPT, sizeof out);
+    is("sheet, a byte short", rannvoul_sheet(automaton, size_a, run, size_r, out, size_s - 1, &length), RANNVOUL_SHORT_BUFFER);
+    is("sheet of a short run", rannvoul_sheet(automaton, size_a, run, size_r - 1, out, size_s, &length), RANNVOUL_SHORT_BUFFER);
+    is("sheet with a strange automaton", rannvoul_sheet(strange, size_a, run, size_r, out, size_s, &length), RANNVOUL_BAD_SHAPE);
+    is("sheet with a strange run", rannvoul_sheet(automaton, size_a, strange, size_r, out, size_s, &length), RANNVOUL_BAD_SHAPE);
+    is("all leave the length", length, KEPT);
+    is("all write nothing", changed(0), 0);
+    is("sheet", rannvoul_sheet(automaton, size_a, run, size_r, out, size_s, &length), 0);
+    is("the sheet's length", length, 2993);
+    holds("the sheet", length, sheet());
+    is("bytes past the sheet", changed(length), 0);
+}
+
 static void prints(const char *what, const char *set, const char *report, const char *text)
 {
     size_t length = KEPT;
@@ -140,6 +177,7 @@ int main(void)
     files(&counters);
     asks();
     lists(&counters);
+    sheets();
     prints("print", SET, REPORT, LISTING);
     prints("print of no set", "(folders", REPORT, "(refused 3)\n");
     prints("print of a crossed report", SET, "<a></b>", "(refused 12)\n");

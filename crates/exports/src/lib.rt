@@ -9,6 +9,7 @@ ghost use Rattle.stored.specs.Asking.{ask_path, ask_folder};
 ghost use Rattle.filing.specs.ReportRefusals.{Files};
 ghost use Rattle.filing.specs.Listed.{ListingWritten};
 ghost use Rattle.filing.specs.Filer.{Prints};
+ghost use Rattle.sheets.specs.SheetIn.{SheetWritten};
 ghost use Rattle.exports.specs.Told.{counters_in, MatchTold, LengthTold};
 
 use filing::listing::write_listing;
@@ -17,6 +18,7 @@ use filing::report::file_by;
 use machine::build::build;
 use machine::run::asking::{folder_matched, path_matched};
 use notation::{FolderNumber, PathPlace};
+use sheets::sheet::write_sheet;
 
 // Builds the automaton of a set's text.
 #[unsafe(no_mangle)]
@@ -83,6 +85,20 @@ pub extern "C" fn rannvoul_list(
     ensures { LengthTold (λ w. ListingWritten automaton.now run.now (counters_in counters.now) out.old w out.new) length.old result length.new }
 {
     let written = write_listing(automaton, run, told::counters_in(counters), out);
+    told::tell_length(written, length)
+}
+
+// Writes the class sheet of a run.
+#[unsafe(no_mangle)]
+pub extern "C" fn rannvoul_sheet(
+    automaton: &[u8],
+    run: &[u8],
+    out: &mut [u8],
+    length: &mut usize,
+) -> u8
+    ensures { LengthTold (λ w. SheetWritten automaton.now run.now out.old w out.new) length.old result length.new }
+{
+    let written = write_sheet(automaton, run, out);
     told::tell_length(written, length)
 }
 
