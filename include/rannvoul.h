@@ -9,7 +9,7 @@
  *
  * Stack: rannvoul_file and rannvoul_print take about 56 kB of it, whatever the report holds; the other calls take less than 4 kB.
  *
- * Contracts: crates/exports/src/lib.rt. Build: rt lib, in crates/exports; link crates/exports/out/libexports.a (x86-64).
+ * Contracts: crates/exports/src/lib.rt. Build: rt lib, in crates/exports_c, makes out/libexports_c.a; link it as libexports.a (x86-64).
  */
 #ifndef RANNVOUL_H
 #define RANNVOUL_H

@@ -12,14 +12,15 @@ work=$(mktemp -d)
 trap 'rm -rf "$work"' EXIT
 status=0
 
-(cd crates/exports && rt lib) >"$work/said" 2>&1 || { cat "$work/said"; echo 'exports is not proved and built: rt lib, in crates/exports'; exit 1; }
+(cd crates/exports_c && rt lib) >"$work/said" 2>&1 || { cat "$work/said"; echo 'exports_c is not proved and built: rt lib, in crates/exports_c'; exit 1; }
+cp crates/exports_c/out/libexports_c.a "$work/libexports.a" || exit 1
 
 # $1 names the program; the rest is the command that makes it.
 compile() {
     "${@:2}" -o "$work/$1" || { echo "exports: $1 does not compile"; exit 1; }
 }
 c=(gcc -std=c99 -Wall -Wextra -Werror -Iinclude)
-library=crates/exports/out/libexports.a
+library=$work/libexports.a
 compile c "${c[@]}" examples/c/file_report.c "$library"
 compile rust rustc --edition 2021 -L "${library%/*}" examples/rust/file_report.rs
 compile calls "${c[@]}" tests/exports/calls.c "$library"

@@ -1,5 +1,5 @@
-// The calls for programs in C and Rust; include/rannvoul.h declares them. Each returns 0 or the number of a refusal, and puts a value behind
-// a pointer.
+// The calls for programs in C and Rust; include/rannvoul.h declares them, and crate exports_c gives them their symbols. Each returns 0 or the
+// number of a refusal, and puts a value behind a pointer.
 #![tactic(auto)]
 
 mod told;
@@ -21,16 +21,14 @@ use notation::{FolderNumber, PathPlace};
 use sheets::sheet::write_sheet;
 
 // Builds the automaton of a set's text.
-#[unsafe(no_mangle)]
-pub extern "C" fn rannvoul_build(text: &[u8], automaton: &mut [u8]) -> u8
+pub fn rannvoul_build(text: &[u8], automaton: &mut [u8]) -> u8
     ensures { Built text.now automaton.old result automaton.new }
 {
     build(text, automaton)
 }
 
 // Files a report.
-#[unsafe(no_mangle)]
-pub extern "C" fn rannvoul_file(
+pub fn rannvoul_file(
     automaton: &[u8],
     run: &mut [u8],
     report: &[u8],
@@ -45,26 +43,14 @@ pub extern "C" fn rannvoul_file(
 }
 
 // Is a path matched, by its place among all paths of the set?
-#[unsafe(no_mangle)]
-pub extern "C" fn rannvoul_path_matched(
-    automaton: &[u8],
-    run: &[u8],
-    place: usize,
-    matched: &mut u8,
-) -> u8
+pub fn rannvoul_path_matched(automaton: &[u8], run: &[u8], place: usize, matched: &mut u8) -> u8
     ensures { MatchTold (ask_path automaton.now run.now (record { 0 = place })) matched.old result matched.new }
 {
     told::tell_match(path_matched(automaton, run, PathPlace(place)), matched)
 }
 
 // Is a folder matched, by its number?
-#[unsafe(no_mangle)]
-pub extern "C" fn rannvoul_folder_matched(
-    automaton: &[u8],
-    run: &[u8],
-    number: usize,
-    matched: &mut u8,
-) -> u8
+pub fn rannvoul_folder_matched(automaton: &[u8], run: &[u8], number: usize, matched: &mut u8) -> u8
     ensures { MatchTold (ask_folder automaton.now run.now (record { 0 = number })) matched.old result matched.new }
 {
     told::tell_match(
@@ -74,8 +60,7 @@ pub extern "C" fn rannvoul_folder_matched(
 }
 
 // Writes the listing of a run.
-#[unsafe(no_mangle)]
-pub extern "C" fn rannvoul_list(
+pub fn rannvoul_list(
     automaton: &[u8],
     run: &[u8],
     counters: &[usize; 3],
@@ -89,8 +74,7 @@ pub extern "C" fn rannvoul_list(
 }
 
 // Writes the class sheet of a run.
-#[unsafe(no_mangle)]
-pub extern "C" fn rannvoul_sheet(
+pub fn rannvoul_sheet(
     automaton: &[u8],
     run: &[u8],
     out: &mut [u8],
@@ -103,8 +87,7 @@ pub extern "C" fn rannvoul_sheet(
 }
 
 // Writes what a set and a report print, by the bytes of both.
-#[unsafe(no_mangle)]
-pub extern "C" fn rannvoul_print(
+pub fn rannvoul_print(
     text: &[u8],
     report: &[u8],
     automaton: &mut [u8],

@@ -2,6 +2,7 @@
 ghost use Rattle.std.specs.Prelude.{◌≡◌};
 ghost use Rattle.programs.specs.Shows.{size_of};
 
+use std::io;
 use text::written::Written;
 
 // In buffers of their sizes nothing is refused.
@@ -14,9 +15,7 @@ pub fn size_of(answer: Written) -> usize
     }
 }
 
-// Writes to standard output; a write that fails is told on standard error.
-pub fn print(rt: &(impl Print + Eprint), text: &[u8]) {
-    if let Err(why) = rt.write_all(text) {
-        let _ = eprintln!(rt; "standard output: {why}");
-    }
+// Writes to standard output.
+pub fn print(rt: &impl Print, text: &[u8]) -> io::Result<()> {
+    rt.write_all(text)
 }
