@@ -74,12 +74,7 @@ pub fn rannvoul_list(
 }
 
 // Writes the class sheet of a run.
-pub fn rannvoul_sheet(
-    automaton: &[u8],
-    run: &[u8],
-    out: &mut [u8],
-    length: &mut usize,
-) -> u8
+pub fn rannvoul_sheet(automaton: &[u8], run: &[u8], out: &mut [u8], length: &mut usize) -> u8
     ensures { LengthTold (λ w. SheetWritten automaton.now run.now out.old w out.new) length.old result length.new }
 {
     let written = write_sheet(automaton, run, out);
