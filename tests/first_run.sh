@@ -3,18 +3,21 @@
 # that only prints what rt prints.
 set -uo pipefail
 cd "$(dirname "$0")/.."
-(cd crates/filer && rt run) >/dev/null 2>&1 || { echo "filer is not proved and built: rt run, in crates/filer"; exit 1; }
+for program in filer sheet; do
+    (cd "crates/$program" && rt run) >/dev/null 2>&1 || { echo "$program is not proved and built: rt run, in crates/$program"; exit 1; }
+done
 
 work=$(mktemp -d)
 trap 'rm -rf "$work"' EXIT
 count=0
 wrong=0
 
-# Runs file-report of folder $2 on folder $3; it must end with $4, print $5 and say $6, a pattern. $1 names the case.
+# Runs file-report of folder $2 on folder $3; it must end with $4, print $5 and say $6, a pattern. $1 names the case, and $option is one of file-report's.
+option=
 runs() {
     local printed said status
     count=$((count + 1))
-    printed=$("$2/file-report" "$3" 2>"$work/said")
+    printed=$("$2/file-report" ${option:+"$option"} "$3" 2>"$work/said")
     status=$?
     said=$(cat "$work/said")
     # shellcheck disable=SC2053
@@ -48,6 +51,11 @@ refused 10 '(folder 1 (/a))' '<a>' '*not closed'
 refused 11 '(folder 1 (/a))' "$(times '<a>' 65)" '*are nested'
 refused 12 '(folder 1 (/a))' '<a></b>' '*innermost element'
 refused 15 '(folder 1 (/a))' "<a b='' b=''/>" '*attributes of the same name'
+
+option=--sheet
+runs 'a class sheet' . crates/sheet/data 0 "$(cat crates/sheet/stdout)" ''
+refused 12 '(folder 1 (/a))' '<a></b>' '*innermost element'
+option=
 
 rm "$work/report.xml"
 mkdir "$work/report.xml"
