@@ -3,7 +3,7 @@ import pathlib
 import re
 import sys
 
-ABOVE = ("filing", "sheets", "programs", "filer", "sheet", "exports", "cases_filing", "cases_machine", "cases_runs", "cases_sheet")
+ABOVE = ("filing", "sheets", "programs", "filer", "sheet", "exports", "exports_c", "cases_filing", "cases_machine", "cases_runs", "cases_sheet")
 # Sizes of buffers, and the refusals of calls, which are orders of conditions.
 OPEN = {"automaton_size", "run_size", "start_refusal", "open_refusal", "close_refusal", "ask_refusal", "name_refusal", "ask_path", "ask_folder", "ask_step", "ask_prefix"}
 USED = re.compile(r"^(?:pub |unfoldable |ghost )*use Rattle\.stored\.specs\.[\w.]+\.\{([^}]*)\}", re.M)

@@ -1,5 +1,5 @@
 // Reading whole files into buffers: one, and the two that a program files by.
-ghost use Rattle.std.specs.Prelude.{◌≡◌, ◌≤◌, ◌<◌, ◌↔◌, length, take, IfOk};
+ghost use Rattle.std.specs.Prelude.{ℕ, ◌≡◌, ◌≤◌, ◌<◌, ◌↔◌, length, take, IfOk};
 ghost use Rattle.std.specs.IoError.{error_kind};
 ghost use Rattle.std.specs.Io.KnownBytes.{Consumes, IsAtEnd};
 ghost use Rattle.programs.specs.Within.{Within, BothWithin};
@@ -40,32 +40,44 @@ fn read_all<R: io::Read>(from: &mut R, buf: &mut [u8]) -> io::Result<usize>
     Ok(n)
 }
 
-fn read_named(rt: &impl Files, name: &str, buf: &mut [u8]) -> io::Result<usize>
-    ensures { IfOk result (λ n. n ≤ length buf.new) }
+// What failed is told on standard error.
+fn failed(rt: &impl Eprint, name: &str, why: Error) -> Read
+    ensures { result ≡ Read.Failed }
 {
-    let mut file = File::open(rt, name)?;
-    read_all(&mut file, buf)
+    let _ = eprintln!(rt; "{name}: {why}");
+    Read::Failed
 }
 
-// A missing file reads as an empty one. Any other failure is told on standard error.
-fn unread(rt: &impl Eprint, name: &str, why: Error) -> Read
+// A missing file reads as an empty one.
+fn unopened(rt: &impl Eprint, name: &str, why: Error) -> Read
     ensures within { Within result 0 }
     ensures missing { result ≡ Read.Bytes 0 ↔ error_kind why ≡ ErrorKind.NotFound }
 {
     if why.kind() == ErrorKind::NotFound {
         return Read::Bytes(0);
     }
-    let _ = eprintln!(rt; "{name}: {why}");
-    Read::Failed
+    failed(rt, name, why)
+}
+
+// Reads what is open. A read that fails, for whatever reason, is no missing file.
+fn read_opened<R: io::Read>(rt: &impl Eprint, from: &mut R, name: &str, buf: &mut [u8]) -> Read
+    ensures within { Within result (length buf.new) }
+    ensures bytes { (n : ℕ) → result ≡ Read.Bytes n → Consumes (R.remaining from.old) (R.remaining from.new) (take n buf.new) }
+    ensures whole { (n : ℕ) → result ≡ Read.Bytes n → n < length buf.new → IsAtEnd (R.remaining from.new) }
+{
+    match read_all(from, buf) {
+        Ok(n) => Read::Bytes(n),
+        Err(why) => failed(rt, name, why),
+    }
 }
 
 // Reads the named file into a buffer; what fails is told on standard error.
 pub fn read_file(rt: &(impl Files + Eprint), name: &str, buf: &mut [u8]) -> Read
     ensures { Within result (length buf.new) }
 {
-    match read_named(rt, name, buf) {
-        Ok(n) => Read::Bytes(n),
-        Err(why) => unread(rt, name, why),
+    match File::open(rt, name) {
+        Ok(mut file) => read_opened(rt, &mut file, name, buf),
+        Err(why) => unopened(rt, name, why),
     }
 }
 
