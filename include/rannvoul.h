@@ -7,7 +7,7 @@
  * What the caller owes: no pointer is null, even where its size is 0, each buffer has at least the size passed with it, and what a call writes overlaps none of its
  * other arguments. Calls keep nothing between them, so they may run at the same time if none writes what another uses.
  *
- * Stack: rannvoul_file and rannvoul_print take about 56 kB of it, whatever the report holds; the other calls take less than 4 kB.
+ * Stack: rannvoul_file and rannvoul_print take about 54 kB of it, whatever the report holds; the other calls take less than 4 kB.
  *
  * Contracts: crates/exports/src/lib.rt. Build: rt lib, in crates/exports_c, makes out/libexports_c.a; link it as libexports.a (x86-64).
  */
