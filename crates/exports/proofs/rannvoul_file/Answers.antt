@@ -2,5 +2,5 @@
 use Rattle.exports.proofs.rannvoul_file.Goals as goal
 
 pub returns : goal.returns
-returns c = let f = c in
-    rw c.put_counters.ensures (rw f.counters_in.ensures at f.file_by-done.ensures)
+returns c =
+    rw c.put_counters.ensures (rw c.counters_in.ensures at c.file_by-done.ensures)

@@ -2,9 +2,9 @@
 use Rattle.exports.proofs.rannvoul_list.Goals as goal
 
 pub returns : goal.returns
-returns c = let w = c in
+returns c =
     record {
-      written = w.write_listing-written.result;
-      writes = rw w.counters_in.ensures at w.write_listing-written.ensures;
+      written = c.write_listing-written.result;
+      writes = rw c.counters_in.ensures at c.write_listing-written.ensures;
       told = c.tell_length.ensures;
     }

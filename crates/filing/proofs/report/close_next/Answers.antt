@@ -5,7 +5,7 @@ pub returns-then-refusal-ne0 : goal.returns-then-refusal-ne0
 returns-then-refusal-ne0 c = λ o t. taken_here _ _ _ _ _ (stops o _ _ _ t _ c.if-refusal-ne0.true)
 
 pub take_close-requires : goal.take_close-requires
-take_close-requires c = let p = c in (p.requires.0 c.if-refusal-ne0.false, p.requires.1)
+take_close-requires c = (c.requires.0 c.if-refusal-ne0.false, c.requires.1)
 
 pub returns : goal.returns
 returns c = λ o t. taken-on _ _ o _ _ _ _ _ _ _ (taken_here _ _ _ _ _ t) c.if-refusal-ne0.false c.take_close.ensures

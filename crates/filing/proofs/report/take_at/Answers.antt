@@ -7,21 +7,18 @@ use Rattle.filing.proofs.report.take_at.Goals as goal
 
 pub slice_bounds-open_next-count : goal.slice_bounds-open_next-count
 slice_bounds-open_next-count c =
-    let t = c in
-    let args = t.args in
-    (name-cut args.s.now args.at _ (sym t.token_at.ensures ∙ c.in-Start.is)).low
+    let args = c.args in
+    (name-cut args.s.now args.at _ (sym c.token_at.ensures ∙ c.in-Start.is)).low
 
 pub slice_bounds-open_next-start : goal.slice_bounds-open_next-start
 slice_bounds-open_next-start c =
-    let t = c in
-    let args = t.args in
-    (name-cut args.s.now args.at _ (sym t.token_at.ensures ∙ c.in-Start.is)).low
+    let args = c.args in
+    (name-cut args.s.now args.at _ (sym c.token_at.ensures ∙ c.in-Start.is)).low
 
 pub slice_bounds-open_next-end : goal.slice_bounds-open_next-end
 slice_bounds-open_next-end c =
-    let t = c in
-    let args = t.args in
-    (name-cut args.s.now args.at _ (sym t.token_at.ensures ∙ c.in-Start.is)).high
+    let args = c.args in
+    (name-cut args.s.now args.at _ (sym c.token_at.ensures ∙ c.in-Start.is)).high
 
 pub open_next-requires : goal.open_next-requires
 open_next-requires c =
@@ -32,21 +29,18 @@ open_next-requires c =
 
 pub slice_bounds-close_next-count : goal.slice_bounds-close_next-count
 slice_bounds-close_next-count c =
-    let t = c in
-    let args = t.args in
-    (name-cut args.s.now args.at _ (sym t.token_at.ensures ∙ c.in-End.is)).low
+    let args = c.args in
+    (name-cut args.s.now args.at _ (sym c.token_at.ensures ∙ c.in-End.is)).low
 
 pub slice_bounds-close_next-start : goal.slice_bounds-close_next-start
 slice_bounds-close_next-start c =
-    let t = c in
-    let args = t.args in
-    (name-cut args.s.now args.at _ (sym t.token_at.ensures ∙ c.in-End.is)).low
+    let args = c.args in
+    (name-cut args.s.now args.at _ (sym c.token_at.ensures ∙ c.in-End.is)).low
 
 pub slice_bounds-close_next-end : goal.slice_bounds-close_next-end
 slice_bounds-close_next-end c =
-    let t = c in
-    let args = t.args in
-    (name-cut args.s.now args.at _ (sym t.token_at.ensures ∙ c.in-End.is)).high
+    let args = c.args in
+    (name-cut args.s.now args.at _ (sym c.token_at.ensures ∙ c.in-End.is)).high
 
 pub close_next-requires : goal.close_next-requires
 close_next-requires c =
@@ -57,21 +51,18 @@ close_next-requires c =
 
 pub slice_bounds-empty_next-count : goal.slice_bounds-empty_next-count
 slice_bounds-empty_next-count c =
-    let t = c in
-    let args = t.args in
-    (name-cut args.s.now args.at _ (sym t.token_at.ensures ∙ c.in-Empty.is)).low
+    let args = c.args in
+    (name-cut args.s.now args.at _ (sym c.token_at.ensures ∙ c.in-Empty.is)).low
 
 pub slice_bounds-empty_next-start : goal.slice_bounds-empty_next-start
 slice_bounds-empty_next-start c =
-    let t = c in
-    let args = t.args in
-    (name-cut args.s.now args.at _ (sym t.token_at.ensures ∙ c.in-Empty.is)).low
+    let args = c.args in
+    (name-cut args.s.now args.at _ (sym c.token_at.ensures ∙ c.in-Empty.is)).low
 
 pub slice_bounds-empty_next-end : goal.slice_bounds-empty_next-end
 slice_bounds-empty_next-end c =
-    let t = c in
-    let args = t.args in
-    (name-cut args.s.now args.at _ (sym t.token_at.ensures ∙ c.in-Empty.is)).high
+    let args = c.args in
+    (name-cut args.s.now args.at _ (sym c.token_at.ensures ∙ c.in-Empty.is)).high
 
 pub empty_next-requires : goal.empty_next-requires
 empty_next-requires c =
@@ -85,24 +76,21 @@ returns-in-Text c = tag-stepped _ _ _ _ _ _ _ _ _ _ _ (sym c.token_at.ensures �
 
 pub returns-in-Start : goal.returns-in-Start
 returns-in-Start c =
-    let t = c in
-    let args = t.args in
-    let is = sym t.token_at.ensures ∙ c.in-Start.is in
+    let args = c.args in
+    let is = sym c.token_at.ensures ∙ c.in-Start.is in
     let twice = c.in-Start.twice in
     tag-stepped _ _ _ _ _ _ _ _ _ _ _ is _ (name-cut args.s.now args.at _ is).part _ _ (λ o h. c.open_next.ensures (with_repeat twice o) (repeat-answered twice o _ _ _ _ c.with_repeat.ensures h)) c.step_to.ensures
 
 pub returns-in-End : goal.returns-in-End
 returns-in-End c =
-    let t = c in
-    let args = t.args in
-    let is = sym t.token_at.ensures ∙ c.in-End.is in
+    let args = c.args in
+    let is = sym c.token_at.ensures ∙ c.in-End.is in
     tag-stepped _ _ _ _ _ _ _ _ _ _ _ is _ (name-cut args.s.now args.at _ is).part _ _ c.close_next.ensures c.step_to-in-End.ensures
 
 pub returns-in-Empty : goal.returns-in-Empty
 returns-in-Empty c =
-    let t = c in
-    let args = t.args in
-    let is = sym t.token_at.ensures ∙ c.in-Empty.is in
+    let args = c.args in
+    let is = sym c.token_at.ensures ∙ c.in-Empty.is in
     let twice = c.in-Empty.twice in
     tag-stepped _ _ _ _ _ _ _ _ _ _ _ is _ (name-cut args.s.now args.at _ is).part _ _ (λ o h. c.empty_next.ensures (with_repeat twice o) (repeat-answered twice o _ _ _ _ c.with_repeat-in-Empty.ensures h)) c.step_to-in-Empty.ensures
 

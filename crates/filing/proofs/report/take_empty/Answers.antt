@@ -9,8 +9,7 @@ returns-then-opened-ne0 c = taken-stops _ _ _ _ _ _ _ c.take_open-opened.ensures
 
 pub take_close-requires : goal.take_close-requires
 take_close-requires c =
-    let p = c in
-    (opened-usable _ _ _ _ _ _ _ c.take_open-opened.ensures p.requires.0 c.if-opened-ne0.false, p.requires.1)
+    (opened-usable _ _ _ _ _ _ _ c.take_open-opened.ensures c.requires.0 c.if-opened-ne0.false, c.requires.1)
 
 pub returns : goal.returns
 returns c = taken-on _ _ _ _ _ _ _ _ _ _ c.take_open-opened.ensures c.if-opened-ne0.false c.take_close.ensures

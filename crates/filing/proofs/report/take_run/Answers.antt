@@ -15,9 +15,8 @@ fresh_after-requires c = omega (arith, c.take_tokens-taken.auto.run, c.requires.
 
 pub returns : goal.returns
 returns c =
-    let b = c in
     let t = c.take_tokens-taken in
     let d = c.take_end-ended in
     let f = c.fresh_after in
-    let o = run_from b.args.a.now (filed (record { bytes = b.args.run.now; counters = no_counters })) (read_report b.args.s.now) in
-    rw (t.ensures.restarts, b.requires.1) at (f.ensures (and_then o file_last) (d.ensures o t.ensures.answered))
+    let o = run_from c.args.a.now (filed (record { bytes = c.args.run.now; counters = no_counters })) (read_report c.args.s.now) in
+    rw (t.ensures.restarts, c.requires.1) at (f.ensures (and_then o file_last) (d.ensures o t.ensures.answered))

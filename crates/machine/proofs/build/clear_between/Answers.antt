@@ -15,5 +15,5 @@ between from to xs ys h k e =
     rw (e, all, d, append-nil, Post-is from to xs h)
 
 pub returns : goal.returns
-returns c = let a = c in
-    between a.args.from a.args.to a.args.part.now _ a.requires.0 a.requires.1 c.clear.ensures
+returns c =
+    between c.args.from c.args.to c.args.part.now _ c.requires.0 c.requires.1 c.clear.ensures

@@ -5,23 +5,23 @@ use native.Mathlib.Omega.{arith}
 use Rattle.machine.proofs.build.make.Goals as goal
 
 pub chain-requires : goal.chain-requires
-chain-requires c = let a = c in (
-  cleared-read-in a.args.part.now a.requires _ c.clear_tables.ensures,
-  omega (arith, c.clear_tables.auto.part, a.requires.room),
+chain-requires c = (
+  cleared-read-in c.args.part.now c.requires _ c.clear_tables.ensures,
+  omega (arith, c.clear_tables.auto.part, c.requires.room),
 )
 
 pub group-requires : goal.group-requires
 group-requires c = omega (arith, c.chain.auto.part, c.clear_tables.auto.part, c.requires.room)
 
 pub parents-requires : goal.parents-requires
-parents-requires c = let a = c in (
-  groups-read-in a.args.part.now a.requires _ _ _ c.clear_tables.ensures c.chain.ensures c.group.ensures,
-  omega (arith, c.group.auto.part, c.chain.auto.part, c.clear_tables.auto.part, a.requires.room),
+parents-requires c = (
+  groups-read-in c.args.part.now c.requires _ _ _ c.clear_tables.ensures c.chain.ensures c.group.ensures,
+  omega (arith, c.group.auto.part, c.chain.auto.part, c.clear_tables.auto.part, c.requires.room),
 )
 
 pub fails-requires : goal.fails-requires
-fails-requires c = let a = c in
-    parents-read-in a.args.part.now a.requires _ _ _ _ c.clear_tables.ensures c.chain.ensures c.group.ensures c.parents.ensures
+fails-requires c =
+    parents-read-in c.args.part.now c.requires _ _ _ _ c.clear_tables.ensures c.chain.ensures c.group.ensures c.parents.ensures
 
 pub returns : goal.returns
 unfolding made

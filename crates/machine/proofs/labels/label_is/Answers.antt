@@ -41,11 +41,11 @@ unfolding max_labels automaton_size
 word-requires-2 c = omega (arith, c.requires.0, c.requires.1.0)
 
 pub text_is-requires : goal.text_is-requires
-text_is-requires c = let b = c in
-    (holds-set b.args.a.now b.requires.0, (c.word.ensures.1, c.word-2.ensures.1))
+text_is-requires c =
+    (holds-set c.args.a.now c.requires.0, (c.word.ensures.1, c.word-2.ensures.1))
 
 pub returns : goal.returns
 unfolding label_at labels_at label_size
-returns c = let b = c in
-    let t = there b.args.a.now b.requires.0 b.args.l b.requires.1.0 b.requires.1.1 in
+returns c =
+    let t = there c.args.a.now c.requires.0 c.args.l c.requires.1.0 c.requires.1.1 in
     rw (t, sym c.word.ensures.0, sym c.word-2.ensures.0) c.text_is.ensures

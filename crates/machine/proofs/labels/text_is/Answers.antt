@@ -26,24 +26,24 @@ long a at size h in-room = ap length (whole a at size h in-room) ∙ length-take
 
 pub returns-then-at-size-gt-MAX_SET_BYTES : goal.returns-then-at-size-gt-MAX_SET_BYTES
 unfolding max_set_bytes
-returns-then-at-size-gt-MAX_SET_BYTES c = let b = c in
-    let out : max_set_bytes < b.args.at + b.args.size = c.if-at-size-gt-MAX_SET_BYTES.true in
-    rw (none b.args.a.now b.args.at b.args.size b.requires.0 out) c.same_name.ensures
+returns-then-at-size-gt-MAX_SET_BYTES c =
+    let out : max_set_bytes < c.args.at + c.args.size = c.if-at-size-gt-MAX_SET_BYTES.true in
+    rw (none c.args.a.now c.args.at c.args.size c.requires.0 out) c.same_name.ensures
 
 pub returns-then-size-e : goal.returns-then-size-e
 unfolding max_set_bytes
-returns-then-size-e c = let b = c in
-    let in-room : b.args.at + b.args.size ≤ max_set_bytes = c.if-at-size-gt-MAX_SET_BYTES.false in
-    sym (unequal-length _ _ (λ q. c.if-size-e.true (sym (long b.args.a.now b.args.at b.args.size b.requires.0 in-room) ∙ q)))
+returns-then-size-e c =
+    let in-room : c.args.at + c.args.size ≤ max_set_bytes = c.if-at-size-gt-MAX_SET_BYTES.false in
+    sym (unequal-length _ _ (λ q. c.if-size-e.true (sym (long c.args.a.now c.args.at c.args.size c.requires.0 in-room) ∙ q)))
 
 pub slice_bounds-same_name-end-2 : goal.slice_bounds-same_name-end-2
 unfolding set_size
-slice_bounds-same_name-end-2 c = let b = c in
-    omega (arith, b.requires.0, c.if-at-size-gt-MAX_SET_BYTES.false)
+slice_bounds-same_name-end-2 c =
+    omega (arith, c.requires.0, c.if-at-size-gt-MAX_SET_BYTES.false)
 
 pub returns : goal.returns
 unfolding max_set_bytes text_at
-returns c = let b = c in
-    let in-room : b.args.at + b.args.size ≤ max_set_bytes = c.if-at-size-gt-MAX_SET_BYTES.false in
-    let n : text_at + b.args.at + b.args.size - (text_at + b.args.at) ≡ b.args.size = omega arith in
-    rw (whole b.args.a.now b.args.at b.args.size b.requires.0 in-room) (rw n at c.same_name-2.ensures)
+returns c =
+    let in-room : c.args.at + c.args.size ≤ max_set_bytes = c.if-at-size-gt-MAX_SET_BYTES.false in
+    let n : text_at + c.args.at + c.args.size - (text_at + c.args.at) ≡ c.args.size = omega arith in
+    rw (whole c.args.a.now c.args.at c.args.size c.requires.0 in-room) (rw n at c.same_name-2.ensures)

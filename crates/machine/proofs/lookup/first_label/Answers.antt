@@ -9,8 +9,7 @@ use Rattle.machine.proofs.lookup.first_label.Goals as goal
 
 pub returns-then-k-eq0 : goal.returns-then-k-eq0
 returns-then-k-eq0 c =
-    let b = c in
-    (sym (first-none b.args.a.now b.args.e.now (sym c.look_up-k.ensures.0 ∙ c.if-k-eq0.true)), omega arith)
+    (sym (first-none c.args.a.now c.args.e.now (sym c.look_up-k.ensures.0 ∙ c.if-k-eq0.true)), omega arith)
 
 pub overflow_mul-k : goal.overflow_mul-k
 unfolding max_labels
@@ -26,14 +25,13 @@ overflow_add-k-2 c = omega (arith, c.look_up-k.ensures.1, c.requires.0.lookable.
 
 pub word-requires : goal.word-requires
 unfolding max_labels automaton_size
-word-requires c = let b = c in
-    omega (arith, c.look_up-k.ensures.1, c.if-k-eq0.false, b.requires.0.lookable.few, b.requires.1.1)
+word-requires c =
+    omega (arith, c.look_up-k.ensures.1, c.if-k-eq0.false, c.requires.0.lookable.few, c.requires.1.1)
 
 pub returns : goal.returns
 unfolding links_at link_size
 returns c =
-    let b = c in
-    let a = b.args.a.now in
-    let e = b.args.e.now in
+    let a = c.args.a.now in
+    let e = c.args.e.now in
     let r : c.word.result ≡ first_of a e = c.word.ensures.0 ∙ sym (first-at a e c.look_up-k.result c.look_up-k.ensures.0 c.if-k-eq0.false) in
-    (r, rw r (first-within a b.requires.0 e))
+    (r, rw r (first-within a c.requires.0 e))

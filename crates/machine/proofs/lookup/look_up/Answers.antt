@@ -20,30 +20,28 @@ overflow_add-h c = omega (arith, hash-small c.args.e.now, c.requires.1.0)
 
 pub word-k-requires : goal.word-k-requires
 unfolding hashes automaton_size
-word-k-requires c = let b = c in
-    omega (arith, hash-small b.args.e.now, b.requires.1.0, b.requires.1.1)
+word-k-requires c =
+    omega (arith, hash-small c.args.e.now, c.requires.1.0, c.requires.1.1)
 
 pub loop-k-init : goal.loop-k-init
 unfolding look_up heads_at
 loop-k-init c =
-    let b = c in
-    let a = b.args.a.now in
-    let e = b.args.e.now in
-    let hh : b.args.h ≡ hash e = b.requires.1.0 in
+    let a = c.args.a.now in
+    let e = c.args.e.now in
+    let hh : c.args.h ≡ hash e = c.requires.1.0 in
     let r : c.word-k.result ≡ head_at a (hash e) = rw hh at c.word-k.ensures.0 in
-    (rw r (b.requires.0.head (hash e) (hash-small e)), sym (ap (look_from max_labels a e) r))
+    (rw r (c.requires.0.head (hash e) (hash-small e)), sym (ap (look_from max_labels a e) r))
 
 pub label_is-requires : goal.label_is-requires
-label_is-requires c = let b = c in
-    let l = low b.args.a.now c.loop-k.k c.loop-k-test.true c.loop-k.invariant.0 in
-    (b.requires.1.1, (omega (arith, l, b.requires.0.few), l))
+label_is-requires c =
+    let l = low c.args.a.now c.loop-k.k c.loop-k-test.true c.loop-k.invariant.0 in
+    (c.requires.1.1, (omega (arith, l, c.requires.0.few), l))
 
 pub returns-then-label_is : goal.returns-then-label_is
 returns-then-label_is c =
-    let b = c in
     let turn = c.loop-k in
     let t = sym c.label_is.ensures ∙ c.if-label_is.true in
-    (sym (turn.invariant.1 ∙ look-found b.args.a.now b.requires.0 b.args.e.now turn.k c.loop-k-test.true turn.invariant.0 t), turn.invariant.0)
+    (sym (turn.invariant.1 ∙ look-found c.args.a.now c.requires.0 c.args.e.now turn.k c.loop-k-test.true turn.invariant.0 t), turn.invariant.0)
 
 pub overflow_mul-k : goal.overflow_mul-k
 unfolding max_labels
@@ -59,33 +57,32 @@ overflow_add-k-in-loop-k c = omega arith
 
 pub word-k-requires-in-loop-k : goal.word-k-requires-in-loop-k
 unfolding max_labels automaton_size
-word-k-requires-in-loop-k c = let b = c in
-    omega (arith, c.loop-k.invariant.0, b.requires.0.few, b.requires.1.1)
+word-k-requires-in-loop-k c =
+    omega (arith, c.loop-k.invariant.0, c.requires.0.few, c.requires.1.1)
 
 pub loop-k-smaller : goal.loop-k-smaller
 unfolding links_at link_size
-loop-k-smaller c = let b = c in
-    let a = b.args.a.now in
+loop-k-smaller c =
+    let a = c.args.a.now in
     let turn = c.loop-k in
     let z = c.loop-k-test.true in
     let r : c.word-k-in-loop-k.result ≡ other_at a (turn.k - 1) = c.word-k-in-loop-k.ensures.0 in
-    rw r (rises a turn.k z turn.invariant.0 (other_at a (turn.k - 1)) (b.requires.0.other (turn.k - 1) (low a turn.k z turn.invariant.0)))
+    rw r (rises a turn.k z turn.invariant.0 (other_at a (turn.k - 1)) (c.requires.0.other (turn.k - 1) (low a turn.k z turn.invariant.0)))
 
 pub loop-k-preserved : goal.loop-k-preserved
 unfolding links_at link_size
-loop-k-preserved c = let b = c in
-    let a = b.args.a.now in
-    let e = b.args.e.now in
+loop-k-preserved c =
+    let a = c.args.a.now in
+    let e = c.args.e.now in
     let turn = c.loop-k in
     let k = turn.k in
     let z = c.loop-k-test.true in
     let r : c.word-k-in-loop-k.result ≡ other_at a (k - 1) = c.word-k-in-loop-k.ensures.0 in
     let t = sym c.label_is.ensures ∙ c.if-label_is.false in
-    (rw r (b.requires.0.other (k - 1) (low a k z turn.invariant.0)).within, turn.invariant.1 ∙ look-further a b.requires.0 e k z turn.invariant.0 t ∙ sym (ap (look_from max_labels a e) r))
+    (rw r (c.requires.0.other (k - 1) (low a k z turn.invariant.0)).within, turn.invariant.1 ∙ look-further a c.requires.0 e k z turn.invariant.0 t ∙ sym (ap (look_from max_labels a e) r))
 
 pub returns : goal.returns
 returns c =
-    let b = c in
-    let a = b.args.a.now in
-    let e = b.args.e.now in
+    let a = c.args.a.now in
+    let e = c.args.e.now in
     (sym (c.loop-k.invariant.1 ∙ ap (look_from max_labels a e) c.loop-k-test.false ∙ look-end max_labels a e), omega arith)

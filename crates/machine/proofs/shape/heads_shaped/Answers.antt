@@ -41,8 +41,7 @@ pub loop-h-preserved : goal.loop-h-preserved
 unfolding hashes heads_at
 loop-h-preserved c =
     let turn = c.loop-h in
-    let start = c in
-    (omega arith, all-next turn.h (head_shaped start.args.a.now) (leb-by c.larger-most.ensures refl ∙ max-within turn.most c.word.result start.args.top) turn.invariant.1 (leb-by c.word.ensures.0 start.requires.1.1))
+    (omega arith, all-next turn.h (head_shaped c.args.a.now) (leb-by c.larger-most.ensures refl ∙ max-within turn.most c.word.result c.args.top) turn.invariant.1 (leb-by c.word.ensures.0 c.requires.1.1))
 
 pub overflow_cast-result : goal.overflow_cast-result
 unfolding max_labels

@@ -14,5 +14,4 @@ overflow_add-l c = omega arith
 
 pub returns : goal.returns
 returns c =
-    let start = c in
-    rw (ne_eqb start.args.k 0 c.if-k-eq0.false, ← add-one start.args.l, ← start.requires.1) c.both.ensures
+    rw (ne_eqb c.args.k 0 c.if-k-eq0.false, ← add-one c.args.l, ← c.requires.1) c.both.ensures

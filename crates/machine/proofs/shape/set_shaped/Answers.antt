@@ -23,24 +23,24 @@ unfolding automaton_size
 word-requires c = omega arith
 
 pub folders_shaped-requires : goal.folders_shaped-requires
-folders_shaped-requires c = let start = c in
-    let counts = counts-is start.args.a.now start.requires.1 in
+folders_shaped-requires c =
+    let counts = counts-is c.args.a.now c.requires.1 in
     search rules
 
 pub returns-then-not-folders_shaped : goal.returns-then-not-folders_shaped
 returns-then-not-folders_shaped c = rw (fails_by c.folders_shaped.ensures c.if-not-folders_shaped.true-raw)
 
 pub paths_shaped-requires : goal.paths_shaped-requires
-paths_shaped-requires c = let start = c in
-    let counts = counts-is start.args.a.now start.requires.1 in
+paths_shaped-requires c =
+    let counts = counts-is c.args.a.now c.requires.1 in
     search rules
 
 pub returns-then-not-paths_shaped : goal.returns-then-not-paths_shaped
 returns-then-not-paths_shaped c = rw (passes-by c.folders_shaped.ensures c.if-not-folders_shaped.false-raw, fails_by c.paths_shaped.ensures c.if-not-paths_shaped.true-raw)
 
 pub steps_shaped-requires : goal.steps_shaped-requires
-steps_shaped-requires c = let start = c in
-    let counts = counts-is start.args.a.now start.requires.1 in
+steps_shaped-requires c =
+    let counts = counts-is c.args.a.now c.requires.1 in
     search rules
 
 pub returns-then-not-steps_shaped : goal.returns-then-not-steps_shaped
@@ -51,8 +51,8 @@ unfolding automaton_size
 word-requires-2 c = omega arith
 
 pub labels_shaped-requires : goal.labels_shaped-requires
-labels_shaped-requires c = let start = c in
-    let counts = counts-is start.args.a.now start.requires.1 in
+labels_shaped-requires c =
+    let counts = counts-is c.args.a.now c.requires.1 in
     search rules
 
 pub returns : goal.returns

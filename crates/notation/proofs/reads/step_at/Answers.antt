@@ -11,8 +11,7 @@ overflow_add-i c = omega (arith, c.has.ensures.1 c.if-has.true)
 pub returns-then-has : goal.returns-then-has
 unfolding step_at max_paths max_steps steps_at
 returns-then-has c =
-    let h = c in
-    rw (← h.steps.ensures.0, ← h.has.ensures.0, c.if-has.true, ← c.byte_at-kind.ensures.0)
+    rw (← c.steps.ensures.0, ← c.has.ensures.0, c.if-has.true, ← c.byte_at-kind.ensures.0)
 
 pub returns-else-has : goal.returns-else-has
 unfolding step_at max_paths max_steps

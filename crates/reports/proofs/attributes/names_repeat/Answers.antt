@@ -7,14 +7,12 @@ use Rattle.reports.proofs.attributes.names_repeat.Goals as goal
 
 pub returns-then-count-lt2 : goal.returns-then-count-lt2
 returns-then-count-lt2 c =
-    let start = c in
-    judged-few start.args.s.now start.args.at _ start.requires.1 c.if-count-lt2.true
+    judged-few c.args.s.now c.args.at _ c.requires.1 c.if-count-lt2.true
 
 pub returns-then-s-gt-MAX_REPORT : goal.returns-then-s-gt-MAX_REPORT
 unfolding max_report_bytes
 returns-then-s-gt-MAX_REPORT c =
-    let start = c in
-    judged-long start.args.s.now start.args.at _ start.requires.1 c.if-s-gt-MAX_REPORT.true
+    judged-long c.args.s.now c.args.at _ c.requires.1 c.if-s-gt-MAX_REPORT.true
 
 pub overflow_cast-p : goal.overflow_cast-p
 overflow_cast-p c = omega (arith, c.type_inv.places 0)
@@ -25,19 +23,17 @@ overflow_cast-q c = omega (arith, c.type_inv.places 1)
 pub returns-then-count-eq2 : goal.returns-then-count-eq2
 unfolding max_report_bytes
 returns-then-count-eq2 c =
-    let start = c in
     let short = c.if-s-gt-MAX_REPORT.false in
     let two = c.if-count-eq2.true in
-    judged-by start.args.s.now start.args.at _ start.requires.1 short _
-    (both-noted start.args.s.now start.args.at _ start.requires.1 short start.args.places.now (omega (arith, start.requires.2)) two (start.requires.3 short (omega (arith, two, start.requires.2))) _ c.same_names.ensures)
+    judged-by c.args.s.now c.args.at _ c.requires.1 short _
+    (both-noted c.args.s.now c.args.at _ c.requires.1 short c.args.places.now (omega (arith, c.requires.2)) two (c.requires.3 short (omega (arith, two, c.requires.2))) _ c.same_names.ensures)
 
 pub returns-then-count-le-FEW : goal.returns-then-count-le-FEW
 unfolding max_report_bytes
 returns-then-count-le-FEW c =
-    let start = c in
     let short = c.if-s-gt-MAX_REPORT.false in
-    judged-by start.args.s.now start.args.at _ start.requires.1 short _
-    (c.sort_front.ensures ∙ ap repeated (start.requires.3 short (omega (arith, c.if-count-le-FEW.true, start.requires.2))))
+    judged-by c.args.s.now c.args.at _ c.requires.1 short _
+    (c.sort_front.ensures ∙ ap repeated (c.requires.3 short (omega (arith, c.if-count-le-FEW.true, c.requires.2))))
 
 pub some-requires : goal.some-requires
 unfolding max_report_bytes
@@ -48,18 +44,15 @@ some-requires c =
 pub returns-then-count-le-SOME : goal.returns-then-count-le-SOME
 unfolding max_report_bytes
 returns-then-count-le-SOME c =
-    let start = c in
-    judged-by start.args.s.now start.args.at _ start.requires.1 c.if-s-gt-MAX_REPORT.false _ c.some.ensures
+    judged-by c.args.s.now c.args.at _ c.requires.1 c.if-s-gt-MAX_REPORT.false _ c.some.ensures
 
 pub many-requires : goal.many-requires
 unfolding max_report_bytes
 many-requires c =
-    let start = c in
     let short = c.if-s-gt-MAX_REPORT.false in
-    (start.requires.0, short, start.requires.1, omega (arith, names-bytes start.args.s.now start.args.at, start.requires.1, short))
+    (c.requires.0, short, c.requires.1, omega (arith, names-bytes c.args.s.now c.args.at, c.requires.1, short))
 
 pub returns : goal.returns
 unfolding max_report_bytes
 returns c =
-    let start = c in
-    judged-by start.args.s.now start.args.at _ start.requires.1 c.if-s-gt-MAX_REPORT.false _ c.many.ensures
+    judged-by c.args.s.now c.args.at _ c.requires.1 c.if-s-gt-MAX_REPORT.false _ c.many.ensures

@@ -18,24 +18,20 @@ returns-then-a-eq0 c = sym (c.loop-p.invariant ∙ both_end c.args.s.now c.loop-
 
 pub overflow_add-i : goal.overflow_add-i
 overflow_add-i c =
-    let turn = c in
-    let on = both-on turn.args.s.now turn.loop-p.i turn.loop-p.j c.name_byte-a.ensures c.name_byte-b.ensures c.if-a-b.false c.if-b-a.false c.if-a-eq0.false in
+    let on = both-on c.args.s.now c.loop-p.i c.loop-p.j c.name_byte-a.ensures c.name_byte-b.ensures c.if-a-b.false c.if-b-a.false c.if-a-eq0.false in
     omega (arith, on.0)
 
 pub overflow_add-j : goal.overflow_add-j
 overflow_add-j c =
-    let turn = c in
-    let on = both-on turn.args.s.now turn.loop-p.i turn.loop-p.j c.name_byte-a.ensures c.name_byte-b.ensures c.if-a-b.false c.if-b-a.false c.if-a-eq0.false in
+    let on = both-on c.args.s.now c.loop-p.i c.loop-p.j c.name_byte-a.ensures c.name_byte-b.ensures c.if-a-b.false c.if-b-a.false c.if-a-eq0.false in
     omega (arith, on.1)
 
 pub loop-p-smaller : goal.loop-p-smaller
 loop-p-smaller c =
-    let turn = c in
-    let on = both-on turn.args.s.now turn.loop-p.i turn.loop-p.j c.name_byte-a.ensures c.name_byte-b.ensures c.if-a-b.false c.if-b-a.false c.if-a-eq0.false in
+    let on = both-on c.args.s.now c.loop-p.i c.loop-p.j c.name_byte-a.ensures c.name_byte-b.ensures c.if-a-b.false c.if-b-a.false c.if-a-eq0.false in
     omega (arith, on.0)
 
 pub loop-p-preserved : goal.loop-p-preserved
 loop-p-preserved c =
-    let turn = c in
-    let on = both-on turn.args.s.now turn.loop-p.i turn.loop-p.j c.name_byte-a.ensures c.name_byte-b.ensures c.if-a-b.false c.if-b-a.false c.if-a-eq0.false in
-    turn.loop-p.invariant ∙ on.2
+    let on = both-on c.args.s.now c.loop-p.i c.loop-p.j c.name_byte-a.ensures c.name_byte-b.ensures c.if-a-b.false c.if-b-a.false c.if-a-eq0.false in
+    c.loop-p.invariant ∙ on.2

@@ -17,13 +17,11 @@ returns-then-b-ge128 c = sym (c.loop-i.invariant.0 ∙ span-no in_name _ _ c.loo
 
 pub returns-then-classes-k-gt-DOT : goal.returns-then-classes-k-gt-DOT
 returns-then-classes-k-gt-DOT c =
-    let l = c in
-    sym (l.loop-i.invariant.0 ∙ span-no in_name _ _ c.loop-i-test.true (entry-no _ _ l.loop-i.invariant.1 c.if-b-ge128.false c.if-classes-k-gt-DOT.true))
+    sym (c.loop-i.invariant.0 ∙ span-no in_name _ _ c.loop-i-test.true (entry-no _ _ c.loop-i.invariant.1 c.if-b-ge128.false c.if-classes-k-gt-DOT.true))
 
 pub loop-i-preserved : goal.loop-i-preserved
 loop-i-preserved c =
-    let l = c in
-    (l.loop-i.invariant.0 ∙ span-yes in_name _ _ c.loop-i-test.true (entry-yes _ _ l.loop-i.invariant.1 c.if-b-ge128.false c.if-classes-k-gt-DOT.false), l.loop-i.invariant.1)
+    (c.loop-i.invariant.0 ∙ span-yes in_name _ _ c.loop-i-test.true (entry-yes _ _ c.loop-i.invariant.1 c.if-b-ge128.false c.if-classes-k-gt-DOT.false), c.loop-i.invariant.1)
 
 pub returns : goal.returns
 returns c = sym (c.loop-i.invariant.0 ∙ span-end in_name _ _ c.loop-i-test.false)

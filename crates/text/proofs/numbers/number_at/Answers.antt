@@ -20,8 +20,7 @@ overflow_cast-b c = omega (arith, c.type_inv.s c.loop-i.i)
 pub returns-then-not-between : goal.returns-then-not-between
 unfolding digit
 returns-then-not-between c =
-    let l = c in
-    foreign _ _ _ _ _ l.loop-i.invariant c.loop-i-test.true (sym c.between.ensures ∙ c.if-not-between.true)
+    foreign _ _ _ _ _ c.loop-i.invariant c.loop-i-test.true (sym c.between.ensures ∙ c.if-not-between.true)
 
 pub overflow_sub-d : goal.overflow_sub-d
 unfolding digit
@@ -30,23 +29,20 @@ overflow_sub-d c = (digit-is _ (sym c.between.ensures ∙ c.if-not-between.false
 pub returns-then-most-d : goal.returns-then-most-d
 unfolding digit
 returns-then-most-d c =
-    let l = c in
-    over _ _ _ _ _ l.loop-i.invariant c.loop-i-test.true (sym c.between.ensures ∙ c.if-not-between.false)
+    over _ _ _ _ _ c.loop-i.invariant c.loop-i-test.true (sym c.between.ensures ∙ c.if-not-between.false)
     (omega arith)
 
 pub returns-then-most-d-2 : goal.returns-then-most-d-2
 unfolding digit
 returns-then-most-d-2 c =
-    let l = c in
-    over _ _ _ _ _ l.loop-i.invariant c.loop-i-test.true
+    over _ _ _ _ _ c.loop-i.invariant c.loop-i-test.true
     (sym c.between.ensures ∙ c.if-not-between.false)
     (omega arith)
 
 pub loop-i-preserved : goal.loop-i-preserved
 unfolding digit
 loop-i-preserved c =
-    let l = c in
-    onwards _ _ _ _ _ l.loop-i.invariant c.loop-i-test.true
+    onwards _ _ _ _ _ c.loop-i.invariant c.loop-i-test.true
     (sym c.between.ensures ∙ c.if-not-between.false)
     (omega arith)
 

@@ -23,8 +23,7 @@ none_left l a e = rw e
 
 pub loop-l-init : goal.loop-l-init
 loop-l-init c =
-    let start = c in
-    (c.label_count-l.ensures.1, refl, rw c.label_count-l.ensures.0 start.requires.0, ap (λ (n : ℕ). chained n start.args.part.now) c.label_count-l.ensures.0)
+    (c.label_count-l.ensures.1, refl, rw c.label_count-l.ensures.0 c.requires.0, ap (λ (n : ℕ). chained n c.args.part.now) c.label_count-l.ensures.0)
 
 pub link_label-requires : goal.link_label-requires
 link_label-requires c = let l = c.loop-l in (omega arith, ((ready l.l l.part (omega arith) l.invariant.2).0, omega arith))

@@ -30,26 +30,23 @@ first_label-first-requires c = let p = c.requires in (p.0.walkable.searchable, (
 
 pub fail_of-requires : goal.fail_of-requires
 fail_of-requires c =
-    let b = c in
-    let g : Growing b.args.a.now = b.requires.0 in
-    (omega (arith, c.link_field-parent.ensures.0, g.parent b.args.l b.requires.1, g.walkable.searchable.lookable.few), g.room)
+    let g : Growing c.args.a.now = c.requires.0 in
+    (omega (arith, c.link_field-parent.ensures.0, g.parent c.args.l c.requires.1, g.walkable.searchable.lookable.few), g.room)
 
 pub walk_from-requires : goal.walk_from-requires
 walk_from-requires c =
-    let b = c in
-    let a = b.args.a.now in
-    let l = b.args.l in
-    let g : Growing a = b.requires.0 in
+    let a = c.args.a.now in
+    let l = c.args.l in
+    let g : Growing a = c.requires.0 in
     let p : c.link_field-parent.result ≡ parent_at a l = c.link_field-parent.ensures.0 in
     let f : c.fail_of.result ≡ fail_of a (parent_at a l) = c.fail_of.ensures ∙ ap (fail_of a) p in
-    (g.walkable, (rw f (fail-state a g.walkable.falling (parent_at a l) (g.parent l b.requires.1)), (c.first_label-first.ensures.1, g.room)))
+    (g.walkable, (rw f (fail-state a g.walkable.falling (parent_at a l) (g.parent l c.requires.1)), (c.first_label-first.ensures.1, g.room)))
 
 pub returns : goal.returns
 unfolding fail_to
 returns c =
-    let b = c in
-    let a = b.args.a.now in
-    let l = b.args.l in
+    let a = c.args.a.now in
+    let l = c.args.l in
     let p : c.link_field-parent.result ≡ parent_at a l = c.link_field-parent.ensures.0 in
     let z : parent_at a l ≡ 0 → ⊥ = λ e. c.if-parent-eq0.false (p ∙ e) in
     let f : c.fail_of.result ≡ fail_of a (parent_at a l) = c.fail_of.ensures ∙ ap (fail_of a) p in

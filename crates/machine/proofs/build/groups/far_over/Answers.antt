@@ -33,5 +33,4 @@ returns-then-on c =
 
 pub returns : goal.returns
 returns c =
-    let start = c in
-    rw c.if-on.false (sym (ends start.args.part.now start.args.k), start.requires)
+    rw c.if-on.false (sym (ends c.args.part.now c.args.k), c.requires)

@@ -38,8 +38,8 @@ unfolding max_labels
 store_word-requires c = (c.if-l-ge-MAX_LABELS.false, c.requires.1.0, c.requires.1.1)
 
 pub follow-requires : goal.follow-requires
-follow-requires c = let b = c in
-    (subst Searchable (sym c.store_word.ensures) (searchable-stored b.args.at.labels b.args.at.state b.args.part.now b.requires.0), omega (arith, c.store_word.auto.part, b.requires.1.1))
+follow-requires c =
+    (subst Searchable (sym c.store_word.ensures) (searchable-stored c.args.at.labels c.args.at.state c.args.part.now c.requires.0), omega (arith, c.store_word.auto.part, c.requires.1.1))
 
 pub returns : goal.returns
 unfolding max_labels

@@ -16,10 +16,10 @@ returns-then-refused-ne0 c = let b = c.args in
     rw (← e) (sym (said-refused c.ask_refusal-refused.result _ c.if-refused-ne0.true))
 
 pub bit_active-requires : goal.bit_active-requires
-bit_active-requires c = let b = c in
-    let e : ask_refusal b.args.a.now b.args.run.now (within 1 b.args.steps b.args.s) ≡ 0 = sym (c.ask_refusal-refused.ensures ∙ ap (ask_refusal b.args.a.now b.args.run.now) c.between.ensures) ∙ c.if-refused-ne0.false in
-    let m = may-ask b.args.a.now b.args.run.now (within 1 b.args.steps b.args.s) e in
-    (m.0, (b.requires.0, omega (arith, step-low b.args.steps b.args.s m.1, b.requires.1)))
+bit_active-requires c =
+    let e : ask_refusal c.args.a.now c.args.run.now (within 1 c.args.steps c.args.s) ≡ 0 = sym (c.ask_refusal-refused.ensures ∙ ap (ask_refusal c.args.a.now c.args.run.now) c.between.ensures) ∙ c.if-refused-ne0.false in
+    let m = may-ask c.args.a.now c.args.run.now (within 1 c.args.steps c.args.s) e in
+    (m.0, (c.requires.0, omega (arith, step-low c.args.steps c.args.s m.1, c.requires.1)))
 
 pub returns : goal.returns
 returns c = let b = c.args in

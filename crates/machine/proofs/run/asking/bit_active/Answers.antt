@@ -7,8 +7,8 @@ use Rattle.stored.proofs.Laws.Shapes.RunShape.{run-shape}
 use Rattle.machine.proofs.run.asking.bit_active.Goals as goal
 
 pub row_at-at-requires : goal.row_at-at-requires
-row_at-at-requires c = let b = c in
-    omega (arith, c.depth.ensures.0, (run-shape b.args.a.now b.args.run.now b.requires.0.run_is_shaped).deepest)
+row_at-at-requires c =
+    omega (arith, c.depth.ensures.0, (run-shape c.args.a.now c.args.run.now c.requires.0.run_is_shaped).deepest)
 
 pub bit_in-requires : goal.bit_in-requires
 unfolding row_size run_size

@@ -36,8 +36,7 @@ bounds-out-j-2 c = omega (arith, c.word-bits.ensures.1, c.requires.0)
 pub returns : goal.returns
 unfolding links_at link_size mask_size max_paths max_steps
 returns c =
-    let start = c in
-    let out = start.args.out.now in
+    let out = c.args.out.now in
     let w = c.word-bits.result in
-    λ i. bits-joined out (w / 256) (w % 256) (omega (arith, c.word-bits.ensures.1, start.requires.0)) i
+    λ i. bits-joined out (w / 256) (w % 256) (omega (arith, c.word-bits.ensures.1, c.requires.0)) i
     ∙ ap (λ (n : ℕ). bit_at out i || (eqb (n / 256) (i / 8) && bit_of (n % 256) (i % 8))) c.word-bits.ensures.0

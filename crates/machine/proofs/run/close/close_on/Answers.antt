@@ -24,9 +24,9 @@ clear_from-requires-3 c = omega (arith, c.requires.0, c.row_at-at.ensures.1, c.c
 
 pub returns : goal.returns
 unfolding mask_size active_in seen_in
-returns c = let b = c in
-    let R = b.args.run.now in
+returns c =
+    let R = c.args.run.now in
     let d = c.depth_in-d in
     let r = c.row_at-at in
-    let fits : r.result + row_size ≤ length b.args.run.now = omega (arith, b.requires.0, r.ensures.1) in
+    let fits : r.result + row_size ≤ length c.args.run.now = omega (arith, c.requires.0, r.ensures.1) in
     closed R c.clear_from.new.row c.clear_from-2.new.row c.put_word.new.part c.clear_from-3.new.row d.result r.result d.ensures.0 r.ensures.0 fits c.clear_from.ensures c.clear_from-2.ensures c.put_word.ensures c.clear_from-3.ensures

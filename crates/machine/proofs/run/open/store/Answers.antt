@@ -17,8 +17,8 @@ slice_bounds-write_row-end c = omega arith
 
 pub write_row-requires : goal.write_row-requires
 unfolding row_size run_size
-write_row-requires c = let b = c in
-    (row-width b.args.run.now c.row_at-at.result (omega arith), b.requires.1.1)
+write_row-requires c =
+    (row-width c.args.run.now c.row_at-at.result (omega arith), c.requires.1.1)
 
 pub returns : goal.returns
 unfolding row_size

@@ -12,8 +12,8 @@ use Rattle.machine.proofs.run.open.write.Goals as goal
 
 pub flag_labels-requires : goal.flag_labels-requires
 unfolding mask_size
-flag_labels-requires c = let b = c in
-    (omega arith, (b.requires.openable.0, rw b.requires.first_value.0 (first-within b.args.a.now b.requires.openable.0.walkable.searchable b.args.e.now)))
+flag_labels-requires c =
+    (omega arith, (c.requires.openable.0, rw c.requires.first_value.0 (first-within c.args.a.now c.requires.openable.0.walkable.searchable c.args.e.now)))
 
 pub store_bits-requires : goal.store_bits-requires
 unfolding mask_size
@@ -30,13 +30,13 @@ put_word-requires c = omega (arith, c.requires.openable.1.0, c.store.auto, c.sto
 
 pub returns : goal.returns
 unfolding mask_size
-returns c = let b = c in
-    let A = b.args.a.now in
-    let R = b.args.run.now in
-    let E = b.args.e.now in
-    let p = b.requires in
+returns c =
+    let A = c.args.a.now in
+    let R = c.args.run.now in
+    let E = c.args.e.now in
+    let p = c.requires in
     let u = c.used_blocks in
-    let fits : row_at (suc b.args.d) + row_size ≤ length b.args.run.now = row_room b.args.d b.args.run.now p.openable.1.1.0 p.openable.1.0 in
+    let fits : row_at (suc c.args.d) + row_size ≤ length c.args.run.now = row_room c.args.d c.args.run.now p.openable.1.1.0 p.openable.1.0 in
     c.put_word.ensures
     ∙ rw (c.store_bits.ensures, c.store.ensures)
-    (opened A R E c.flag_labels.new.out b.args.d (16 * u.result) b.args.state (λ j. rw p.first_value.0 at (c.flag_labels.ensures j)) u.ensures.0 (used-room A p.openable.0.steps) p.first_value.1.0 p.first_value.1.1 p.openable.1.1.1 fits)
+    (opened A R E c.flag_labels.new.out c.args.d (16 * u.result) c.args.state (λ j. rw p.first_value.0 at (c.flag_labels.ensures j)) u.ensures.0 (used-room A p.openable.0.steps) p.first_value.1.0 p.first_value.1.1 p.openable.1.1.1 fits)

@@ -21,8 +21,8 @@ returns-then-d-eq0 c = let b = c.args in
     rw (close-named b.run.now b.e.now (sym c.length_refusal-first.ensures ∙ c.if-first-ne0.false), ← c.depth_in-d.ensures.0, eq-eqb _ _ c.if-d-eq0.true)
 
 pub stored_name-requires : goal.stored_name-requires
-stored_name-requires c = let b = c in
-    (b.requires.0, omega (arith, c.depth_in-d.ensures.0))
+stored_name-requires c =
+    (c.requires.0, omega (arith, c.depth_in-d.ensures.0))
 
 pub returns-then-not-same_name : goal.returns-then-not-same_name
 unfolding given first

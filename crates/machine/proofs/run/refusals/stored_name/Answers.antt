@@ -9,17 +9,17 @@ use Rattle.stored.proofs.Laws.Shapes.RunShape.{run-shape}
 use Rattle.machine.proofs.run.refusals.stored_name.Goals as goal
 
 pub row_at-from-requires : goal.row_at-from-requires
-row_at-from-requires c = let b = c in
-    omega (arith, (run-shape b.args.a.now b.args.run.now b.requires.0.run_is_shaped).deepest)
+row_at-from-requires c =
+    omega (arith, (run-shape c.args.a.now c.args.run.now c.requires.0.run_is_shaped).deepest)
 
 pub name_length-requires : goal.name_length-requires
-name_length-requires c = let b = c in
-    omega (arith, (run-shape b.args.a.now b.args.run.now b.requires.0.run_is_shaped).deepest)
+name_length-requires c =
+    omega (arith, (run-shape c.args.a.now c.args.run.now c.requires.0.run_is_shaped).deepest)
 
 pub slice_bounds-result-end : goal.slice_bounds-result-end
 unfolding row_size run_size max_name
-slice_bounds-result-end c = let b = c in
-    omega (arith, (run-shape b.args.a.now b.args.run.now b.requires.0.run_is_shaped).name b.args.d b.requires.1, b.requires.0.run_length)
+slice_bounds-result-end c =
+    omega (arith, (run-shape c.args.a.now c.args.run.now c.requires.0.run_is_shaped).name c.args.d c.requires.1, c.requires.0.run_length)
 
 pub returns : goal.returns
 unfolding name_in

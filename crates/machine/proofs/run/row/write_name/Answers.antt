@@ -23,8 +23,8 @@ bounds-row-0 c = omega (arith, c.requires.1)
 
 pub put-requires-2 : goal.put-requires-2
 unfolding row_size
-put-requires-2 c = let b = c in
-    omega (arith, b.requires.1, c.put.auto, length-set b.args.row.now 0 (length b.args.e.now))
+put-requires-2 c =
+    omega (arith, c.requires.1, c.put.auto, length-set c.args.row.now 0 (length c.args.e.now))
 
 pub shape_of-row : goal.shape_of-row
 shape_of-row c = let a = c.args in
@@ -32,6 +32,6 @@ shape_of-row c = let a = c.args in
 
 pub returns : goal.returns
 unfolding max_name name_in
-returns c = let b = c in
-    let a = b.args in
-    c.put-2.ensures ∙ ap (λ (l : List ℕ). sets (set a.row.now 0 (length a.e.now)) name_in l) c.put.ensures ∙ name-written a.row.now a.e.now b.requires.0
+returns c =
+    let a = c.args in
+    c.put-2.ensures ∙ ap (λ (l : List ℕ). sets (set a.row.now 0 (length a.e.now)) name_in l) c.put.ensures ∙ name-written a.row.now a.e.now c.requires.0

@@ -19,6 +19,6 @@ clear_from-requires-2 c = omega (arith, c.requires.0, c.write_name.auto, c.clear
 
 pub returns : goal.returns
 unfolding state_in active_in seen_in mask_size
-returns c = let b = c in
-    let a = b.args in
-    c.clear_from-2.ensures ∙ rw (c.put_word.ensures, c.clear_from.ensures, c.write_name.ensures) (row_written a.row.now a.e.now a.state b.requires.0 b.requires.1)
+returns c =
+    let a = c.args in
+    c.clear_from-2.ensures ∙ rw (c.put_word.ensures, c.clear_from.ensures, c.write_name.ensures) (row_written a.row.now a.e.now a.state c.requires.0 c.requires.1)

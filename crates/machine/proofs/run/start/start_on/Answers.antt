@@ -11,7 +11,7 @@ use Rattle.machine.proofs.run.start.start_on.Goals as goal
 
 pub returns : goal.returns
 unfolding rows_at row_size state_in start_at
-returns c = let b = c in
+returns c =
     c.put16.ensures ∙ ap (λ (l : List ℕ). sets l (row_at 0 + state_in) (le16 c.word_at.result)) c.clear_run.ensures
-    ∙ ap (λ (n : ℕ). sets (replicate run_size 0 ++ drop run_size b.args.run.now) (row_at 0 + state_in) (le16 n)) c.word_at.ensures.0
-    ∙ started b.args.a.now b.args.run.now
+    ∙ ap (λ (n : ℕ). sets (replicate run_size 0 ++ drop run_size c.args.run.now) (row_at 0 + state_in) (le16 n)) c.word_at.ensures.0
+    ∙ started c.args.a.now c.args.run.now

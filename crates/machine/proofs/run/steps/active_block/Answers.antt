@@ -15,14 +15,14 @@ unfolding mask_size
 overflow_add-i c = omega (arith, c.requires.automaton_size_in_bounds.1.1.1.1)
 
 pub active_before-x-requires : goal.active_before-x-requires
-active_before-x-requires c = let b = c in
-    let p = b.requires.automaton_size_in_bounds in
-    record { run_size_in_bounds = (p.1.0, (p.1.1.1.0, omega (arith, p.1.1.1.1))); edge_bound = (c.loop-j-test.element_fits.fits, b.requires.by_index c.loop-j.j (omega arith)) }
+active_before-x-requires c =
+    let p = c.requires.automaton_size_in_bounds in
+    record { run_size_in_bounds = (p.1.0, (p.1.1.1.0, omega (arith, p.1.1.1.1))); edge_bound = (c.loop-j-test.element_fits.fits, c.requires.by_index c.loop-j.j (omega arith)) }
 
 pub seen_before-y-requires : goal.seen_before-y-requires
-seen_before-y-requires c = let b = c in
-    let p = b.requires.automaton_size_in_bounds in
-    record { run_size_in_bounds = (p.1.0, (p.1.1.1.0, omega (arith, p.1.1.1.1))); edge_bound = (c.loop-j-test.element_fits.fits, b.requires.by_index c.loop-j.j (omega arith)) }
+seen_before-y-requires c =
+    let p = c.requires.automaton_size_in_bounds in
+    record { run_size_in_bounds = (p.1.0, (p.1.1.1.0, omega (arith, p.1.1.1.1))); edge_bound = (c.loop-j-test.element_fits.fits, c.requires.by_index c.loop-j.j (omega arith)) }
 
 pub active_byte-requires : goal.active_byte-requires
 active_byte-requires c = let p = c.requires.automaton_size_in_bounds in

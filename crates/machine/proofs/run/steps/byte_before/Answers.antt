@@ -13,6 +13,6 @@ unfolding mask_size run_size
 overflow_add-base c = omega arith
 
 pub returns : goal.returns
-returns c = let b = c in
-    let a = b.args in
-    (c.both.ensures.0, before-edge a.run.now a.base a.j (bit_of c.both.result 7) (bit_of a.edge 7) (c.both.ensures.1 7 ∙ ap (λ (n : ℕ). bit_of n 7 && bit_of a.edge 7) c.byte.ensures.0) b.requires.edge_bound.1)
+returns c =
+    let a = c.args in
+    (c.both.ensures.0, before-edge a.run.now a.base a.j (bit_of c.both.result 7) (bit_of a.edge 7) (c.both.ensures.1 7 ∙ ap (λ (n : ℕ). bit_of n 7 && bit_of a.edge 7) c.byte.ensures.0) c.requires.edge_bound.1)

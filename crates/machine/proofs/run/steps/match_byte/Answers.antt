@@ -11,8 +11,8 @@ use Rattle.machine.proofs.run.steps.match_byte.Goals as goal
 
 pub bits_byte-requires : goal.bits_byte-requires
 unfolding mask_size run_size
-bits_byte-requires c = let b = c in
-    (omega arith, (b.requires.1.0, b.requires.1.1.0))
+bits_byte-requires c =
+    (omega arith, (c.requires.1.0, c.requires.1.1.0))
 
 pub returns : goal.returns
 unfolding matches_at

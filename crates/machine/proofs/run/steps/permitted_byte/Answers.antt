@@ -16,8 +16,8 @@ overflow_add-at c = omega arith
 
 pub shifted_byte-requires : goal.shifted_byte-requires
 unfolding row_size run_size mask_size active_in
-shifted_byte-requires c = let b = c in
-    record { mask_size_bound = (omega arith, (b.requires.automaton_size_in_bounds.1.0, b.requires.automaton_size_in_bounds.1.1.1)); before_bound = (b.requires.x_bound.0, b.requires.x_bound.1 ∙ ap (λ (n : ℕ). shifted (bit_in b.args.run.now (n + active_in)) (8 * b.args.j)) (sym c.row_at-at.ensures.0)) }
+shifted_byte-requires c =
+    record { mask_size_bound = (omega arith, (c.requires.automaton_size_in_bounds.1.0, c.requires.automaton_size_in_bounds.1.1.1)); before_bound = (c.requires.x_bound.0, c.requires.x_bound.1 ∙ ap (λ (n : ℕ). shifted (bit_in c.args.run.now (n + active_in)) (8 * c.args.j)) (sym c.row_at-at.ensures.0)) }
 
 pub overflow_add-at-2 : goal.overflow_add-at-2
 unfolding row_size run_size
@@ -25,13 +25,13 @@ overflow_add-at-2 c = omega arith
 
 pub shifted_byte-requires-2 : goal.shifted_byte-requires-2
 unfolding row_size run_size mask_size seen_in
-shifted_byte-requires-2 c = let b = c in
-    record { mask_size_bound = (omega arith, (b.requires.automaton_size_in_bounds.1.0, b.requires.automaton_size_in_bounds.1.1.1)); before_bound = (b.requires.y_bound.0, b.requires.y_bound.1 ∙ ap (λ (n : ℕ). shifted (bit_in b.args.run.now (n + seen_in)) (8 * b.args.j)) (sym c.row_at-at.ensures.0)) }
+shifted_byte-requires-2 c =
+    record { mask_size_bound = (omega arith, (c.requires.automaton_size_in_bounds.1.0, c.requires.automaton_size_in_bounds.1.1.1)); before_bound = (c.requires.y_bound.0, c.requires.y_bound.1 ∙ ap (λ (n : ℕ). shifted (bit_in c.args.run.now (n + seen_in)) (8 * c.args.j)) (sym c.row_at-at.ensures.0)) }
 
 pub returns : goal.returns
 unfolding permitted active_in seen_in
-returns c = let p = c in
-    let a = p.args in
+returns c =
+    let a = c.args in
     let A = a.a.now in
     let R = a.run.now in (
       c.either-2.ensures.0,
@@ -45,8 +45,8 @@ returns c = let p = c in
           let b2 = c.both-descendant in
           let f = c.first_byte in
           let o = c.either in
-          let t1 : bit_of s1.result k ≡ shifted (active_at R a.d) i = s1.ensures.1 k h ∙ ap (λ (n : ℕ). shifted (bit_in R (n + active_in)) i) p.row_at-at.ensures.0 in
-          let t2 : bit_of s2.result k ≡ shifted (seen_at R a.d) i = s2.ensures.1 k h ∙ ap (λ (n : ℕ). shifted (bit_in R (n + seen_in)) i) p.row_at-at.ensures.0 in
+          let t1 : bit_of s1.result k ≡ shifted (active_at R a.d) i = s1.ensures.1 k h ∙ ap (λ (n : ℕ). shifted (bit_in R (n + active_in)) i) c.row_at-at.ensures.0 in
+          let t2 : bit_of s2.result k ≡ shifted (seen_at R a.d) i = s2.ensures.1 k h ∙ ap (λ (n : ℕ). shifted (bit_in R (n + seen_in)) i) c.row_at-at.ensures.0 in
           let c1 : bit_of b1.result k ≡ (mask_bit A child_mask i && shifted (active_at R a.d) i) = join-and (bit_of b1.result k) (bit_of m1.result k) (bit_of s1.result k) (mask_bit A child_mask i) (shifted (active_at R a.d) i) (b1.ensures.1 k) (m1.ensures.1 k h) t1 in
           let c2 : bit_of b2.result k ≡ (mask_bit A descendant_mask i && shifted (seen_at R a.d) i) = join-and (bit_of b2.result k) (bit_of m2.result k) (bit_of s2.result k) (mask_bit A descendant_mask i) (shifted (seen_at R a.d) i) (b2.ensures.1 k) (m2.ensures.1 k h) t2 in
           let c3 : bit_of o.result k ≡ ((mask_bit A descendant_mask i && shifted (seen_at R a.d) i) || (mask_bit A anywhere_mask i || (eqb a.d 0 && mask_bit A root_mask i))) = join-or (bit_of o.result k) (bit_of b2.result k) (bit_of f.result k) (mask_bit A descendant_mask i && shifted (seen_at R a.d) i) (mask_bit A anywhere_mask i || (eqb a.d 0 && mask_bit A root_mask i)) (o.ensures.1 k) c2 (f.ensures.1 k h) in

@@ -9,8 +9,8 @@ use Rattle.machine.proofs.run.steps.seen_before.Goals as goal
 
 pub byte_before-requires : goal.byte_before-requires
 unfolding row_size run_size mask_size
-byte_before-requires c = let b = c in
-    record { base_nonzero = (omega arith, (omega arith, (b.requires.run_size_in_bounds.0, b.requires.run_size_in_bounds.1.1))); edge_bound = b.requires.edge_bound }
+byte_before-requires c =
+    record { base_nonzero = (omega arith, (omega arith, (c.requires.run_size_in_bounds.0, c.requires.run_size_in_bounds.1.1))); edge_bound = c.requires.edge_bound }
 
 pub returns : goal.returns
 unfolding seen_in

@@ -10,16 +10,15 @@ use Rattle.machine.proofs.run.steps.seen_byte.Goals as goal
 
 pub bits_byte-requires : goal.bits_byte-requires
 unfolding row_size mask_size
-bits_byte-requires c = let b = c in
-    (omega arith, (b.requires.0, b.requires.1.1.0))
+bits_byte-requires c =
+    (omega arith, (c.requires.0, c.requires.1.1.0))
 
 pub returns : goal.returns
 unfolding seen_in
 returns c = let e = c.either in
     let p = c.bits_byte in
     let r = c.row_at in
-    let b = c in
-    let a = b.args in (
+    let a = c.args in (
       e.ensures.0,
       λ k h.
           join-or (bit_of e.result k) (bit_of p.result k) (bit_of a.active k) (seen_at a.run.now a.d (8 * a.j + k)) (bit_of a.active k) (e.ensures.1 k)

@@ -12,6 +12,6 @@ unfolding mask_size run_size
 overflow_add-base c = omega arith
 
 pub returns : goal.returns
-returns c = let b = c in
-    let a = b.args in
-    (c.one_on.ensures.0, λ k h. c.one_on.ensures.1 k h ∙ ap (λ (n : ℕ). bit_before n a.before k) c.byte.ensures.0 ∙ shifted-bit a.run.now a.base a.j a.before k h b.requires.before_bound.1)
+returns c =
+    let a = c.args in
+    (c.one_on.ensures.0, λ k h. c.one_on.ensures.1 k h ∙ ap (λ (n : ℕ). bit_before n a.before k) c.byte.ensures.0 ∙ shifted-bit a.run.now a.base a.j a.before k h c.requires.before_bound.1)

@@ -19,13 +19,13 @@ unfolding mask_size
 overflow_mul-i c = omega (arith, c.requires.1.1.1.1)
 
 pub store_block-requires : goal.store_block-requires
-store_block-requires c = let b = c in
-    let p = b.requires in
+store_block-requires c =
+    let p = c.requires in
     let l = c.loop-i in
-    let A = b.args.a.now in
-    let R = b.args.run.now in
-    let T = b.args.taken.now in
-    let d = b.args.d in
+    let A = c.args.a.now in
+    let R = c.args.run.now in
+    let T = c.args.taken.now in
+    let d = c.args.d in
     (p.0, (omega (arith, p.1.0, ap length l.invariant.1, stored-length R d (16 * l.i) (taken_active A R T d) (taken_seen A R T d) (taken_matched A R T d)), (p.1.1.0, (p.1.1.1.0, omega (arith, p.1.1.1.1)))))
 
 pub overflow_add-i : goal.overflow_add-i
