@@ -40,7 +40,7 @@ abbrev ◌▸◌ : {X : Type 0} {Y : Type 1} → X → (X → Y) → Y
 x ▸ k = k x
 
 module _ (before after : Kinds) (τ : Ty) (ν : Sym) where
-  -- the locals after the answer: the parameters; the callee's struct; what the slices before are passed on through; the counters by value; what the slices after are passed on through
+  -- the locals after the answer: the parameters; the callee's struct; what the slices before are passed on through; the counters by value; what the slices after are passed on through; the counters that the callee answers, to be stored
   abbrev others : List (List Local)
   others = taken before 0 ∷ (local (ty_ref (named (past (taken before 0) 0)) mut (pointee (T.the_row).written)) value_local ∷ []) ∷ taken after (suc (past (taken before 0) 0)) ∷ (local (ty_struct ν (tcons τ (tcons T'.mir tnil))) value_local ∷ []) ∷ onward before ∷ (local T'.mir value_local ∷ []) ∷ onward after ∷ (local T'.mir value_local ∷ []) ∷ []
 
@@ -205,7 +205,7 @@ module _ (before after : Kinds) where
             lie (no_local 𝓤 H) (groups before after τ ν) ((l₀, tt), (bs, ((l₁, tt), (cs, ((l₂, tt), (ds, ((l₃, tt), (es, ((l₄, tt), tt))))))))) ▸ λ p. alloc0 ! $ params1 ! $ move ! (2 ∷ 3 ∷ 4 ∷ 5 ∷ 6 ∷ 7 ∷ 8 ∷ 9 ∷ 10 ∷ 11 ∷ 12 ∷ 13 ∷ 14 ∷ 15 ∷ 16 ∷ 17 ∷ 18 ∷ 19 ∷ 20 ∷ 21 ∷ []) $ move ! (18 ∷ 12 ∷ []) $ taken_in ! lent-holds mid-args before 0 bs κs a vss $ fsplit ! $ told_in ! ((MutRef erased κ.0 T.the_row).own_val x.0) (flatly (λ (_ : Unit {0}). []) after (rest (λ _. List Val) (List Val × Tail (List Val)) before vss).1) (λ t. t.0) (λ _.
             move ! (14 ∷ []) $ pass1 ! (init ! 0 refl (tt, tt)) $ move ! (2 ∷ 13 ∷ []) $ taken_in ! (λ (_ _ _ : Unit {0}). ftrue) (λ (_ : Unit {0}). []) after (suc (past (taken before 0) 0)) cs κ.1 x.1 (rest (λ _. List Val) (List Val × Tail (List Val)) before vss).1 $ pass0 ! $ move ! (4 ∷ []) $ fsplit3 ! $ drop ! $
             keep ! (0 ∷ 1 ∷ 22 ∷ 6 ∷ 12 ∷ 3 ∷ 8 ∷ 5 ∷ 10 ∷ 14 ∷ 19 ∷ 7 ∷ 4 ∷ 21 ∷ 20 ∷ 18 ∷ 17 ∷ 16 ∷ 15 ∷ 13 ∷ 11 ∷ 9 ∷ 24 ∷ 25 ∷ []) $
-            -- [what observes the counters; the borrow; its token; the slices before, and what they are passed on through; those after; _counters; their copy; the callee's struct; _0; what the slices own; their tokens; what frees the locals]
+            -- [what observes the counters; the borrow; its token; the slices before, and what they are passed on through; those after; _counters; their copy; the callee's struct; _0; what the slices own; their tokens; what frees the locals; the local of the counters to be stored, and what frees it]
             opens ! tt T.the_row {h = x.0.now} _ _ (λ vs. spelt ! T.the_row (Is T.the_row) (shows 𝓛 T.the_row) vals (LL.tells T.the_type T'.the_laws) full_share x.0.now vs _ _ $
             move ! (1 ∷ []) $ peeks ! T.the_row (Is T.the_row) (shows 𝓛 T.the_row) x.0.now (vals x.0.now) (λ was.
             -- [what they own; their cell; the open borrow; what observes and what holds their value; the slices before; …]
