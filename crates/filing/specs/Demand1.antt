@@ -5,7 +5,9 @@ use Rattle.std.specs.Prelude.{ℕ, ◌≤◌, ◌<◌, ◌≡◌, true, ◌↔�
 use Rattle.std.specs.Borrow.{Bor}
 use Rattle.text.specs.Names.{Name}
 use Rattle.notation.specs.Sets.{FolderSet}
-use Rattle.text.specs.Refusals.{Refusal, ShortBuffer, BadShape, RepeatedAttribute, number_of}
+use Rattle.text.specs.declared.refusals.Refusal.{Refusal}
+use Rattle.text.specs.declared.refusals.Refusal.TheVariants.{ShortBuffer, BadShape, RepeatedAttribute}
+use Rattle.text.specs.Refusals.{number_of}
 use Rattle.text.specs.Answers.{number_said}
 use Rattle.text.specs.Written.{written_says}
 use Rattle.notation.specs.Judged.{RefusedText}

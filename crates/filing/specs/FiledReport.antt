@@ -5,7 +5,9 @@ use mathlib.Core.List.{List, [], ◌∷◌, ◌++◌, map, Memᴰ}
 use Rattle.notation.specs.Sets.{Folder, FolderSet, folder_number}
 use Rattle.notation.specs.Form.{paths_of}
 use Rattle.text.specs.Lists.{every}
-use Rattle.text.specs.Refusals.{Refusal, TooLarge, NameTooLong, InvalidByte, SyntaxError, NotOneRoot, TooDeep, MismatchedClose, RepeatedAttribute, number_of}
+use Rattle.text.specs.declared.refusals.Refusal.{Refusal}
+use Rattle.text.specs.declared.refusals.Refusal.TheVariants.{TooLarge, NameTooLong, InvalidByte, SyntaxError, NotOneRoot, TooDeep, MismatchedClose, RepeatedAttribute}
+use Rattle.text.specs.Refusals.{number_of}
 use Rattle.notation.specs.Accepted.{Accepted}
 use Rattle.notation.specs.declared.PathPlace.{PathPlace}
 use Rattle.notation.specs.declared.FolderNumber.{FolderNumber}

@@ -5,7 +5,9 @@ use Rattle.std.proofs.Math.Option.{Option, none, some}
 use Rattle.text.specs.Names.{Name}
 use Rattle.notation.specs.Sets.{FolderSet}
 use Rattle.text.specs.Lists.{every}
-use Rattle.text.specs.Refusals.{Refusal, TooLarge, InvalidByte, SyntaxError, NotOneRoot, RepeatedAttribute, number_of}
+use Rattle.text.specs.declared.refusals.Refusal.{Refusal}
+use Rattle.text.specs.declared.refusals.Refusal.TheVariants.{TooLarge, InvalidByte, SyntaxError, NotOneRoot, RepeatedAttribute}
+use Rattle.text.specs.Refusals.{number_of}
 use Rattle.text.specs.Order.{Condition, gives, first}
 use Rattle.model.specs.Calls.{as_left, Call, open_call, close_call, State, fresh, accepted, step}
 use Rattle.model.specs.Calls as calls

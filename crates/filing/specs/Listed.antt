@@ -2,7 +2,7 @@
 use Rattle.std.specs.Prelude.{ℕ, max, not, ◌||◌, cond, List, [], ◌∷◌, ◌++◌, ltb, length}
 use Rattle.text.specs.Decimal.{decimal}
 use Rattle.notation.specs.Print.{folder_word, footer}
-use Rattle.text.specs.Refusals.{ShortBuffer, BadShape}
+use Rattle.text.specs.declared.refusals.Refusal.TheVariants.{ShortBuffer, BadShape}
 use Rattle.text.specs.Written.{TextWritten}
 use Rattle.notation.specs.declared.reads.FolderAt.{FolderAt}
 use Rattle.model.specs.Folders.{count_from}

@@ -1,7 +1,9 @@
 -- What filing a report answers and leaves, with any automaton, run and counters, by what is stored (paper 01: Service codes). Every report
 -- has exactly one outcome.
 use Rattle.std.specs.Prelude.{ℕ, ◌≡◌, Bool, true, ◌||◌, cond, List, map, eqb}
-use Rattle.text.specs.Refusals.{Refusal, ShortBuffer, BadShape, number_of}
+use Rattle.text.specs.declared.refusals.Refusal.{Refusal}
+use Rattle.text.specs.declared.refusals.Refusal.TheVariants.{ShortBuffer, BadShape}
+use Rattle.text.specs.Refusals.{number_of}
 use Rattle.text.specs.Order.{Condition, gives}
 use Rattle.stored.specs.RunCalls.{depth_of, start_conditions, open_others, open_run, open_counters, close_others, close_run, close_counters}
 use Rattle.stored.specs.Demand3.{Left, started}

@@ -1,6 +1,6 @@
 -- Demand 1 of a program's one call, whatever it shows of a filed report: 1 exactly where a buffer is short, and then nothing is changed.
 use Rattle.std.specs.Prelude.{ℕ, ◌≡◌, List, [], ◌∷◌}
-use Rattle.text.specs.Refusals.{ShortBuffer}
+use Rattle.text.specs.declared.refusals.Refusal.TheVariants.{ShortBuffer}
 use Rattle.text.specs.Answers.{number_said}
 use Rattle.text.specs.Written.{written_says}
 use Rattle.text.specs.Order.{gives, AnswersBy}

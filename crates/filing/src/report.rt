@@ -1,7 +1,8 @@
 // Filing a report (paper 01: Reports): its tokens in order, each given to the machine as what it is in the tree.
 ghost use Rattle.std.specs.Prelude.{◌≡◌, true, cond, [], ◌≤◌, length};
 ghost use Rattle.text.specs.Names.{name_form};
-ghost use Rattle.text.specs.Refusals.{RepeatedAttribute, number_of};
+ghost use Rattle.text.specs.declared.refusals.Refusal.TheVariants.{RepeatedAttribute};
+ghost use Rattle.text.specs.Refusals.{number_of};
 ghost use Rattle.text.specs.Answers.{number_said};
 ghost use Rattle.stored.specs.Answers.{opened_says};
 ghost use Rattle.stored.specs.Run.{run_size};

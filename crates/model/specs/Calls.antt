@@ -5,7 +5,8 @@ use Rattle.text.specs.Names.{Name, name_form, too_long, same_name}
 use Rattle.notation.specs.Sets.{Path, FolderSet}
 use Rattle.notation.specs.Form.{paths_of}
 use Rattle.text.specs.Lists.{non_empty}
-use Rattle.text.specs.Refusals.{Refusal, SyntaxError, NameTooLong, NotOneRoot, TooDeep, OverCapacity, MismatchedClose}
+use Rattle.text.specs.declared.refusals.Refusal.{Refusal}
+use Rattle.text.specs.declared.refusals.Refusal.TheVariants.{SyntaxError, NameTooLong, NotOneRoot, TooDeep, OverCapacity, MismatchedClose}
 use Rattle.notation.specs.Activity.{active, fits}
 use Rattle.model.specs.Limits.{max_depth, max_opens}
 use Rattle.model.specs.Words.{document, Word, begins}

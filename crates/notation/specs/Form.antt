@@ -5,7 +5,8 @@ use Rattle.text.specs.Names.{name_form, too_long, within}
 use Rattle.notation.specs.Sets.{Test, label, star, Step, Path, Folder, folder, FolderSet, test_of, folder_paths}
 use Rattle.notation.specs.Print.{print}
 use Rattle.text.specs.Lists.{every, any, non_empty}
-use Rattle.text.specs.Refusals.{Refusal, OutOfOrder, NameTooLong, PathTooLong}
+use Rattle.text.specs.declared.refusals.Refusal.{Refusal}
+use Rattle.text.specs.declared.refusals.Refusal.TheVariants.{OutOfOrder, NameTooLong, PathTooLong}
 
 -- labels have name form, of any length
 abbrev pub formed_test : Test → Bool

@@ -1,6 +1,8 @@
 -- How a set's text is judged (paper 01: service codes). Every text has exactly one verdict.
 use Rattle.std.specs.Prelude.{ℕ, ◌≡◌, true, false, List, [], ◌∷◌}
-use Rattle.text.specs.Refusals.{Refusal, TooLarge, MalformedSet, OverCapacity, number_of}
+use Rattle.text.specs.declared.refusals.Refusal.{Refusal}
+use Rattle.text.specs.declared.refusals.Refusal.TheVariants.{TooLarge, MalformedSet, OverCapacity}
+use Rattle.text.specs.Refusals.{number_of}
 use Rattle.notation.specs.Sets.{FolderSet}
 use Rattle.notation.specs.Form.{OfForm, over_bytes, over_limits, faults}
 use Rattle.notation.specs.Accepted.{Accepted}

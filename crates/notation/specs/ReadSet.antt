@@ -1,6 +1,7 @@
 -- What the call that reads a set promises.
 use Rattle.std.specs.Prelude.{ℕ, ◌≤◌, ◌<◌, ◌≡◌, List, ◌++◌, length, drop}
-use Rattle.text.specs.Refusals.{ShortBuffer, number_of}
+use Rattle.text.specs.declared.refusals.Refusal.TheVariants.{ShortBuffer}
+use Rattle.text.specs.Refusals.{number_of}
 use Rattle.notation.specs.Layout.{set_size, set_part}
 use Rattle.notation.specs.Judged.{Verdict, refuses, accepts, Judged, verdict_number}
 

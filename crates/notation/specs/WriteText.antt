@@ -1,6 +1,6 @@
 -- What writing a stored set back promises.
 use Rattle.std.specs.Prelude.{ℕ, List, [], ◌∷◌, ltb, length}
-use Rattle.text.specs.Refusals.{ShortBuffer}
+use Rattle.text.specs.declared.refusals.Refusal.TheVariants.{ShortBuffer}
 use Rattle.text.specs.Order.{Condition, gives}
 use Rattle.text.specs.Written.{TextWritten}
 use Rattle.text.specs.declared.written.Written.{Written}

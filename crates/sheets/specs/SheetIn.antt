@@ -2,7 +2,7 @@
 -- place once, with the number of the last folder whose first path is not after it.
 use Rattle.std.specs.Prelude.{ℕ, zero, suc, not, ◌&&◌, ◌||◌, cond, List, [], ◌∷◌, map, leb, ltb, length}
 use Rattle.text.specs.Bytes.{joined}
-use Rattle.text.specs.Refusals.{ShortBuffer, BadShape}
+use Rattle.text.specs.declared.refusals.Refusal.TheVariants.{ShortBuffer, BadShape}
 use Rattle.text.specs.Order.{Condition, gives}
 use Rattle.text.specs.Written.{TextWritten}
 use Rattle.text.specs.declared.written.Written.{Written}

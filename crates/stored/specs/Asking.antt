@@ -5,7 +5,7 @@ use Rattle.text.specs.Names.{Name, within}
 use Rattle.text.specs.Part.{PartOf}
 use Rattle.notation.specs.Reads.{path_at, folder_of}
 use Rattle.text.specs.Answers.{Answer, said}
-use Rattle.text.specs.Refusals.{ShortBuffer, BadShape, NotFound}
+use Rattle.text.specs.declared.refusals.Refusal.TheVariants.{ShortBuffer, BadShape, NotFound}
 use Rattle.notation.specs.declared.PathPlace.{PathPlace}
 use Rattle.notation.specs.declared.FolderNumber.{FolderNumber}
 use Rattle.notation.specs.declared.reads.PathAt.{PathAt}

@@ -3,7 +3,8 @@ use Rattle.std.specs.Prelude.{ℕ, ◌≤◌, ◌<◌, ◌≡◌, not, ◌||◌,
 use Rattle.notation.specs.Limits.{max_set_bytes}
 use Rattle.notation.specs.Judged.{Verdict, refuses, accepts, Judged, verdict_number}
 use Rattle.notation.specs.Reads.{text_of}
-use Rattle.text.specs.Refusals.{ShortBuffer, BadShape, number_of}
+use Rattle.text.specs.declared.refusals.Refusal.TheVariants.{ShortBuffer, BadShape}
+use Rattle.text.specs.Refusals.{number_of}
 use Rattle.text.specs.Written.{TextWritten}
 use Rattle.text.specs.Order.{Condition, gives}
 use Rattle.stored.specs.Automaton.{automaton_of, automaton_size}

@@ -9,7 +9,9 @@ use Rattle.notation.specs.Form.{paths_of}
 use Rattle.notation.specs.Accepted.{Accepted}
 use Rattle.text.specs.Answers.{Answer, refused, value, number_said}
 use Rattle.notation.specs.Fit.{name_at, Active}
-use Rattle.text.specs.Refusals.{Refusal, NotFound, number_of}
+use Rattle.text.specs.declared.refusals.Refusal.{Refusal}
+use Rattle.text.specs.declared.refusals.Refusal.TheVariants.{NotFound}
+use Rattle.text.specs.Refusals.{number_of}
 use Rattle.notation.specs.declared.PathPlace.{PathPlace}
 use Rattle.notation.specs.declared.FolderNumber.{FolderNumber}
 use Rattle.model.specs.Words.{Word}

@@ -13,7 +13,7 @@ use Rattle.stored.specs.Shape.{automaton_shaped, all_below}
 use Rattle.stored.specs.Run.{depth_at, matches_at, name_in, state_in, active_in, seen_in, row_at, row_size, run_size}
 use Rattle.stored.specs.declared.counters.Counters.{Counters}
 use Rattle.stored.specs.declared.walk.Walk.{Walk}
-use Rattle.text.specs.Refusals.{ShortBuffer, BadShape, SyntaxError, NameTooLong, NotOneRoot, TooDeep, OverCapacity, MismatchedClose}
+use Rattle.text.specs.declared.refusals.Refusal.TheVariants.{ShortBuffer, BadShape, SyntaxError, NameTooLong, NotOneRoot, TooDeep, OverCapacity, MismatchedClose}
 use Rattle.text.specs.Order.{Condition, gives, given}
 
 -- what is stored of a run

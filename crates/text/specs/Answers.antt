@@ -1,6 +1,7 @@
 -- What a call's answer says: refused with a number, or a value.
 use Rattle.std.specs.Prelude.{ℕ, zero, suc, Result, Ok, Err}
-use Rattle.text.specs.Refusals.{Refusal, number_of}
+use Rattle.text.specs.declared.refusals.Refusal.{Refusal}
+use Rattle.text.specs.Refusals.{number_of}
 
 pub data Answer (A : Type 0) : Type 0 where
   refused : ℕ → Answer A

@@ -1,7 +1,7 @@
 -- The refusals, and the number that each returns.
 use Rattle.std.specs.Prelude.{ℕ}
-pub use Rattle.text.specs.declared.refusals.Refusal.{Refusal}
-pub use Rattle.text.specs.declared.refusals.Refusal.TheVariants.{ShortBuffer, TooLarge, MalformedSet, OutOfOrder, NameTooLong, PathTooLong, OverCapacity, InvalidByte, SyntaxError, NotOneRoot, TooDeep, MismatchedClose, NotFound, BadShape, RepeatedAttribute}
+use Rattle.text.specs.declared.refusals.Refusal.{Refusal}
+use Rattle.text.specs.declared.refusals.Refusal.TheVariants.{ShortBuffer, TooLarge, MalformedSet, OutOfOrder, NameTooLong, PathTooLong, OverCapacity, InvalidByte, SyntaxError, NotOneRoot, TooDeep, MismatchedClose, NotFound, BadShape, RepeatedAttribute}
 
 abbrev pub number_of : Refusal → ℕ
 number_of ShortBuffer = 1

@@ -1,7 +1,7 @@
 -- Filing a report, computed: its conditions tested, its tokens as the reader finds them (laws tie it to what filing gives).
 use Rattle.std.specs.Prelude.{ℕ, Bool, true, false, not, List, [], ◌∷◌, ◌++◌, ltb, length}
 use Rattle.text.specs.Lists.{every}
-use Rattle.text.specs.Refusals.{TooLarge, InvalidByte, SyntaxError, RepeatedAttribute}
+use Rattle.text.specs.declared.refusals.Refusal.TheVariants.{TooLarge, InvalidByte, SyntaxError, RepeatedAttribute}
 use Rattle.notation.specs.Sets.{FolderSet}
 use Rattle.text.specs.Order.{Condition, gives, first}
 use Rattle.model.specs.Calls.{State, fresh}

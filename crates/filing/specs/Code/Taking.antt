@@ -1,7 +1,8 @@
 -- What the calls of a report's tokens answer, by what the code says of each token (follows the code; laws tie it to the tokens' events).
 use Rattle.std.specs.Prelude.{ℕ, ◌≡◌, Bool, true, false, not, ◌&&◌, cond, List, [], ◌∷◌, eqb, length, drop}
 use Rattle.text.specs.Names.{Name}
-use Rattle.text.specs.Refusals.{SyntaxError, NotOneRoot, RepeatedAttribute, number_of}
+use Rattle.text.specs.declared.refusals.Refusal.TheVariants.{SyntaxError, NotOneRoot, RepeatedAttribute}
+use Rattle.text.specs.Refusals.{number_of}
 use Rattle.text.specs.Order.{gives, first}
 use Rattle.stored.specs.RunCalls.{depth_of, start_run}
 use Rattle.stored.specs.Demand3.{Left}

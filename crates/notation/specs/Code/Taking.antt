@@ -4,7 +4,9 @@ use Rattle.std.proofs.lemmas.List.Edits.{sets}
 use Rattle.text.specs.Bytes.{joined}
 use Rattle.text.specs.Decimal.{decimal}
 use Rattle.text.specs.Read.{Read, fail, got, starts_with}
-use Rattle.text.specs.Refusals.{Refusal, OutOfOrder, NameTooLong, PathTooLong, OverCapacity, MalformedSet, TooLarge, number_of}
+use Rattle.text.specs.declared.refusals.Refusal.{Refusal}
+use Rattle.text.specs.declared.refusals.Refusal.TheVariants.{OutOfOrder, NameTooLong, PathTooLong, OverCapacity, MalformedSet, TooLarge}
+use Rattle.text.specs.Refusals.{number_of}
 use Rattle.notation.specs.Limits.{max_steps, max_paths, max_labels}
 use Rattle.notation.specs.Sets.{Test, Step, step, Path, Folder, folder, FolderSet, test_of}
 use Rattle.notation.specs.Print.{print_axis, print_test, print_step, print_path, folder_word, header, footer}

@@ -6,7 +6,9 @@ use mathlib.Core.Logic.{◌↔◌}
 use mathlib.Core.List.{List, [], ◌∷◌}
 use lib.ListN.{get_or}
 use Rattle.text.proofs.Laws.Bytes.Table.{values, same_entries}
-use Rattle.text.specs.Refusals.{Refusal, ShortBuffer, TooLarge, MalformedSet, OutOfOrder, NameTooLong, PathTooLong, OverCapacity, InvalidByte, SyntaxError, NotOneRoot, TooDeep, MismatchedClose, NotFound, BadShape, RepeatedAttribute, number_of}
+use Rattle.text.specs.declared.refusals.Refusal.{Refusal}
+use Rattle.text.specs.declared.refusals.Refusal.TheVariants.{ShortBuffer, TooLarge, MalformedSet, OutOfOrder, NameTooLong, PathTooLong, OverCapacity, InvalidByte, SyntaxError, NotOneRoot, TooDeep, MismatchedClose, NotFound, BadShape, RepeatedAttribute}
+use Rattle.text.specs.Refusals.{number_of}
 
 by_number : List Refusal
 by_number =

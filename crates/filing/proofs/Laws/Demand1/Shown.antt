@@ -4,7 +4,9 @@ use mathlib.Core.Path.{◌≡◌, ap, ◌∙◌}
 use mathlib.Core.Bool.{Bool, false, cond}
 use mathlib.Core.List.{List, [], ◌∷◌}
 use lib.ListN.{length}
-use Rattle.text.specs.Refusals.{Refusal, ShortBuffer, number_of}
+use Rattle.text.specs.declared.refusals.Refusal.{Refusal}
+use Rattle.text.specs.declared.refusals.Refusal.TheVariants.{ShortBuffer}
+use Rattle.text.specs.Refusals.{number_of}
 use Rattle.text.specs.Answers.{value, number_said}
 use Rattle.text.specs.Written.{written_says}
 use Rattle.text.specs.declared.written.Written.{Written}

@@ -6,7 +6,9 @@ use mathlib.Core.Logic.{◌↔◌, ◌⊎◌, inl, inr}
 use mathlib.Core.List.{List, [], ◌∷◌}
 use lib.ListN.{length}
 use borrow.Author.Tests.{ne_eqb}
-use Rattle.text.specs.Refusals.{Refusal, ShortBuffer, BadShape, RepeatedAttribute, number_of}
+use Rattle.text.specs.declared.refusals.Refusal.{Refusal}
+use Rattle.text.specs.declared.refusals.Refusal.TheVariants.{ShortBuffer, BadShape, RepeatedAttribute}
+use Rattle.text.specs.Refusals.{number_of}
 use Rattle.text.specs.Answers.{value, number_said}
 use Rattle.notation.specs.Layout.{set_size}
 use Rattle.notation.specs.Reads.{text_of, path_at, folder_of}

@@ -13,7 +13,7 @@ use Rattle.text.specs.Lists.{non_empty, any}
 use Rattle.notation.specs.Sets.{FolderSet}
 use Rattle.notation.specs.Activity.{fits}
 use Rattle.notation.proofs.Laws.Meaning.Fit.{fits-is}
-use Rattle.text.specs.Refusals.{NotOneRoot}
+use Rattle.text.specs.declared.refusals.Refusal.TheVariants.{NotOneRoot}
 use Rattle.text.specs.Order.{first}
 use Rattle.model.specs.Calls.{Call, Level, State, open_names, path_of_place, fresh, run}
 use Rattle.model.specs.Folders.{folder_matched}

@@ -12,7 +12,9 @@ use borrow.Author.Tests.{lt-leb, eqb-true}
 use native.Mathlib.Omega.{arith}
 use Rattle.text.specs.Names.{Name}
 use Rattle.notation.specs.Sets.{FolderSet}
-use Rattle.text.specs.Refusals.{Refusal, TooLarge, InvalidByte, SyntaxError, OverCapacity, RepeatedAttribute, number_of}
+use Rattle.text.specs.declared.refusals.Refusal.{Refusal}
+use Rattle.text.specs.declared.refusals.Refusal.TheVariants.{TooLarge, InvalidByte, SyntaxError, OverCapacity, RepeatedAttribute}
+use Rattle.text.specs.Refusals.{number_of}
 use Rattle.text.specs.Lists.{every, any}
 use Rattle.model.specs.Limits.{max_opens}
 use Rattle.text.specs.Order.{Condition, holds, refusal_of, first}

@@ -9,7 +9,8 @@ use lib.ListN.{length}
 use borrow.Author.Tests.{ltb-true, lt-ltb, not-true}
 use Rattle.text.specs.Lists.{every, any}
 use Rattle.notation.specs.Sets.{FolderSet}
-use Rattle.text.specs.Refusals.{Refusal, SyntaxError, RepeatedAttribute}
+use Rattle.text.specs.declared.refusals.Refusal.{Refusal}
+use Rattle.text.specs.declared.refusals.Refusal.TheVariants.{SyntaxError, RepeatedAttribute}
 use Rattle.text.specs.Order.{Condition, gives, refusal_of, FirstOf, first, given}
 use Rattle.model.specs.Calls.{State, fresh}
 use Rattle.text.proofs.Laws.Tests.{clash, zero_one}

@@ -9,7 +9,9 @@ use mathlib.Core.List.{List, [], ◌∷◌}
 use lib.Dec.{eqb}
 use Rattle.notation.specs.Sets.{FolderSet}
 use Rattle.text.specs.Lists.{every}
-use Rattle.text.specs.Refusals.{Refusal, ShortBuffer, BadShape, RepeatedAttribute, number_of}
+use Rattle.text.specs.declared.refusals.Refusal.{Refusal}
+use Rattle.text.specs.declared.refusals.Refusal.TheVariants.{ShortBuffer, BadShape, RepeatedAttribute}
+use Rattle.text.specs.Refusals.{number_of}
 use Rattle.text.specs.Order.{Condition, gives, refusal_of, Unmet, first, given}
 use Rattle.text.proofs.Laws.Tests.{cases, clash, zero_one}
 use Rattle.text.proofs.Laws.Order.{first-has, given_by, not-given}

@@ -11,7 +11,7 @@ use native.Mathlib.Omega.{arith}
 use Rattle.text.specs.Names.{Name}
 use Rattle.text.specs.Lists.{every, non_empty, any}
 use Rattle.notation.specs.Sets.{FolderSet}
-use Rattle.text.specs.Refusals.{NotOneRoot}
+use Rattle.text.specs.declared.refusals.Refusal.TheVariants.{NotOneRoot}
 use Rattle.notation.specs.Activity.{fits}
 use Rattle.text.proofs.Laws.Bytes.SameName.{same_name-is}
 use Rattle.text.specs.Order.{first}

@@ -9,7 +9,9 @@ use lib.ListN.{length, drop}
 use borrow.Author.Tests.{eq-eqb}
 use Rattle.notation.specs.Sets.{Folder, FolderSet, folder_number}
 use Rattle.notation.specs.Form.{paths_of}
-use Rattle.text.specs.Refusals.{Refusal, RepeatedAttribute, number_of}
+use Rattle.text.specs.declared.refusals.Refusal.{Refusal}
+use Rattle.text.specs.declared.refusals.Refusal.TheVariants.{RepeatedAttribute}
+use Rattle.text.specs.Refusals.{number_of}
 use Rattle.text.specs.Answers.{Answer, value}
 use Rattle.notation.specs.declared.PathPlace.{PathPlace}
 use Rattle.notation.specs.declared.FolderNumber.{FolderNumber}

@@ -10,7 +10,9 @@ use lib.ListN.{length, drop}
 use borrow.Author.Tests.{eq-eqb, ne_eqb, lt-ltb, le-ltb, le-leb, not-false}
 use Rattle.text.proofs.Laws.Tests.{cases, clash, neither, or_left}
 use Rattle.text.specs.Names.{Name}
-use Rattle.text.specs.Refusals.{Refusal, TooLarge, InvalidByte, SyntaxError, NotOneRoot, RepeatedAttribute, number_of}
+use Rattle.text.specs.declared.refusals.Refusal.{Refusal}
+use Rattle.text.specs.declared.refusals.Refusal.TheVariants.{TooLarge, InvalidByte, SyntaxError, NotOneRoot, RepeatedAttribute}
+use Rattle.text.specs.Refusals.{number_of}
 use Rattle.text.proofs.Laws.Numbers.{some_number}
 use Rattle.text.specs.Lists.{every, any}
 use Rattle.text.specs.Answers.{number_said}

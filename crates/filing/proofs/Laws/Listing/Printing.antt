@@ -10,7 +10,9 @@ use borrow.Author.Tests.{le-ltb, ltb-false}
 use native.Mathlib.Nat.{zero-add}
 use native.Mathlib.Omega.{arith}
 use Rattle.notation.specs.Sets.{FolderSet}
-use Rattle.text.specs.Refusals.{Refusal, number_of, ShortBuffer}
+use Rattle.text.specs.declared.refusals.Refusal.{Refusal}
+use Rattle.text.specs.declared.refusals.Refusal.TheVariants.{ShortBuffer}
+use Rattle.text.specs.Refusals.{number_of}
 use Rattle.notation.specs.Accepted.{Accepted}
 use Rattle.notation.specs.Judged.{RefusedText, Verdict, refuses, accepts, Judged, verdict_number}
 use Rattle.text.proofs.Laws.Numbers.{number-within, some_number}

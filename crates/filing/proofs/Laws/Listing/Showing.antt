@@ -9,7 +9,9 @@ use lib.Seq.{sets-eq}
 use borrow.Author.Tests.{ltb-false}
 use native.Mathlib.Nat.{zero-add}
 use native.Mathlib.Omega.{arith}
-use Rattle.text.specs.Refusals.{Refusal, number_of, ShortBuffer}
+use Rattle.text.specs.declared.refusals.Refusal.{Refusal}
+use Rattle.text.specs.declared.refusals.Refusal.TheVariants.{ShortBuffer}
+use Rattle.text.specs.Refusals.{number_of}
 use Rattle.text.specs.Order.{Condition, given}
 use Rattle.text.specs.Answers.{said}
 use Rattle.text.specs.Output.{start, Adds}

@@ -10,7 +10,8 @@ use borrow.Author.Tests.{leb-true, leb-false, lt-ltb, le-ltb, ltb-false, not-fal
 use Rattle.notation.specs.Limits.{max_set_bytes}
 use Rattle.text.specs.Decimal.{decimal}
 use Rattle.notation.specs.Print.{footer}
-use Rattle.text.specs.Refusals.{ShortBuffer, BadShape, number_of}
+use Rattle.text.specs.declared.refusals.Refusal.TheVariants.{ShortBuffer, BadShape}
+use Rattle.text.specs.Refusals.{number_of}
 use Rattle.text.specs.Order.{first, given}
 use Rattle.stored.specs.RunCalls.{shaped, too_short, lent_conditions}
 use Rattle.text.specs.declared.written.Written.{Written}

@@ -10,7 +10,8 @@ use Rattle.notation.specs.Limits.{max_set_bytes}
 use Rattle.notation.specs.Reads.{text_of}
 use Rattle.stored.specs.Automaton.{automaton_size}
 use Rattle.text.specs.Order.{first, given}
-use Rattle.text.specs.Refusals.{ShortBuffer, BadShape, number_of}
+use Rattle.text.specs.declared.refusals.Refusal.TheVariants.{ShortBuffer, BadShape}
+use Rattle.text.specs.Refusals.{number_of}
 use Rattle.stored.specs.Shape.{automaton_shaped}
 use Rattle.stored.specs.Build.{SetWritten}
 use Rattle.text.specs.declared.written.Written.{Written}

@@ -10,7 +10,8 @@ use lib.Dec.{leb}
 use borrow.Author.Tests.{leb-false}
 use Rattle.notation.specs.Sets.{Path, Folder, folder, FolderSet, folder_number, folder_paths}
 use Rattle.notation.specs.Form.{paths_faults, faults_after, faults}
-use Rattle.text.specs.Refusals.{Refusal, OutOfOrder}
+use Rattle.text.specs.declared.refusals.Refusal.{Refusal}
+use Rattle.text.specs.declared.refusals.Refusal.TheVariants.{OutOfOrder}
 use Rattle.notation.specs.Fit.{Fits}
 use Rattle.model.specs.Calls.{as_left, Call, open_call, open_names, path_of_place, run}
 use Rattle.model.specs.Folders.{places_of, folder_matched, HasFolders}

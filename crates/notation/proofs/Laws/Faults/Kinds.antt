@@ -10,7 +10,9 @@ use lib.ListN.{length}
 use Rattle.notation.specs.Limits.{max_steps}
 use Rattle.text.specs.Names.{too_long}
 use Rattle.notation.specs.Sets.{Test, label, star, Path, folder, FolderSet, test_of}
-use Rattle.text.specs.Refusals.{Refusal, OutOfOrder, NameTooLong, PathTooLong, number_of}
+use Rattle.text.specs.declared.refusals.Refusal.{Refusal}
+use Rattle.text.specs.declared.refusals.Refusal.TheVariants.{OutOfOrder, NameTooLong, PathTooLong}
+use Rattle.text.specs.Refusals.{number_of}
 use Rattle.notation.specs.Form.{paths_of, steps_of, labels_of, label_of, long_test, step_faults, path_faults, paths_faults, faults_after, numbers_fall_after, path_long}
 use Rattle.text.specs.Lists.{any}
 use Rattle.text.proofs.Laws.Tests.{cases}

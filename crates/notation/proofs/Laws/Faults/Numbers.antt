@@ -9,7 +9,9 @@ use lib.Dec.{leb, eqb}
 use borrow.Author.Tests.{eq-eqb, eqb-true}
 use Rattle.notation.specs.Limits.{max_steps}
 use Rattle.notation.specs.Sets.{Path, folder, FolderSet, test_of}
-use Rattle.text.specs.Refusals.{Refusal, OutOfOrder, NameTooLong, PathTooLong, number_of}
+use Rattle.text.specs.declared.refusals.Refusal.{Refusal}
+use Rattle.text.specs.declared.refusals.Refusal.TheVariants.{OutOfOrder, NameTooLong, PathTooLong}
+use Rattle.text.specs.Refusals.{number_of}
 use Rattle.text.specs.Lists.{every, any}
 use Rattle.notation.specs.Form.{long_test, step_faults, path_faults, paths_faults, faults_after, faults, numbers_fall, names_long, paths_long}
 use Rattle.text.proofs.Laws.Tests.{cases, and_left, or_left}

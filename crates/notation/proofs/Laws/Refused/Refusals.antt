@@ -5,7 +5,9 @@ use mathlib.Core.Path.{◌≡◌, refl, ap}
 use mathlib.Core.Logic.{◌↔◌}
 use mathlib.Core.Bool.{true, false}
 use mathlib.Core.List.{List, [], ◌∷◌}
-use Rattle.text.specs.Refusals.{Refusal, TooLarge, MalformedSet, OutOfOrder, NameTooLong, PathTooLong, OverCapacity, number_of}
+use Rattle.text.specs.declared.refusals.Refusal.{Refusal}
+use Rattle.text.specs.declared.refusals.Refusal.TheVariants.{TooLarge, MalformedSet, OutOfOrder, NameTooLong, PathTooLong, OverCapacity}
+use Rattle.text.specs.Refusals.{number_of}
 use Rattle.notation.specs.Sets.{FolderSet}
 use Rattle.notation.specs.Form.{OfForm, over_bytes, numbers_fall, names_long, paths_long, over_limits, faults}
 use Rattle.notation.specs.Accepted.{Accepted}

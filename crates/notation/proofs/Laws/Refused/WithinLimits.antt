@@ -10,7 +10,8 @@ use lib.Dec.{leb, ltb}
 use lib.ListN.{length, get_or, length-append}
 use Rattle.notation.specs.Limits.{max_set_bytes, max_number, max_paths, max_steps, max_labels}
 use Rattle.notation.specs.Sets.{Path, folder, FolderSet, test_of, folder_number}
-use Rattle.text.specs.Refusals.{Refusal, OutOfOrder, NameTooLong, PathTooLong}
+use Rattle.text.specs.declared.refusals.Refusal.{Refusal}
+use Rattle.text.specs.declared.refusals.Refusal.TheVariants.{OutOfOrder, NameTooLong, PathTooLong}
 use Rattle.text.specs.Lists.{every, non_empty}
 use Rattle.notation.specs.Form.{formed_path, formed_folder, formed, paths_of, steps_of, labels_of, over_bytes, over_limits, long_test, step_faults, path_faults, paths_faults, faults_after, faults}
 use Rattle.notation.specs.Print.{print}

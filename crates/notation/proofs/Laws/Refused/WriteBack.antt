@@ -16,7 +16,8 @@ use Rattle.notation.specs.Judged.{accepts}
 use Rattle.notation.specs.Layout.{set_size, set_part}
 use Rattle.notation.specs.Reads.{text_of, text_slice, text_len}
 use Rattle.notation.specs.ReadSet.{ReadSet}
-use Rattle.text.specs.Refusals.{number_of, ShortBuffer}
+use Rattle.text.specs.declared.refusals.Refusal.TheVariants.{ShortBuffer}
+use Rattle.text.specs.Refusals.{number_of}
 use Rattle.text.specs.Answers.{value}
 use Rattle.text.specs.Order.{first, given}
 use Rattle.text.specs.Written.{written_says}

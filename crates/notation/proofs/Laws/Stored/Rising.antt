@@ -9,7 +9,7 @@ use borrow.Author.Tests.{leb-false, eq-eqb, ne_eqb}
 use lib.Dec.{leb}
 use lib.ListN.{length, get_or}
 use Rattle.notation.specs.Sets.{Path, folder, FolderSet, folder_number}
-use Rattle.text.specs.Refusals.{OutOfOrder}
+use Rattle.text.specs.declared.refusals.Refusal.TheVariants.{OutOfOrder}
 use Rattle.notation.specs.Form.{paths_faults, faults_after}
 use Rattle.notation.specs.Reads.{folder_index}
 use Rattle.notation.specs.declared.reads.FolderIndex.{FolderIndex}

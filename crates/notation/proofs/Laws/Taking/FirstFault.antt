@@ -5,7 +5,9 @@ use mathlib.Core.Path.{◌≡◌, refl, sym, ap, ◌∙◌}
 use mathlib.Core.Bool.{Bool, true, false, cond}
 use mathlib.Core.List.{List, [], ◌∷◌, ◌++◌}
 use lib.Dec.{leb}
-use Rattle.text.specs.Refusals.{Refusal, OutOfOrder, NameTooLong, PathTooLong, number_of}
+use Rattle.text.specs.declared.refusals.Refusal.{Refusal}
+use Rattle.text.specs.declared.refusals.Refusal.TheVariants.{OutOfOrder, NameTooLong, PathTooLong}
+use Rattle.text.specs.Refusals.{number_of}
 use Rattle.notation.specs.Limits.{max_steps}
 use Rattle.notation.specs.Sets.{Step, Path, folder, FolderSet, test_of}
 use Rattle.notation.specs.Form.{long_test, step_faults, path_faults, paths_faults, faults_after}

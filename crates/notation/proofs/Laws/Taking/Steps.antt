@@ -10,7 +10,8 @@ use lib.Seq.{sets}
 use Rattle.text.specs.Bytes.{joined}
 use Rattle.text.specs.Names.{max_name}
 use Rattle.text.specs.Read.{got}
-use Rattle.text.specs.Refusals.{NameTooLong, number_of}
+use Rattle.text.specs.declared.refusals.Refusal.TheVariants.{NameTooLong}
+use Rattle.text.specs.Refusals.{number_of}
 use Rattle.notation.specs.Sets.{Axis, child, descendant, label, star, Step, step}
 use Rattle.notation.specs.Print.{print_axis, print_step}
 use Rattle.notation.specs.Layout.{label_size, steps_at, labels_at, star_kind, axis_bit, label_entry}

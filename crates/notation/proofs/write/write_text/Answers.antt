@@ -5,7 +5,8 @@ use mathlib.Core.List.{List}
 use lib.ListN.{length}
 use lib.Seq.{sets}
 use borrow.Author.Tests.{lt-ltb, le-ltb}
-use Rattle.text.specs.Refusals.{number_of, ShortBuffer}
+use Rattle.text.specs.declared.refusals.Refusal.TheVariants.{ShortBuffer}
+use Rattle.text.specs.Refusals.{number_of}
 use Rattle.notation.specs.Reads.{text_of}
 use Rattle.text.specs.Order.{first, given}
 use Rattle.notation.specs.WriteText.{WriteText}

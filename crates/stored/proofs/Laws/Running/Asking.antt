@@ -15,7 +15,8 @@ use Rattle.notation.specs.Sets.{Path, FolderSet, folder_paths}
 use Rattle.notation.specs.Form.{paths_of}
 use Rattle.text.specs.Lists.{any}
 use Rattle.notation.specs.Print.{print}
-use Rattle.text.specs.Refusals.{number_of, NotFound}
+use Rattle.text.specs.declared.refusals.Refusal.TheVariants.{NotFound}
+use Rattle.text.specs.Refusals.{number_of}
 use Rattle.text.specs.Answers.{Answer, refused, value, said}
 use Rattle.notation.specs.Activity.{active}
 use Rattle.notation.specs.Reads.{path_at, folder_of, folder_index}

@@ -17,7 +17,9 @@ use Rattle.text.specs.Answers.{Answer, value, said}
 use Rattle.text.proofs.Laws.Said.{said-refused}
 use Rattle.text.proofs.Laws.Numbers.{some_number}
 use Rattle.notation.specs.Fit.{name_at, Active}
-use Rattle.text.specs.Refusals.{Refusal, number_of, NotFound}
+use Rattle.text.specs.declared.refusals.Refusal.{Refusal}
+use Rattle.text.specs.declared.refusals.Refusal.TheVariants.{NotFound}
+use Rattle.text.specs.Refusals.{number_of}
 use Rattle.notation.specs.declared.PathPlace.{PathPlace}
 use Rattle.notation.specs.declared.FolderNumber.{FolderNumber}
 use Rattle.model.specs.Prefix.{prefix_of}

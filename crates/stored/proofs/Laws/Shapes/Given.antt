@@ -11,7 +11,8 @@ use borrow.Author.Tests.{le-ltb, ltb-false, not-false, leb-false}
 use Rattle.text.specs.Names.{Name, name_form, too_long, max_name, same_name}
 use Rattle.text.specs.Bytes.{le16}
 use Rattle.notation.specs.Layout.{word_size}
-use Rattle.text.specs.Refusals.{ShortBuffer, NameTooLong, OverCapacity, SyntaxError, NotOneRoot, TooDeep, MismatchedClose, NotFound, BadShape, number_of}
+use Rattle.text.specs.declared.refusals.Refusal.TheVariants.{ShortBuffer, NameTooLong, OverCapacity, SyntaxError, NotOneRoot, TooDeep, MismatchedClose, NotFound, BadShape}
+use Rattle.text.specs.Refusals.{number_of}
 use Rattle.model.specs.Limits.{max_depth, max_opens}
 use Rattle.text.specs.Order.{gives, given, first}
 use Rattle.stored.specs.Automaton.{automaton_size}

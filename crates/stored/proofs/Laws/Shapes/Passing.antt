@@ -11,7 +11,7 @@ use lib.Seq.{get_or_at}
 use Rattle.text.specs.Names.{max_name, Name, name_form, too_long, same_name}
 use Rattle.notation.specs.Sets.{FolderSet}
 use Rattle.text.specs.Lists.{non_empty}
-use Rattle.text.specs.Refusals.{SyntaxError, NameTooLong, NotOneRoot, MismatchedClose}
+use Rattle.text.specs.declared.refusals.Refusal.TheVariants.{SyntaxError, NameTooLong, NotOneRoot, MismatchedClose}
 use Rattle.notation.specs.Reads.{label_count}
 use Rattle.model.specs.Limits.{max_depth, max_opens}
 use Rattle.model.specs.Prefix.{prefix_of}

@@ -5,7 +5,8 @@ use native.Mathlib.Omega.{arith}
 use borrow.Author.Tests.{ne_eqb}
 use Rattle.stored.specs.RunCalls.{close_refusal}
 use Rattle.stored.proofs.Laws.Shapes.Given.{lent-usable, close-lent, close-unformed}
-use Rattle.text.specs.Refusals.{SyntaxError, number_of}
+use Rattle.text.specs.declared.refusals.Refusal.TheVariants.{SyntaxError}
+use Rattle.text.specs.Refusals.{number_of}
 use Rattle.machine.proofs.run.close.close_by.Goals as goal
 
 pub returns-then-refused-ne0 : goal.returns-then-refused-ne0

@@ -8,7 +8,8 @@ use Rattle.text.specs.Answers.{refused}
 use Rattle.text.proofs.Laws.Said.{said-refused}
 use Rattle.stored.specs.RunCalls.{open_refusal}
 use Rattle.stored.proofs.Laws.Shapes.Given.{lent-usable, open_lent, open-unformed}
-use Rattle.text.specs.Refusals.{SyntaxError, number_of}
+use Rattle.text.specs.declared.refusals.Refusal.TheVariants.{SyntaxError}
+use Rattle.text.specs.Refusals.{number_of}
 use Rattle.machine.proofs.run.open.open_by.Goals as goal
 
 pub returns-then-refused-ne0 : goal.returns-then-refused-ne0
