@@ -23,6 +23,7 @@ impl Counters {
     }
 
     // Counts an open of so many failure moves.
+    #[tactic(auto, unfolding(model::specs::Limits::max_depth, model::specs::Limits::max_opens))]
     pub fn count_open(&mut self, moves: usize)
         requires { (self.old.opens ≤ max_opens) × ((self.old.moves ≤ max_depth * max_opens) × (moves ≤ max_depth)) }
         ensures { self.new ≡ after_open self.old moves }
@@ -32,6 +33,7 @@ impl Counters {
     }
 
     // Counts a close.
+    #[tactic(auto, unfolding(model::specs::Limits::max_opens))]
     pub fn count_close(&mut self)
         requires { self.old.closes ≤ max_opens }
         ensures { self.new ≡ close_counters self.old }

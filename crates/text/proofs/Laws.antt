@@ -1,6 +1,7 @@
 pub mod Tests
 pub mod Lists
 pub mod Said
+pub mod Says
 pub mod Numbers
 pub mod Order
 pub mod Bytes
