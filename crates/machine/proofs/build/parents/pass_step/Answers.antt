@@ -1,26 +1,27 @@
 -- `build::parents::pass_step`: the step's axis, then its test.
+use Rattle.std.proofs.Common.{Option, Some, None}
 use Prim.Native.Nat.{ℕ, ◌+◌, ◌≤◌, ◌<◌}
 use mathlib.Core.Path.{◌≡◌, sym, ap, ap₂, ◌∙◌}
 use mathlib.Core.Bool.{Bool, true, false}
 use mathlib.Core.List.{List}
 use native.Mathlib.Omega.{arith}
 use Rattle.notation.specs.Reads.{path_at, step_at}
-use Rattle.notation.specs.declared.reads.StepAt.{StepAt}
+use Rattle.notation.specs.declared.reads.StoredStep.{StoredStep}
 use Rattle.stored.specs.Code.Parents.{Passed, starts_at, entered, emptied, labelled, passed_by, passed}
 use Rattle.stored.specs.declared.place.Place.{Place}
 use Rattle.machine.proofs.build.parents.pass_step.Goals as goal
 
 -- what a step does, by what is stored of it
 module _ (i : ℕ) (at : Place) (a : List ℕ) (first : Bool) (e : first ≡ starts_at (path_at a (record { 0 = at.paths })) i) where
-  missing : step_at a i ≡ StepAt.Missing → passed i at a ≡ record { bytes = a; place = at }
+  missing : step_at a i ≡ None → passed i at a ≡ record { bytes = a; place = at }
   unfolding passed
   missing h = rw h
 
-  by-step : {x : StepAt} → step_at a i ≡ x → passed i at a ≡ passed_by x first at a
+  by-step : {x : Option StoredStep} → step_at a i ≡ x → passed i at a ≡ passed_by x first at a
   unfolding passed
-  by-step h = ap₂ (λ (x : StepAt) (f : Bool). passed_by x f at a) h (sym e)
+  by-step h = ap₂ (λ (x : Option StoredStep) (f : Bool). passed_by x f at a) h (sym e)
 
-  module _ (deep star : Bool) (h : step_at a i ≡ StepAt.Step deep star) (on : Place) (g : on ≡ entered first deep at) where
+  module _ (deep star : Bool) (h : step_at a i ≡ Some (record { descendant = deep; star = star })) (on : Place) (g : on ≡ entered first deep at) where
     by-star : star ≡ true → passed i at a ≡ record { bytes = a; place = emptied on }
     by-star k = by-step h ∙ rw (k, g)
 
@@ -46,7 +47,7 @@ returns-then-star c =
     let a = args.part.now in
     let first = c.starts_path-first.result in
     let on = c.enter-on.result in
-    let h : step_at a i ≡ StepAt.Step c.in-Step.descendant c.in-Step.star = sym c.step_at-x.ensures ∙ c.in-Step.is in
+    let h : step_at a i ≡ Some (record { descendant = c.in-Step.descendant; star = c.in-Step.star }) = sym c.step_at-x.ensures ∙ c.in-Step.is in
     let low : on.paths ≤ at.paths + 1 = rw c.enter-on.ensures (entered-paths first c.in-Step.descendant at) in
     let e = by-star i at a first c.starts_path-first.ensures c.in-Step.descendant c.in-Step.star h on c.enter-on.ensures c.if-star.true in (
       sym (ap (λ (r : Passed). r.bytes) e),
@@ -67,7 +68,7 @@ returns-else-star c =
     let a = args.part.now in
     let first = c.starts_path-first.result in
     let on = c.enter-on.result in
-    let h : step_at a i ≡ StepAt.Step c.in-Step.descendant c.in-Step.star = sym c.step_at-x.ensures ∙ c.in-Step.is in
+    let h : step_at a i ≡ Some (record { descendant = c.in-Step.descendant; star = c.in-Step.star }) = sym c.step_at-x.ensures ∙ c.in-Step.is in
     let low : on.paths ≤ at.paths + 1 = rw c.enter-on.ensures (entered-paths first c.in-Step.descendant at) in
     let e = by-label i at a first c.starts_path-first.ensures c.in-Step.descendant c.in-Step.star h on c.enter-on.ensures c.if-star.false in
     let s = c.put_word.ensures.1.1 in (
