@@ -9,7 +9,6 @@ use crate::layout::{
     ANYWHERE_MASK, CHILD_MASK, DESCENDANT_MASK, LAST_MASK, MASK_SIZE, MASKS_AT, ROOT_MASK,
     STAR_MASK, START_AT,
 };
-use notation::reads::{PathAt, StepAt};
 use notation::{PathPlace, reads};
 use text::store::put16;
 use text::truth::negated;
@@ -58,8 +57,8 @@ fn flag_step(part: &mut [u8], i: usize, first: bool, last: bool)
         return;
     }
     match reads::step_at(part, i) {
-        StepAt::Step { descendant, star } => flag_role(part, i, descendant, star, first, last),
-        StepAt::Missing => {}
+        Some(step) => flag_role(part, i, step.descendant, step.star, first, last),
+        None => {}
     }
 }
 
@@ -80,13 +79,8 @@ fn flag_path(part: &mut [u8], place: usize)
     ensures { part.new ≡ flag_path place part.old }
 {
     match reads::path_at(part, PathPlace(place)) {
-        PathAt::Path {
-            first,
-            steps,
-            at: _,
-            size: _,
-        } => flag_steps(part, first, steps),
-        PathAt::Missing => {}
+        Some(path) => flag_steps(part, path.first, path.steps),
+        None => {}
     }
 }
 
@@ -107,11 +101,8 @@ fn is_child(part: &[u8], i: usize) -> bool
     ensures { result ≡ child_at (step_at part.now i) }
 {
     match reads::step_at(part, i) {
-        StepAt::Step {
-            descendant,
-            star: _,
-        } => negated(descendant),
-        StepAt::Missing => false,
+        Some(step) => negated(step.descendant),
+        None => false,
     }
 }
 
@@ -120,13 +111,8 @@ fn is_rooted(part: &[u8], place: usize) -> bool
     ensures { result ≡ rooted part.now place }
 {
     match reads::path_at(part, PathPlace(place)) {
-        PathAt::Path {
-            first,
-            steps: _,
-            at: _,
-            size: _,
-        } => is_child(part, first),
-        PathAt::Missing => false,
+        Some(path) => is_child(part, path.first),
+        None => false,
     }
 }
 

@@ -12,7 +12,6 @@ use crate::layout::{LINK_SIZE, LINKS_AT, PARENT_IN, SIZE_IN};
 use crate::lookup::first_label;
 use crate::walk::{goto_state, size_of};
 use notation::limits::MAX_LABELS;
-use notation::reads::{PathAt, StepAt};
 use notation::{PathPlace, reads};
 use stored::place::Place;
 use text::store::put16;
@@ -22,13 +21,8 @@ fn starts_path(part: &[u8], p: usize, i: usize) -> bool
     ensures { result ≡ starts_at (path_at part.now (record { 0 = p })) i }
 {
     match reads::path_at(part, PathPlace(p)) {
-        PathAt::Path {
-            first,
-            steps: _,
-            at: _,
-            size: _,
-        } => first == i,
-        PathAt::Missing => false,
+        Some(path) => path.first == i,
+        None => false,
     }
 }
 
@@ -105,9 +99,9 @@ fn pass_step(part: &mut [u8], i: usize, at: Place) -> Place
     let first = starts_path(part, at.paths, i);
     let x = reads::step_at(part, i);
     match x {
-        StepAt::Step { descendant, star } => {
-            let on = enter(at, first, descendant);
-            if star {
+        Some(step) => {
+            let on = enter(at, first, step.descendant);
+            if step.star {
                 return Place {
                     labels: on.labels,
                     paths: on.paths,
@@ -116,7 +110,7 @@ fn pass_step(part: &mut [u8], i: usize, at: Place) -> Place
             }
             put_word(part, on)
         }
-        StepAt::Missing => at,
+        None => at,
     }
 }
 
