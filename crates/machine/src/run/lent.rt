@@ -1,5 +1,7 @@
 // What a call on a run is lent: whether it is large enough, and passes the shape test.
-ghost use Rattle.std.specs.Prelude.{◌≡◌};
+#![tactic(auto, unfolding(text::specs::Order::given, text::specs::Order::first, stored::specs::Automaton::automaton_size, stored::specs::Run::run_size, stored::specs::RunCalls::shaped, stored::specs::Asking::ask_refusal))]
+
+ghost use Rattle.std.specs.Prelude.{◌≡◌, true};
 ghost use Rattle.text.specs.Answers.{refusal_in};
 ghost use Rattle.text.specs.Order.{given};
 ghost use Rattle.stored.specs.RunCalls.{too_short, lent_conditions};
@@ -13,7 +15,6 @@ use stored::counters::Counters;
 use text::refusals::Refusal;
 
 // Automaton or run has not its size.
-#[tactic(auto, unfolding(stored::specs::Automaton::automaton_size, stored::specs::Run::run_size))]
 pub fn too_short(a: &[u8], run: &[u8]) -> bool
     ensures { result ≡ too_short a.now run.now }
 {

@@ -1,4 +1,6 @@
 // The refusals of an open and of a close, each in its order.
+#![tactic(auto, unfolding(text::specs::Order::given, text::specs::Order::first, model::specs::Limits::max_depth, model::specs::Limits::max_opens))]
+
 ghost use Rattle.std.specs.Prelude.{◌≡◌, true, ◌≤◌, length};
 ghost use Rattle.text.specs.Answers.{refusal_in};
 ghost use Rattle.text.specs.Names.{name_form};

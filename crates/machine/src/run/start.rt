@@ -1,4 +1,6 @@
 // A start: a fresh run, whatever the run held.
+#![tactic(auto, unfolding(text::specs::Order::given, text::specs::Order::first, stored::specs::Automaton::automaton_size, stored::specs::Run::run_size, stored::specs::RunCalls::start_refusal))]
+
 ghost use Rattle.std.specs.Prelude.{◌≡◌, ◌++◌, ◌≤◌, length, drop, replicate};
 ghost use Rattle.text.specs.Answers.{refusal_in};
 ghost use Rattle.stored.specs.Run.{run_size};
