@@ -1,4 +1,6 @@
 // The calls that ask a run, and change nothing.
+#![tactic(auto, unfolding(text::specs::Order::given, text::specs::Order::first, stored::specs::Asking::ask_refusal, stored::specs::Asking::ask_path, stored::specs::Asking::ask_folder, stored::specs::Asking::ask_step, stored::specs::Asking::ask_prefix, stored::specs::Asking::name_refusal, stored::specs::Asking::place_matched, stored::specs::Run::active_in, stored::specs::Run::row_size, stored::specs::Run::run_size, stored::specs::RunCalls::run_shaped))]
+
 ghost use Rattle.std.specs.Prelude.{◌≡◌, ◌+◌, ◌-◌, ◌≤◌};
 ghost use Rattle.text.specs.Answers.{says, refusal_in};
 ghost use Rattle.stored.specs.Usable.{Ready};

@@ -1,4 +1,6 @@
 // Inner calls on matches: they read by what is stored, without the refusals of the asking calls.
+#![tactic(auto, unfolding(text::specs::Lists::any, stored::specs::Run::matches_at, stored::specs::Asking::place_matched))]
+
 ghost use Rattle.std.specs.Prelude.{◌≡◌, ◌<◌, Some};
 ghost use Rattle.model.specs.Folders.{count_from};
 ghost use Rattle.notation.specs.Reads.{path_top};
@@ -26,10 +28,7 @@ pub fn last_matched(run: &[u8], path: StoredPath) -> bool
 pub fn place_matched(a: &[u8], run: &[u8], place: PathPlace) -> bool
     ensures { result ≡ place_matched a.now run.now place }
 {
-    match reads::path_at(a, place) {
-        Some(path) => last_matched(run, path),
-        None => false,
-    }
+    reads::path_at(a, place).is_some_and(|path| last_matched(run, path))
 }
 
 // One of the paths of folder `i` is matched.
