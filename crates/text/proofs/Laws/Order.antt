@@ -15,7 +15,7 @@ use Rattle.text.specs.declared.refusals.Refusal.{Refusal}
 use Rattle.text.specs.Refusals.{number_of}
 use Rattle.text.specs.Answers.{Answer, refused, value, said, number_said, says, refusal_in}
 use Rattle.text.proofs.Laws.Numbers.{one-refusal, some_number}
-use Rattle.text.proofs.Laws.Results.{ok_says}
+use Rattle.text.proofs.Laws.Results.{err_says, ok_says, handed_number, handed_says}
 use Rattle.text.proofs.Laws.Said.{said-value, said-refused, value-said, refused-said}
 use Rattle.text.specs.Order.{Condition, gives, holds, FirstOf, first, is_none, number_in, given, GivenBy, AnswersBy}
 use Rattle.text.proofs.Laws.Tests.{clash, and_left, and_right}
@@ -189,3 +189,6 @@ refused_first order later q e = e ∙ sym (given-first order later (λ z. some_n
 -- and where the first gives none, the number is the later one's
 pub then_given : (order later : List Condition) (n : ℕ) → 0 ≡ given order → n ≡ given later → n ≡ given (order ++ later)
 then_given order later n z e = e ∙ sym (given-then order later (sym z))
+
+-- for the exits of a function that returns a `Result`: `#[tactic(auto, using(text::proofs::Laws::Order::refusing))]`
+pub ruleset refusing = (refused_first, then_given, given-cons, given-none, err_says, ok_says, handed_number, handed_says)
