@@ -2,7 +2,7 @@
 -- place once, with the number of the last folder whose first path is not after it.
 use Rattle.std.specs.Prelude.{ℕ, zero, suc, not, ◌&&◌, ◌||◌, cond, List, [], ◌∷◌, map, leb, ltb, length}
 use Rattle.text.specs.Bytes.{joined}
-use Rattle.text.specs.Refusals.{short_buffer, bad_shape}
+use Rattle.text.specs.declared.refusals.Refusal.TheVariants.{ShortBuffer, BadShape}
 use Rattle.text.specs.Order.{Condition, gives}
 use Rattle.text.specs.Written.{TextWritten}
 use Rattle.text.specs.declared.written.Written.{Written}
@@ -50,7 +50,7 @@ sheet_in a run = sheet (rows_in a run)
 -- 1 (automaton, run or sheet), 14 (automaton and run)
 abbrev pub sheet_conditions : List ℕ → List ℕ → List ℕ → List Condition
 sheet_conditions a run out =
-    gives (too_short a run || ltb (length out) sheet_size) short_buffer ∷ gives (not (automaton_shaped a && run_shaped a run)) bad_shape ∷ []
+    gives (too_short a run || ltb (length out) sheet_size) ShortBuffer ∷ gives (not (automaton_shaped a && run_shaped a run)) BadShape ∷ []
 
 -- the sheet is written and its length answered, and bytes past it stay; or it is refused, and nothing is changed
 abbrev pub SheetWritten : List ℕ → List ℕ → List ℕ → Written → List ℕ → Type 0

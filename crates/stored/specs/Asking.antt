@@ -5,7 +5,7 @@ use Rattle.text.specs.Names.{Name, within}
 use Rattle.text.specs.Part.{PartOf}
 use Rattle.notation.specs.Reads.{path_at, folder_of}
 use Rattle.text.specs.Answers.{Answer, said}
-use Rattle.text.specs.Refusals.{short_buffer, bad_shape, not_found}
+use Rattle.text.specs.declared.refusals.Refusal.TheVariants.{ShortBuffer, BadShape, NotFound}
 use Rattle.notation.specs.declared.PathPlace.{PathPlace}
 use Rattle.notation.specs.declared.FolderNumber.{FolderNumber}
 use Rattle.notation.specs.declared.reads.PathAt.{PathAt}
@@ -23,9 +23,9 @@ use Rattle.stored.specs.RunCalls.{depth_of, name_length, stored_name, state_at, 
 -- 1, 14 (automaton and run), then 13 where what is asked of is not there
 abbrev pub ask_conditions : List ℕ → List ℕ → Bool → List Condition
 ask_conditions a run there =
-    gives (too_short a run) short_buffer
-    ∷ gives (not (automaton_shaped a && run_shaped a run)) bad_shape
-    ∷ gives (not there) not_found
+    gives (too_short a run) ShortBuffer
+    ∷ gives (not (automaton_shaped a && run_shaped a run)) BadShape
+    ∷ gives (not there) NotFound
     ∷ []
 
 unfoldable pub ask_refusal : List ℕ → List ℕ → Bool → ℕ

@@ -9,7 +9,7 @@ use borrow.Author.Tests.{leb-false, eq-eqb, ne_eqb}
 use lib.Dec.{leb}
 use lib.ListN.{length, get_or}
 use Rattle.notation.specs.Sets.{Path, folder, FolderSet, folder_number}
-use Rattle.text.specs.Refusals.{out_of_order}
+use Rattle.text.specs.declared.refusals.Refusal.TheVariants.{OutOfOrder}
 use Rattle.notation.specs.Form.{paths_faults, faults_after}
 use Rattle.notation.specs.Reads.{folder_index}
 use Rattle.notation.specs.declared.reads.FolderIndex.{FolderIndex}
@@ -21,13 +21,13 @@ module _ (last n : ℕ) (ps : List Path) (fs : FolderSet) (clean : faults_after 
   unfolding faults_after
   first_above =
       leb-false n last
-      (unfaulted out_of_order (leb n last) (none_left (cond (leb n last) (out_of_order ∷ []) []) (paths_faults ps ++ faults_after n fs) clean))
+      (unfaulted OutOfOrder (leb n last) (none_left (cond (leb n last) (OutOfOrder ∷ []) []) (paths_faults ps ++ faults_after n fs) clean))
 
   others-clean : faults_after n fs ≡ []
   unfolding faults_after
   others-clean =
       none_right (paths_faults ps) (faults_after n fs)
-      (none_right (cond (leb n last) (out_of_order ∷ []) []) (paths_faults ps ++ faults_after n fs) clean)
+      (none_right (cond (leb n last) (OutOfOrder ∷ []) []) (paths_faults ps ++ faults_after n fs) clean)
 
 -- every number is above the last one before the set
 pub above : (last : ℕ) (fs : FolderSet) → faults_after last fs ≡ [] → (i : ℕ) → i < length fs → last < folder_number (get_or fs i no_folder)

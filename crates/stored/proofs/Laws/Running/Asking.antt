@@ -15,7 +15,8 @@ use Rattle.notation.specs.Sets.{Path, FolderSet, folder_paths}
 use Rattle.notation.specs.Form.{paths_of}
 use Rattle.text.specs.Lists.{any}
 use Rattle.notation.specs.Print.{print}
-use Rattle.text.specs.Refusals.{number_of, not_found}
+use Rattle.text.specs.declared.refusals.Refusal.TheVariants.{NotFound}
+use Rattle.text.specs.Refusals.{number_of}
 use Rattle.text.specs.Answers.{Answer, refused, value, said}
 use Rattle.notation.specs.Activity.{active}
 use Rattle.notation.specs.Reads.{path_at, folder_of, folder_index}
@@ -48,7 +49,7 @@ use Rattle.stored.proofs.Laws.Running.FolderPlaces.{has_number, Placed, missing,
 
 -- the answer where it is there, else 13
 abbrev pub asked : Bool → Bool → Answer Bool
-asked there b = cond there (value b) (refused (number_of not_found))
+asked there b = cond there (value b) (refused (number_of NotFound))
 
 any_same : (f g : ℕ → Bool) (first n : ℕ) → ((i : ℕ) → first ≤ i → i < first + n → f i ≡ g i) → any f (count_from first n) ≡ any g (count_from first n)
 unfolding any count_from
@@ -81,7 +82,7 @@ module _ (s : FolderSet) (a : List ℕ) (m : Means s a) (st : State) (few : Few 
   run = run_of s st ++ rest
 
   -- only 13 is left
-  ask-refused : (there : Bool) → ask_refusal a run there ≡ cond there 0 (number_of not_found)
+  ask-refused : (there : Bool) → ask_refusal a run there ≡ cond there 0 (number_of NotFound)
   unfolding ask_refusal given first
   ask-refused true = rw (long-enough s a m st few rest, m.shaped, run-shaped s a m st few rest)
   ask-refused false = rw (long-enough s a m st few rest, m.shaped, run-shaped s a m st few rest)
@@ -186,7 +187,7 @@ module _ (s : FolderSet) (a : List ℕ) (m : Means s a) (st : State) (few : Few 
   ask-prefix = ap₂ (λ (r n : ℕ). said r n) (ask-refused true) prefix-size
 
   -- the open name at a depth
-  pub ask-name-refused : (d : ℕ) → name_refusal a run d ≡ cond (within 1 (length names) d) 0 (number_of not_found)
+  pub ask-name-refused : (d : ℕ) → name_refusal a run d ≡ cond (within 1 (length names) d) 0 (number_of NotFound)
   unfolding name_refusal
   ask-name-refused d = rw (stored-depth s a m st few rest, ← names-length s st g) (ask-refused (within 1 (length names) d))
 
