@@ -1,10 +1,10 @@
 -- What the calls that write a listing promise, of any automaton, run and counters, by what is stored.
-use Rattle.std.specs.Prelude.{ℕ, max, not, ◌||◌, cond, List, [], ◌∷◌, ◌++◌, ltb, length}
+use Rattle.std.specs.Prelude.{ℕ, max, not, ◌||◌, cond, List, [], ◌∷◌, ◌++◌, ltb, length, Option, Some, None}
 use Rattle.text.specs.Decimal.{decimal}
 use Rattle.notation.specs.Print.{folder_word, footer}
 use Rattle.text.specs.declared.refusals.Refusal.TheVariants.{ShortBuffer, BadShape}
 use Rattle.text.specs.Written.{TextWritten}
-use Rattle.notation.specs.declared.reads.FolderAt.{FolderAt}
+use Rattle.notation.specs.declared.reads.StoredFolder.{StoredFolder}
 use Rattle.model.specs.Folders.{count_from}
 use Rattle.text.specs.Order.{Condition, gives, given}
 use Rattle.stored.specs.RunCalls.{shaped, too_short}
@@ -31,9 +31,9 @@ paths_listed a run (place ∷ places) = if_matched a run place ++ paths_listed a
 unfoldable pub line_listed : List ℕ → List ℕ → ℕ → List ℕ → List ℕ
 line_listed a run number places = folder_word ++ (decimal number ++ (paths_listed a run places ++ footer))
 
-abbrev pub line_at : List ℕ → List ℕ → FolderAt → List ℕ
-line_at a run (FolderAt.Folder number first count) = line_listed a run number.0 (count_from first.0 count)
-line_at a run FolderAt.Missing = []
+abbrev pub line_at : List ℕ → List ℕ → Option StoredFolder → List ℕ
+line_at a run (Some f) = line_listed a run f.number.0 (count_from f.first.0 f.paths)
+line_at a run None = []
 
 -- none where no path is matched
 unfoldable pub folder_listed : List ℕ → List ℕ → ℕ → List ℕ

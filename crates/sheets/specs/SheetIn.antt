@@ -1,13 +1,13 @@
 -- The class sheet of any automaton and run, by what is stored, and what the call that writes it promises. Rows go by path place: each matched
 -- place once, with the number of the last folder whose first path is not after it.
-use Rattle.std.specs.Prelude.{ℕ, zero, suc, not, ◌&&◌, ◌||◌, cond, List, [], ◌∷◌, map, leb, ltb, length}
+use Rattle.std.specs.Prelude.{ℕ, zero, suc, not, ◌&&◌, ◌||◌, cond, List, [], ◌∷◌, map, leb, ltb, length, Option, Some, None}
 use Rattle.text.specs.Bytes.{joined}
 use Rattle.text.specs.declared.refusals.Refusal.TheVariants.{ShortBuffer, BadShape}
 use Rattle.text.specs.Order.{Condition, gives}
 use Rattle.text.specs.Written.{TextWritten}
 use Rattle.text.specs.declared.written.Written.{Written}
 use Rattle.notation.specs.Limits.{max_paths}
-use Rattle.notation.specs.declared.reads.FolderAt.{FolderAt}
+use Rattle.notation.specs.declared.reads.StoredFolder.{StoredFolder}
 use Rattle.model.specs.Folders.{count_from}
 use Rattle.stored.specs.Shape.{automaton_shaped}
 use Rattle.stored.specs.RunCalls.{run_shaped, too_short}
@@ -29,9 +29,9 @@ abbrev pub matched_places : List ℕ → List ℕ → List ℕ
 matched_places a run = matched_from a run 0 max_paths
 
 -- a folder's number if its first path is not after the place
-abbrev pub or_before : FolderAt → ℕ → ℕ → ℕ
-or_before (FolderAt.Folder number first count) place before = cond (leb first.0 place) number.0 before
-or_before FolderAt.Missing place before = before
+abbrev pub or_before : Option StoredFolder → ℕ → ℕ → ℕ
+or_before (Some f) place before = cond (leb f.first.0 place) f.number.0 before
+or_before None place before = before
 
 -- that of the last such among the first n folders, 0 where there is none
 unfoldable pub number_among : List ℕ → ℕ → ℕ → ℕ

@@ -1,4 +1,5 @@
 -- The numbers of a set without a fault rise, so the folder of a folder's number is that folder.
+use Rattle.std.proofs.Common.{Some}
 use Prim.Native.Nat.{ℕ, zero, suc, ◌+◌, ◌<◌}
 use mathlib.Core.Path.{◌≡◌, refl}
 use mathlib.Core.Bool.{cond}
@@ -12,7 +13,6 @@ use Rattle.notation.specs.Sets.{Path, folder, FolderSet, folder_number}
 use Rattle.text.specs.declared.refusals.Refusal.TheVariants.{OutOfOrder}
 use Rattle.notation.specs.Form.{paths_faults, faults_after}
 use Rattle.notation.specs.Reads.{folder_index}
-use Rattle.notation.specs.declared.reads.FolderIndex.{FolderIndex}
 use Rattle.notation.proofs.Laws.Stored.FolderTable.{no_folder}
 use Rattle.notation.proofs.Laws.Refused.WithinLimits.{unfaulted, none_left, none_right}
 
@@ -37,7 +37,7 @@ above last (folder n ps ∷ fs) e (suc i) h =
     omega (arith, first_above last n ps fs e, above n fs (others-clean last n ps fs e) i (le_of_suc-le-suc h))
 
 pub rising-index : (last k : ℕ) (fs : FolderSet) → faults_after last fs ≡ [] → (i : ℕ) → i < length fs
-    → folder_index (folder_number (get_or fs i no_folder)) k fs ≡ FolderIndex.At (k + i)
+    → folder_index (folder_number (get_or fs i no_folder)) k fs ≡ Some (k + i)
 unfolding folder_index
 rising-index last k [] e i h = absurd (not-suc-le-zero h)
 rising-index last k (folder n ps ∷ fs) e zero h = rw (eq-eqb n n refl, add-zero)

@@ -1,4 +1,5 @@
 -- On the run of a machine's state the asking calls answer what the machine has, and 13 exactly where what is asked of is not there.
+use Rattle.std.proofs.Common.{None}
 use Prim.Native.Nat.{ℕ, zero, suc, ◌+◌, ◌-◌, ◌*◌, ◌≤◌, ◌<◌, pred}
 use mathlib.Core.Path.{◌≡◌, refl, ◌∙◌, ap, ap₂}
 use mathlib.Core.Bool.{Bool, true, false, ◌&&◌, ◌||◌, cond}
@@ -22,7 +23,6 @@ use Rattle.notation.specs.Activity.{active}
 use Rattle.notation.specs.Reads.{path_at, folder_of, folder_index}
 use Rattle.notation.specs.declared.PathPlace.{PathPlace}
 use Rattle.notation.specs.declared.FolderNumber.{FolderNumber}
-use Rattle.notation.specs.declared.reads.PathAt.{PathAt}
 use Rattle.notation.proofs.Laws.Stored.PathTable.{steps_before, steps-through}
 use Rattle.notation.proofs.Laws.Stored.FolderTable.{no_folder, paths_before, paths-between, paths-before-most}
 use Rattle.notation.proofs.Laws.Stored.ReadPaths.{PathRead, path-read, path-missing}
@@ -94,7 +94,7 @@ module _ (s : FolderSet) (a : List ℕ) (m : Means s a) (st : State) (few : Few 
   path-there : (i : ℕ) → i < length ps → PathRead a (print s) i (steps_before ps i) (get_or ps i [])
   path-there i h = rw m.stored (path-read s m.fit m.more i h)
 
-  path-gone : (i : ℕ) → length ps ≤ i → path_at a (record { 0 = i }) ≡ PathAt.Missing
+  path-gone : (i : ℕ) → length ps ≤ i → path_at a (record { 0 = i }) ≡ None
   path-gone i h = rw m.stored (path-missing s m.fit m.more i h)
 
   steps-room : (i k : ℕ) → i < length ps → k < length (get_or ps i []) → steps_before ps i + k < 8 * mask_size
