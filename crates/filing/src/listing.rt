@@ -10,7 +10,6 @@ use crate::limits::LISTING_SIZE;
 use machine::run::{lent, matches};
 use machine::set;
 use notation::PathPlace;
-use notation::reads::FolderAt;
 use stored::counters::Counters;
 use text::output::{Cursor, begin, emit, emit_number, emit_numbered};
 use text::refusals::SHORT_BUFFER;
@@ -57,14 +56,11 @@ fn emit_paths(
 fn emit_line(a: &[u8], run: &[u8], i: usize, out: &mut [u8], cursor: Cursor) -> Cursor
     ensures { Adds out.old cursor (line_at a.now run.now (folder_held a.now i)) out.new result }
 {
-    match set::folder_at(a, i) {
-        FolderAt::Folder {
-            number,
-            first,
-            paths,
-        } => emit_folder_line(a, run, number.0, first.0, paths, out, cursor),
-        FolderAt::Missing => cursor,
-    }
+    let Some(folder) = set::folder_at(a, i) else {
+        return cursor;
+    };
+    let number = folder.number.0;
+    emit_folder_line(a, run, number, folder.first.0, folder.paths, out, cursor)
 }
 
 fn emit_folder_line(

@@ -8,7 +8,6 @@ use Rattle.notation.specs.Sets.{Path, Folder, FolderSet, folder_number}
 use Rattle.notation.specs.Form.{paths_of}
 use Rattle.notation.specs.Accepted.{Accepted}
 use Rattle.notation.specs.declared.PathPlace.{PathPlace}
-use Rattle.notation.specs.declared.reads.StoredFolder.{StoredFolder}
 use Rattle.model.specs.Folders.{count_from, HasFolders}
 use Rattle.stored.specs.Build.{Built}
 use Rattle.stored.specs.Run.{run_size}

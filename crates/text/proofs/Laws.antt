@@ -1,8 +1,8 @@
 pub mod Tests
 pub mod Lists
 pub mod Said
-pub mod Says
 pub mod Numbers
+pub mod Results
 pub mod Order
 pub mod Bytes
 pub mod Decimal

@@ -12,7 +12,6 @@ use Rattle.notation.specs.Sets.{Path, folder, FolderSet, folder_number, folder_p
 use Rattle.text.specs.Lists.{non_empty, any}
 use Rattle.notation.specs.Form.{paths_of}
 use Rattle.notation.specs.Print.{print_path, print_paths, print_folder}
-use Rattle.notation.specs.declared.reads.StoredFolder.{StoredFolder}
 use Rattle.notation.proofs.Laws.Stored.FolderTable.{no_folder, paths_before, paths-between, paths-before-most}
 use Rattle.model.specs.Folders.{count_from}
 use Rattle.model.specs.Calls.{State}

@@ -34,9 +34,9 @@ module _ (a : List ℕ) (place : ℕ) where
 
   step : (n number : ℕ) (f : Option StoredFolder) → folder_held a n ≡ f → Among n number → Among (suc n) (or_before f place number)
   step n number (Some f) e x =
-      cases (leb first.0 place)
-      (λ t. rw t (last n (omega arith) (record { first = first; count = count; held = e; before = leb-true first.0 place t }) (λ j k u v _. absurd (omega arith))))
-      (λ f. rw f (passed n number (λ k b. let same = sym e ∙ b.held in let z : first ≡ b.first = cc in absurd (omega (arith, leb-false first.0 place f, b.before, ap (λ p. p.0) z))) x))
+      cases (leb f.first.0 place)
+      (λ t. rw t (last n (omega arith) (record { first = f.first; count = f.paths; held = e; before = leb-true f.first.0 place t }) (λ j k u v _. absurd (omega arith))))
+      (λ u. rw u (passed n number (λ k b. let same = sym e ∙ b.held in let z : f.first ≡ b.first = cc in absurd (omega (arith, leb-false f.first.0 place u, b.before, ap (λ p. p.0) z))) x))
   step n number None e x = passed n number (λ k b. let same = sym e ∙ b.held in let z : ◌≡◌ {A = ℕ} 0 1 = cc in absurd (omega arith)) x
 
   among : (n : ℕ) → Among n (number_among a place n)

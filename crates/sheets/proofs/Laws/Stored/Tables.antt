@@ -12,8 +12,6 @@ use lib.Seq.{get_or-take, get_or-set_same, get_or-set_other, length-take-le, tak
 use borrow.Author.Tests.{leb-true, leb-false, le-leb}
 use Rattle.text.specs.Bytes.{joined}
 use Rattle.notation.specs.Limits.{max_number, max_paths}
-use Rattle.notation.specs.declared.PathPlace.{PathPlace}
-use Rattle.notation.specs.declared.FolderNumber.{FolderNumber}
 use Rattle.notation.specs.declared.reads.StoredFolder.{StoredFolder}
 use Rattle.model.specs.Folders.{count_from}
 use Rattle.stored.specs.Shape.{automaton_shaped}
@@ -74,9 +72,9 @@ among-most a h place (suc n) = go (folder_held a n) (number-most a h n) (among-m
     go None k l = l
 
 -- a folder that is there is entered from its first path on
-pub entered : (f : Option StoredFolder) (number : FolderNumber) (first : PathPlace) (count : ℕ) (before after : List ℕ) → f ≡ Some (record { number = number; first = first; paths = count })
-    → Filled before first.0 number.0 after → Entered f before after
-entered f number first count before after e h = rw e (record { size = h.size; each = h.each })
+pub entered : (f : Option StoredFolder) (folder : StoredFolder) (before after : List ℕ) → f ≡ Some folder
+    → Filled before folder.first.0 folder.number.0 after → Entered f before after
+entered f folder before after e h = rw e (record { size = h.size; each = h.each })
 
 pub not_entered : (f : Option StoredFolder) (l : List ℕ) → f ≡ None → Entered f l l
 not_entered f l e = rw e (record { size = refl; each = λ p h. refl })
