@@ -55,14 +55,8 @@ fn flag_step(part: &mut [u8], i: usize, first: bool, last: bool)
     if STEP_BITS <= i {
         return;
     }
-<<<<<<< HEAD
-    match reads::step_at(part, i) {
-        Some(step) => flag_role(part, i, step.descendant, step.star, first, last),
-        None => {}
-=======
     if let Some(step) = reads::step_at(part, i) {
         flag_role(part, i, step.descendant, step.star, first, last);
->>>>>>> origin/main
     }
 }
 
@@ -82,14 +76,8 @@ fn flag_path(part: &mut [u8], place: usize)
     requires { automaton_size ≤ length part.old }
     ensures { part.new ≡ flag_path place part.old }
 {
-<<<<<<< HEAD
-    match reads::path_at(part, PathPlace(place)) {
-        Some(path) => flag_steps(part, path.first, path.steps),
-        None => {}
-=======
     if let Some(path) = reads::path_at(part, PathPlace(place)) {
         flag_steps(part, path.first, path.steps);
->>>>>>> origin/main
     }
 }
 
@@ -109,28 +97,14 @@ pub fn write_masks(part: &mut [u8])
 fn is_child(part: &[u8], i: usize) -> bool
     ensures { result ≡ child_at (step_at part.now i) }
 {
-<<<<<<< HEAD
-    match reads::step_at(part, i) {
-        Some(step) => negated(step.descendant),
-        None => false,
-    }
-=======
     reads::step_at(part, i).is_some_and(|step| !step.descendant)
->>>>>>> origin/main
 }
 
 // The path of this place begins with `/`.
 fn is_rooted(part: &[u8], place: usize) -> bool
     ensures { result ≡ rooted part.now place }
 {
-<<<<<<< HEAD
-    match reads::path_at(part, PathPlace(place)) {
-        Some(path) => is_child(part, path.first),
-        None => false,
-    }
-=======
     reads::path_at(part, PathPlace(place)).is_some_and(|path| is_child(part, path.first))
->>>>>>> origin/main
 }
 
 fn start_state(part: &[u8]) -> usize

@@ -20,14 +20,7 @@ use text::store::put16;
 fn starts_path(part: &[u8], p: usize, i: usize) -> bool
     ensures { result ≡ starts_at (path_at part.now (record { 0 = p })) i }
 {
-<<<<<<< HEAD
-    match reads::path_at(part, PathPlace(p)) {
-        Some(path) => path.first == i,
-        None => false,
-    }
-=======
     reads::path_at(part, PathPlace(p)).is_some_and(|path| path.first == i)
->>>>>>> origin/main
 }
 
 fn enter(at: Place, first: bool, deep: bool) -> Place
@@ -101,22 +94,6 @@ fn pass_step(part: &mut [u8], i: usize, at: Place) -> Place
     ensures { (part.new ≡ (passed i at part.old).bytes) × ((result ≡ (passed i at part.old).place) × (Sound (i + 1) result part.new)) }
 {
     let first = starts_path(part, at.paths, i);
-<<<<<<< HEAD
-    let x = reads::step_at(part, i);
-    match x {
-        Some(step) => {
-            let on = enter(at, first, step.descendant);
-            if step.star {
-                return Place {
-                    labels: on.labels,
-                    paths: on.paths,
-                    state: 0,
-                };
-            }
-            put_word(part, on)
-        }
-        None => at,
-=======
     let Some(step) = reads::step_at(part, i) else {
         return at;
     };
@@ -127,7 +104,6 @@ fn pass_step(part: &mut [u8], i: usize, at: Place) -> Place
             paths: on.paths,
             state: 0,
         };
->>>>>>> origin/main
     }
     put_word(part, on)
 }

@@ -2,19 +2,10 @@
 #![tactic(auto, unfolding(text::specs::Order::given, text::specs::Order::first, stored::specs::Asking::ask_refusal, stored::specs::Asking::ask_path, stored::specs::Asking::ask_folder, stored::specs::Asking::ask_step, stored::specs::Asking::ask_prefix, stored::specs::Asking::name_refusal, stored::specs::Asking::place_matched, stored::specs::Run::active_in, stored::specs::Run::row_size, stored::specs::Run::run_size, stored::specs::RunCalls::run_shaped))]
 
 ghost use Rattle.std.specs.Prelude.{◌≡◌, ◌+◌, ◌-◌, ◌≤◌};
-<<<<<<< HEAD
 ghost use Rattle.text.specs.Answers.{says, refusal_in};
 ghost use Rattle.stored.specs.Usable.{Ready};
 ghost use Rattle.stored.specs.RunCalls.{depth_of, active_at};
 ghost use Rattle.stored.specs.Asking.{ask_path, ask_folder, ask_step, ask_prefix, name_refusal, OpenName};
-=======
-ghost use Rattle.text.specs.Names.{within};
-ghost use Rattle.text.specs.Answers.{said};
-ghost use Rattle.stored.specs.Answers.{asked_says, length_says};
-ghost use Rattle.stored.specs.Usable.{Ready};
-ghost use Rattle.stored.specs.RunCalls.{depth_of, active_at};
-ghost use Rattle.stored.specs.Asking.{ask_refusal, ask_path, ask_folder, ask_step, ask_prefix, name_refusal, OpenName};
->>>>>>> origin/main
 
 use crate::bits::bit_in;
 use crate::run::layout::ACTIVE_IN;
@@ -23,57 +14,24 @@ use crate::run::refusals::stored_name;
 use crate::run::{matches, rows, shape};
 use crate::walk::size_of;
 use notation::{FolderNumber, PathPlace, reads};
-<<<<<<< HEAD
 use text::refusals::Refusal;
-=======
-use stored::answers::{Asked, Length};
-use text::arith::minus;
-use text::truth::between;
-
-fn answer(refused: u8, yes: bool) -> Asked
-    ensures { asked_says result ≡ said refused yes }
-{
-    if refused != 0 {
-        return Asked::Refused(refused);
-    }
-    if yes {
-        return Asked::Yes;
-    }
-    Asked::No
-}
->>>>>>> origin/main
 
 // Is a path matched?
 pub fn path_matched(a: &[u8], run: &[u8], place: PathPlace) -> Result<bool, Refusal>
     ensures { says result ≡ ask_path a.now run.now place }
 {
-<<<<<<< HEAD
     pair_refusal(a, run)?;
     let path = reads::path_at(a, place).ok_or(Refusal::NotFound)?;
     Ok(matches::last_matched(run, path))
-=======
-    let refused = refusals::ask_refusal(a, run, reads::path_at(a, place).is_some());
-    answer(refused, matches::place_matched(a, run, place))
->>>>>>> origin/main
 }
 
 // Is a folder, by its number, matched?
 pub fn folder_matched(a: &[u8], run: &[u8], number: FolderNumber) -> Result<bool, Refusal>
     ensures { says result ≡ ask_folder a.now run.now number }
 {
-<<<<<<< HEAD
     pair_refusal(a, run)?;
     let i = reads::folder_of(a, number).ok_or(Refusal::NotFound)?;
     Ok(matches::folder_paths_matched(a, run, i))
-=======
-    let Some(i) = reads::folder_of(a, number) else {
-        return answer(refusals::ask_refusal(a, run, false), false);
-    };
-    answer(
-        refusals::ask_refusal(a, run, true),
-        matches::folder_paths_matched(a, run, i),
-    )
->>>>>>> origin/main
 }
 
 // Step s, from 1, of a path that begins with step `first`, on the innermost element.
@@ -89,19 +47,12 @@ fn bit_active(a: &[u8], run: &[u8], first: usize, s: usize) -> bool
 pub fn step_active(a: &[u8], run: &[u8], place: PathPlace, s: usize) -> Result<bool, Refusal>
     ensures { says result ≡ ask_step a.now run.now place s }
 {
-<<<<<<< HEAD
     pair_refusal(a, run)?;
     let path = reads::path_at(a, place).ok_or(Refusal::NotFound)?;
     if s < 1 || path.steps < s {
         return Err(Refusal::NotFound);
     }
     Ok(bit_active(a, run, path.first, s))
-=======
-    let Some(path) = reads::path_at(a, place) else {
-        return answer(refusals::ask_refusal(a, run, false), false);
-    };
-    ask_step(a, run, path.first, path.steps, s)
->>>>>>> origin/main
 }
 
 // The length of the current prefix.

@@ -10,10 +10,7 @@ ghost use Rattle.stored.specs.Asking.{last_matched, place_matched, any_matched, 
 use crate::bits::bit_in;
 use crate::run::layout::MATCHES_AT;
 use crate::set;
-<<<<<<< HEAD
 use notation::reads::StoredPath;
-=======
->>>>>>> origin/main
 use notation::{PathPlace, reads};
 
 // The match bit of a path's last step.
@@ -31,37 +28,13 @@ pub fn last_matched(run: &[u8], path: StoredPath) -> bool
 pub fn place_matched(a: &[u8], run: &[u8], place: PathPlace) -> bool
     ensures { result ≡ place_matched a.now run.now place }
 {
-<<<<<<< HEAD
     reads::path_at(a, place).is_some_and(|path| last_matched(run, path))
-=======
-    let Some(path) = reads::path_at(a, place) else {
-        return false;
-    };
-    bit_in(run, MATCHES_AT, minus(path.first + path.steps, 1))
-}
-
-// One of `count` paths from place `first` on is matched.
-fn any_matched(a: &[u8], run: &[u8], first: usize, count: usize) -> bool
-    requires { (first ≤ 65536) × (count ≤ 65536) }
-    ensures { result ≡ any_matched a.now run.now (count_from first count) }
-{
-    let mut i = 0;
-    while i < count {
-        let place = first + i;
-        if place_matched(a, run, PathPlace(place)) {
-            return true;
-        }
-        i += 1;
-    }
-    false
->>>>>>> origin/main
 }
 
 // One of the paths of folder `i` is matched.
 pub fn folder_paths_matched(a: &[u8], run: &[u8], i: usize) -> bool
     ensures { result ≡ any_matched a.now run.now (paths_of_folder (folder_held a.now i)) }
 {
-<<<<<<< HEAD
     match set::folder_at(a, i) {
         Some(folder) => {
             let first = folder.first.0;
@@ -69,10 +42,4 @@ pub fn folder_paths_matched(a: &[u8], run: &[u8], i: usize) -> bool
         }
         None => false,
     }
-=======
-    let Some(folder) = set::folder_at(a, i) else {
-        return false;
-    };
-    any_matched(a, run, folder.first.0, folder.paths)
->>>>>>> origin/main
 }

@@ -1,8 +1,8 @@
 -- What a call's contract says where it refuses, and where it is accepted.
 use Prim.Native.Nat.{ℕ}
-use mathlib.Core.Path.{◌≡◌, refl, sym, ◌∙◌, ap}
-use mathlib.Core.Bool.{Bool, true, false, not, ◌&&◌}
-use mathlib.Core.List.{List, [], ◌∷◌}
+use mathlib.Core.Path.{◌≡◌, sym, ◌∙◌, ap}
+use mathlib.Core.Bool.{true, false}
+use mathlib.Core.List.{List}
 use lib.Dec.{eqb}
 use borrow.Author.Tests.{eq-eqb, ne_eqb}
 use Rattle.std.specs.Prelude.{Result, Ok, Err}
@@ -10,15 +10,12 @@ use Rattle.std.specs.Result.{IsErrAnd}
 use Rattle.text.specs.declared.refusals.Refusal.{Refusal}
 use Rattle.text.specs.Refusals.{number_of}
 use Rattle.text.specs.Names.{Name, name_form}
-use Rattle.text.specs.declared.refusals.Refusal.TheVariants.{ShortBuffer, SyntaxError, NotFound, BadShape}
-use Rattle.text.specs.Answers.{said, says, refusal_in}
-use Rattle.text.specs.Order.{Condition, gives, given, first}
-use Rattle.text.proofs.Laws.Order.{given-first, given-then}
+use Rattle.text.specs.declared.refusals.Refusal.TheVariants.{SyntaxError}
+use Rattle.text.specs.Answers.{says, refusal_in}
+use Rattle.text.specs.Order.{given}
 use Rattle.text.proofs.Laws.Numbers.{some_number}
-use Rattle.text.proofs.Laws.Says.{says-value, says-refused}
-use Rattle.stored.specs.Shape.{automaton_shaped}
-use Rattle.stored.specs.Asking.{ask_refusal}
-use Rattle.stored.specs.RunCalls.{too_short, run_shaped, lent_conditions, open_others, close_others, open_refusal, open_run, open_walk, after_open, open_counters, close_refusal, close_run, close_counters}
+use Rattle.text.proofs.Laws.Results.{err_says, ok_says}
+use Rattle.stored.specs.RunCalls.{lent_conditions, open_others, close_others, open_refusal, open_run, open_walk, after_open, open_counters, close_refusal, close_run, close_counters}
 use Rattle.stored.specs.RunContracts.{Opens, Closes}
 use Rattle.stored.specs.Usable.{Usable}
 use Rattle.stored.proofs.Laws.Shapes.Given.{open_lent, open-others, open-unformed, close-lent, close-others, close-unformed}
@@ -29,7 +26,7 @@ module _ (a run : List ℕ) (c : Counters) (e : Name) where
   open-refused : (r : Refusal) → number_of r ≡ open_refusal a run c e → Opens a run c e (Err r) run c
   open-refused r is =
       let no : eqb (open_refusal a run c e) 0 ≡ false = ne_eqb _ _ (λ z. some_number r (is ∙ z)) in
-      record { answers = says-refused r _ _ is; run_after = rw no; counters_after = rw no }
+      record { answers = err_says r _ _ is; run_after = rw no; counters_after = rw no }
 
   -- by what is lent, and by the rest
   pub open-not-lent : (r : Result ℕ Refusal) (d : Refusal) → IsErrAnd r (λ y. y ≡ d) → number_of d ≡ given (lent_conditions a run c) → Opens a run c e r run c
@@ -50,7 +47,7 @@ module _ (a run : List ℕ) (c : Counters) (e : Name) where
   open-accepted w run' c' z walked is counted =
       let yes : eqb (open_refusal a run c e) 0 ≡ true = eq-eqb _ _ z in
       record {
-        answers = ap (λ (x : Walk). says (Ok x.moves)) walked ∙ says-value _ _ z;
+        answers = ap (λ (x : Walk). says (Ok x.moves)) walked ∙ ok_says _ _ (sym z);
         run_after = rw yes is;
         counters_after = rw yes (counted ∙ ap (λ (x : Walk). after_open c x.moves) walked);
       }
@@ -77,28 +74,3 @@ module _ (a run : List ℕ) (c : Counters) (e : Name) where
   close-accepted run' c' z is counted =
       let yes : eqb (close_refusal a run c e) 0 ≡ true = eq-eqb _ _ z in
       record { answers = sym z; run_after = rw yes is; counters_after = rw yes counted }
-
--- an asking call begins with the refusals of automaton and run; what is left is that what is asked of is not there
-module _ {A : Type 0} (a run : List ℕ) (v : A) where
-  abbrev lent : List Condition
-  lent = gives (too_short a run) ShortBuffer ∷ gives (not (automaton_shaped a && run_shaped a run)) BadShape ∷ []
-
-  lent-asked : ask_refusal a run true ≡ given lent
-  unfolding ask_refusal given first
-  lent-asked = elim (too_short a run) [ true ↦ refl | false ↦ elim (not (automaton_shaped a && run_shaped a run)) [ true ↦ refl | false ↦ refl ] ]
-
-  pub asked-refused : (there : Bool) (r : Refusal) → number_of r ≡ ask_refusal a run true → says (Err r) ≡ said (ask_refusal a run there) v
-  unfolding ask_refusal
-  asked-refused there r is =
-      let lent-gives : number_of r ≡ given lent = is ∙ lent-asked in
-      says-refused r _ v (lent-gives ∙ sym (given-first lent (gives (not there) NotFound ∷ []) (λ z. some_number r (lent-gives ∙ z))))
-
-  missing : number_of NotFound ≡ given (gives true NotFound ∷ [])
-  unfolding given first
-  missing = refl
-
-  pub asked-missing : 0 ≡ ask_refusal a run true → says (Err NotFound) ≡ said (ask_refusal a run false) v
-  unfolding ask_refusal
-  asked-missing z = says-refused NotFound _ v (missing ∙ sym (given-then lent (gives true NotFound ∷ []) (sym (z ∙ lent-asked))))
-  pub asked-value : 0 ≡ ask_refusal a run true → says (Ok v) ≡ said (ask_refusal a run true) v
-  asked-value z = says-value _ v (sym z)

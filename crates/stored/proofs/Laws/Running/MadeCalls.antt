@@ -1,19 +1,19 @@
 -- What a list of calls leaves, computed call by call: the calls' contracts determine it, and any list of calls can be made.
-use Prim.Native.Nat.{ℕ, zero, suc}
+use Prim.Native.Nat.{ℕ}
 use mathlib.Core.Path.{◌≡◌, refl, sym, ◌∙◌, ap, ap₂}
 use mathlib.Core.Bool.{Bool, true, false, cond}
+use mathlib.Core.Option.{Option, none, some}
 use mathlib.Core.List.{List, [], ◌∷◌, ◌++◌}
 use native.Mathlib.Omega.{arith}
 use lib.Dec.{eqb}
 use Rattle.text.specs.declared.refusals.Refusal.TheVariants.{ShortBuffer}
 use Rattle.text.specs.Refusals.{number_of}
 use Rattle.text.specs.Names.{Name}
-use Rattle.std.specs.Prelude.{Result}
+use Rattle.std.specs.Prelude.{Result, Ok, Err}
 use Rattle.text.specs.declared.refusals.Refusal.{Refusal}
-use Rattle.text.specs.Answers.{number_said, says, refusal_in}
-use Rattle.text.proofs.Laws.Said.{said-number}
-use Rattle.text.proofs.Laws.Says.{number-says, can-say}
-use Rattle.text.specs.Order.{first, given}
+use Rattle.text.specs.Answers.{said, says, refusal_in}
+use Rattle.text.proofs.Laws.Results.{err_says, number_in_said}
+use Rattle.text.specs.Order.{Condition, first, number_in, given}
 use Rattle.model.specs.Calls.{as_left, otherwise, Call, open_call, close_call}
 use Rattle.stored.specs.Automaton.{automaton_size}
 use Rattle.stored.specs.RunCalls.{no_counters, open_conditions, open_refusal, open_run, open_walk, open_counters, close_refusal, close_run, close_counters}
@@ -81,6 +81,15 @@ module _ (a : List ℕ) where
       → (u : Left) × Closes a t.bytes t.counters e answer u.bytes u.counters
   split-close (a_close {u = u} o c) = (u, o)
 
+-- whatever number an order gives, a `Result` says it
+can-say : (order : List Condition) (v : ℕ) → (answer : Result ℕ Refusal) × (says answer ≡ said (given order) v)
+unfolding given
+can-say order v = say (first order)
+  where
+    say : (o : Option Refusal) → (answer : Result ℕ Refusal) × (says answer ≡ said (number_in o) v)
+    say none = (Ok v, refl)
+    say (some r) = (Err r, err_says r (number_of r) v refl)
+
 -- what the contracts say of what is lent
 opens-so : (a : List ℕ) (t : Left) (e : Name) → (answer : Result ℕ Refusal) × (u : Left) × (refusal_in answer ≡ open_refusal a t.bytes t.counters e) × Opens a t.bytes t.counters e answer u.bytes u.counters
 unfolding open_refusal
@@ -89,7 +98,7 @@ opens-so a t e =
     let can = can-say (open_conditions a t.bytes t.counters e) (open_walk a t.bytes e).moves in (
       can.0,
       record { bytes = cond ok (open_run a t.bytes e) t.bytes; counters = cond ok (open_counters a t.bytes t.counters e) t.counters },
-      sym (number-says can.0) ∙ ap number_said can.1 ∙ said-number (open_refusal a t.bytes t.counters e) (open_walk a t.bytes e).moves,
+      number_in_said can.0 (open_refusal a t.bytes t.counters e) (open_walk a t.bytes e).moves can.1,
       record { answers = can.1; run_after = refl; counters_after = refl },
     )
 
