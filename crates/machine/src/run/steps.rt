@@ -70,33 +70,19 @@ fn first(a: &[u8], d: usize, from: usize) -> u8x16
     anywhere
 }
 
-// A block of the steps that an element may take, whatever its name; the row around it is that of depth d.
-fn permitted(a: &[u8], run: &[u8], d: usize, from: usize) -> u8x16
-    requires { (automaton_size ≤ length a.now) × ((run_size ≤ length run.now) × ((d ≤ max_depth) × (from + 16 ≤ mask_size))) }
-    ensures { Block (λ i. permitted a.now run.now d (8 * from + i)) result }
-{
-    let at = rows::row_at(d);
-    let child = mask(a, CHILD_MASK, from) & one_on(run, at + ACTIVE_IN, from);
-    let descendant = mask(a, DESCENDANT_MASK, from) & one_on(run, at + SEEN_IN, from);
-    child | (descendant | first(a, d, from))
-}
-
-// A block of the active steps: the candidates (`*`, and the labels taken) that are permitted.
-fn active(a: &[u8], run: &[u8], taken: &[u8], d: usize, from: usize) -> u8x16
-    requires { (automaton_size ≤ length a.now) × ((run_size ≤ length run.now) × ((mask_size ≤ length taken.now) × ((d ≤ max_depth) × (from + 16 ≤ mask_size)))) }
-    ensures { Block (λ i. taken_active a.now run.now taken.now d (8 * from + i)) result }
-{
-    let candidates = mask(a, STAR_MASK, from) | bits(taken, 0, from);
-    candidates & permitted(a, run, d, from)
-}
-
-// Those blocks, stored into the new row, of depth d + 1, and into the matches.
+// A block of the bits in the row of depth d + 1, made of that of depth d and of the labels taken, and of the matches.
 fn store_block(a: &[u8], run: &mut [u8], taken: &[u8], d: usize, from: usize)
     requires { (automaton_size ≤ length a.now) × ((run_size ≤ length run.old) × ((mask_size ≤ length taken.now) × ((d < max_depth) × (from + 16 ≤ mask_size)))) }
     ensures { run.new ≡ sets (sets (sets run.old (row_at (suc d) + active_in + from) (bit_bytes (λ i. taken_active a.now run.old taken.now d (8 * from + i)) 16)) (row_at (suc d) + seen_in + from) (bit_bytes (λ i. taken_seen a.now run.old taken.now d (8 * from + i)) 16)) (matches_at + from) (bit_bytes (λ i. taken_matched a.now run.old taken.now d (8 * from + i)) 16) }
 {
-    let active = active(a, run, taken, d, from);
-    let seen = bits(run, rows::row_at(d) + SEEN_IN, from) | active;
+    let around = rows::row_at(d);
+    let child = mask(a, CHILD_MASK, from) & one_on(run, around + ACTIVE_IN, from);
+    let descendant = mask(a, DESCENDANT_MASK, from) & one_on(run, around + SEEN_IN, from);
+    let permitted = child | (descendant | first(a, d, from));
+    // `*`, and the labels taken.
+    let candidates = mask(a, STAR_MASK, from) | bits(taken, 0, from);
+    let active = candidates & permitted;
+    let seen = bits(run, around + SEEN_IN, from) | active;
     let ended = active & mask(a, LAST_MASK, from);
     let matched = bits(run, MATCHES_AT, from) | ended;
     let at = rows::row_at(d + 1);
