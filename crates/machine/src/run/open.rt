@@ -14,7 +14,7 @@ use crate::hash::hash_of;
 use crate::layout::MASK_SIZE;
 use crate::lookup::first_label;
 use crate::run::layout::{DEPTH_AT, ROW_SIZE};
-use crate::run::{candidates, lent, refusals, row, rows, steps};
+use crate::run::{candidates, lent, refusals, row, rows, shape, steps};
 use crate::walk;
 use stored::counters::Counters;
 use stored::walk::Walk;
@@ -51,8 +51,8 @@ fn open_on(a: &[u8], run: &mut [u8], e: &[u8]) -> Walk
     ensures { (result ≡ open_walk a.now run.old e.now) × ((result.moves ≤ suc max_steps) × (run.new ≡ open_run a.now run.old e.now)) }
 {
     let first = first_label(a, e, hash_of(e));
-    let d = rows::depth_in(run);
-    let walked = walk::walk_from(a, rows::state_in(run, d), first);
+    let d = shape::depth(run);
+    let walked = walk::walk_from(a, rows::state_at(run, d), first);
     write(a, run, e, first, d, walked.state);
     walked
 }
