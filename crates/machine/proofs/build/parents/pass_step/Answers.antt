@@ -40,18 +40,18 @@ entered-state false false at h = h
 
 pub returns-then-star : goal.returns-then-star
 returns-then-star c =
-    let args = c.args in
-    let i = args.i in
-    let at = args.at in
-    let a = args.part.now in
+    let i = c.args.i in
+    let at = c.args.at in
+    let a = c.args.part.now in
     let first = c.starts_path-first.result in
     let on = c.enter-on.result in
-    let h : step_at a i ≡ StepAt.Step c.in-Step.descendant c.in-Step.star = sym c.step_at-x.ensures ∙ c.in-Step.is in
     let low : on.paths ≤ at.paths + 1 = rw c.enter-on.ensures (entered-paths first c.in-Step.descendant at) in
-    let e = by-star i at a first c.starts_path-first.ensures c.in-Step.descendant c.in-Step.star h on c.enter-on.ensures c.if-star.true in (
-      sym (ap (λ (r : Passed). r.bytes) e),
-      (sym (ap (λ (r : Passed). r.place) e), record { searchable = c.requires.0.searchable; paths = omega (arith, low, c.requires.0.paths); state = omega arith }),
-    )
+    let e = by-star i at a first c.starts_path-first.ensures c.in-Step.descendant c.in-Step.star (sym c.in-Step.ensures) on c.enter-on.ensures c.if-star.true in
+    record {
+      bytes = sym (ap (λ (r : Passed). r.bytes) e);
+      place = c.emptied.ensures ∙ sym (ap (λ (r : Passed). r.place) e);
+      sound = rw c.emptied.ensures (record { searchable = c.requires.0.searchable; paths = omega (arith, low, c.requires.0.paths); state = omega arith });
+    }
 
 pub put_word-requires : goal.put_word-requires
 put_word-requires c = (
@@ -61,31 +61,29 @@ put_word-requires c = (
 
 pub returns-else-star : goal.returns-else-star
 returns-else-star c =
-    let args = c.args in
-    let i = args.i in
-    let at = args.at in
-    let a = args.part.now in
+    let i = c.args.i in
+    let at = c.args.at in
+    let a = c.args.part.now in
     let first = c.starts_path-first.result in
     let on = c.enter-on.result in
-    let h : step_at a i ≡ StepAt.Step c.in-Step.descendant c.in-Step.star = sym c.step_at-x.ensures ∙ c.in-Step.is in
     let low : on.paths ≤ at.paths + 1 = rw c.enter-on.ensures (entered-paths first c.in-Step.descendant at) in
-    let e = by-label i at a first c.starts_path-first.ensures c.in-Step.descendant c.in-Step.star h on c.enter-on.ensures c.if-star.false in
-    let s = c.put_word.ensures.1.1 in (
-      c.put_word.ensures.0 ∙ sym (ap (λ (r : Passed). r.bytes) e),
-      (
-        c.put_word.ensures.1.0 ∙ sym (ap (λ (r : Passed). r.place) e),
-        record { searchable = s.searchable; paths = omega (arith, low, s.paths, c.requires.0.paths); state = s.state },
-      ),
-    )
+    let e = by-label i at a first c.starts_path-first.ensures c.in-Step.descendant c.in-Step.star (sym c.in-Step.ensures) on c.enter-on.ensures c.if-star.false in
+    let s = c.put_word.ensures.sound in
+    record {
+      bytes = c.put_word.ensures.bytes ∙ sym (ap (λ (r : Passed). r.bytes) e);
+      place = c.put_word.ensures.place ∙ sym (ap (λ (r : Passed). r.place) e);
+      sound = record { searchable = s.searchable; paths = omega (arith, low, s.paths, c.requires.0.paths); state = s.state };
+    }
 
 pub returns-in-Missing : goal.returns-in-Missing
 returns-in-Missing c =
-    let args = c.args in
-    let i = args.i in
-    let at = args.at in
-    let a = args.part.now in
-    let e = missing i at a c.starts_path-first.result c.starts_path-first.ensures (sym c.step_at-x.ensures ∙ c.in-Missing.is) in
-    let s = c.requires.0 in (
-      sym (ap (λ (r : Passed). r.bytes) e),
-      (sym (ap (λ (r : Passed). r.place) e), record { searchable = s.searchable; paths = omega (arith, s.paths); state = s.state }),
-    )
+    let i = c.args.i in
+    let at = c.args.at in
+    let a = c.args.part.now in
+    let e = missing i at a c.starts_path-first.result c.starts_path-first.ensures (sym c.in-Missing.ensures) in
+    let s = c.requires.0 in
+    record {
+      bytes = sym (ap (λ (r : Passed). r.bytes) e);
+      place = sym (ap (λ (r : Passed). r.place) e);
+      sound = record { searchable = s.searchable; paths = omega (arith, s.paths); state = s.state };
+    }
