@@ -2,12 +2,12 @@
 // stands with the function that asks it.
 #![tactic(auto, unfolding(notation::specs::Limits::max_labels, stored::specs::Automaton::automaton_size, stored::specs::Automaton::hashes, stored::specs::Automaton::heads_at, stored::specs::Automaton::links_at, stored::specs::Automaton::link_size))]
 
-ghost use Rattle.std.specs.Prelude.{◌≡◌, ◌+◌, ◌≤◌, ◌<◌, length};
+ghost use Rattle.std.specs.Prelude.{◌≡◌, suc, ◌+◌, ◌≤◌, ◌<◌, length};
 ghost use Rattle.notation.specs.Layout.{word_size};
 ghost use Rattle.notation.specs.Limits.{max_labels};
 ghost use Rattle.notation.specs.Reads.{word16, label_count};
 ghost use Rattle.stored.specs.Automaton.{automaton_size, hashes, bits_in, link_entry_at};
-ghost use Rattle.stored.specs.Tables.{place_of, head_at};
+ghost use Rattle.stored.specs.Tables.{head_at};
 
 use crate::labels::word;
 use crate::layout::{HEADS_AT, LINK_SIZE, LINKS_AT};
@@ -30,22 +30,36 @@ impl<'a> Model for Automaton<'a> {
     ghost invariant = { λ a. automaton_size ≤ length a.bytes.now };
 }
 
-// The label of a place, which is 1 more than its label, and 0 for none.
-fn label_at(place: usize) -> Option<usize>
-    ensures { place_of result ≡ place }
-{
-    place.checked_sub(1)
+// A label by its place, as a chain has it: 1 more than its number, since 0 is none.
+#[derive(Clone, Copy)]
+pub struct Label {
+    pub place: usize,
+    ghost some: { 0 < place },
 }
 
-// The place of a label.
-pub fn place(label: Option<usize>) -> usize
-    requires { place_of label < 65536 }
-    ensures { result ≡ place_of label }
-{
-    label.map_or(0, |l| l + 1)
+impl Label {
+    ghost use Rattle.machine.specs.Places.{place_of};
+
+    fn at(place: usize) -> Option<Label>
+        ensures { place_of result ≡ place }
+    {
+        if place == 0 {
+            None
+        } else {
+            Some(Label { place })
+        }
+    }
+
+    pub fn number(self) -> usize
+        ensures { suc result ≡ self.place }
+    {
+        self.place - 1
+    }
 }
 
 impl<'a> Automaton<'a> {
+    ghost use Rattle.machine.specs.Places.{place_of};
+
     // A number of two bytes.
     pub fn word(&self, at: usize) -> usize
         requires { at + word_size ≤ automaton_size }
@@ -72,20 +86,20 @@ impl<'a> Automaton<'a> {
     }
 
     // The label of a field that has a place.
-    pub fn linked(&self, l: usize, field: usize) -> Option<usize>
+    pub fn linked(&self, l: usize, field: usize) -> Option<Label>
         requires label { l < max_labels }
         requires field { field ≤ bits_in }
         ensures place { place_of result ≡ word16 self.now (link_entry_at l + field) }
         ensures bound { place_of result < 65536 }
     {
-        label_at(self.link(l, field))
+        Label::at(self.link(l, field))
     }
 
     // The first label on the chain of a hash.
-    pub fn head(&self, h: usize) -> Option<usize>
+    pub fn head(&self, h: usize) -> Option<Label>
         requires { h < hashes }
         ensures { place_of result ≡ head_at self.now h }
     {
-        label_at(self.word(HEADS_AT + WORD_SIZE * h))
+        Label::at(self.word(HEADS_AT + WORD_SIZE * h))
     }
 }

@@ -6,10 +6,11 @@ ghost use Rattle.text.specs.Names.{same_name};
 ghost use Rattle.notation.specs.Limits.{max_labels};
 ghost use Rattle.notation.specs.Reads.{label_count, label_name};
 ghost use Rattle.stored.specs.Automaton.{hash};
-ghost use Rattle.stored.specs.Tables.{place_of, look_up, first_of};
+ghost use Rattle.stored.specs.Tables.{look_up, first_of};
 ghost use Rattle.stored.specs.Usable.{Lookable, Searchable};
+ghost use Rattle.machine.specs.Places.{place_of};
 
-use crate::automaton::Automaton;
+use crate::automaton::{Automaton, Label};
 use crate::hash::hash_of;
 use crate::layout::{FIRST_IN, OTHER_IN};
 use notation::layout::{LABEL_LENGTH_IN, LABEL_SIZE, LABELS_AT, TEXT_AT};
@@ -41,14 +42,15 @@ impl<'a> Automaton<'a> {
     }
 
     // The last label with the name. `h` is the hash of `e`.
-    pub fn look_up(&self, e: &[u8], h: usize) -> Option<usize>
+    pub fn look_up(&self, e: &[u8], h: usize) -> Option<Label>
         requires lookable { Lookable self.now }
         requires hash { h ≡ hash e.now }
         ensures found { place_of result ≡ look_up self.now e.now }
         ensures within { place_of result ≤ label_count self.now }
     {
         let mut next = self.head(h);
-        while let Some(l) = next {
+        while let Some(label) = next {
+            let l = label.number();
             if self.label_is(l, e) {
                 return next;
             }
@@ -58,12 +60,12 @@ impl<'a> Automaton<'a> {
     }
 
     // The first one.
-    pub fn first_label(&self, e: &[u8]) -> Option<usize>
+    pub fn first_label(&self, e: &[u8]) -> Option<Label>
         requires { Searchable self.now }
         ensures found { place_of result ≡ first_of self.now e.now }
         ensures within { place_of result ≤ label_count self.now }
     {
         let last = self.look_up(e, hash_of(e))?;
-        self.linked(last, FIRST_IN)
+        self.linked(last.number(), FIRST_IN)
     }
 }

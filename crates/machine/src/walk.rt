@@ -5,10 +5,11 @@ ghost use Rattle.std.specs.Prelude.{◌≡◌, suc, ◌+◌, ◌≤◌, ◌<◌,
 ghost use Rattle.notation.specs.Limits.{max_labels};
 ghost use Rattle.notation.specs.Reads.{word16, label_count};
 ghost use Rattle.stored.specs.Automaton.{link_entry_at};
-ghost use Rattle.stored.specs.Tables.{place_of, size_of, fail_of, goto_by, walk_by};
+ghost use Rattle.stored.specs.Tables.{size_of, fail_of, goto_by, walk_by};
 ghost use Rattle.stored.specs.Usable.{Searchable, Walkable};
+ghost use Rattle.machine.specs.Places.{place_of};
 
-use crate::automaton::Automaton;
+use crate::automaton::{Automaton, Label};
 use crate::layout::{FAIL_IN, LINK_SIZE, LINKS_AT, NEXT_IN, PARENT_IN, SIZE_IN};
 use notation::reads::word_at;
 use stored::walk::Walk;
@@ -35,14 +36,15 @@ pub fn size_of(a: &[u8], q: usize) -> usize
 
 impl<'a> Automaton<'a> {
     // The state of the word of state `q` followed by a name. `first` is the name's first label.
-    pub fn goto_state(&self, q: usize, first: Option<usize>) -> Option<usize>
+    pub fn goto_state(&self, q: usize, first: Option<Label>) -> Option<usize>
         requires searchable { Searchable self.now }
         requires within { place_of first ≤ label_count self.now }
         ensures found { unwrap_or result 0 ≡ goto_by self.now q (place_of first) }
         ensures state { IfSome result (λ to. (1 < to) × (to ≤ suc (label_count self.now))) }
     {
         let mut next = first;
-        while let Some(l) = next {
+        while let Some(label) = next {
+            let l = label.number();
             if self.link(l, PARENT_IN) == q {
                 return Some(l + 2);
             }
@@ -60,7 +62,7 @@ impl<'a> Automaton<'a> {
     }
 
     // The walk from state `q`, by failure moves until a state goes on. `first` is the first label with the name.
-    pub fn walk_from(&self, q: usize, first: Option<usize>) -> Walk
+    pub fn walk_from(&self, q: usize, first: Option<Label>) -> Walk
         requires walkable { Walkable self.now }
         requires state { q ≤ suc (label_count self.now) }
         requires within { place_of first ≤ label_count self.now }

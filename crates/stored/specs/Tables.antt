@@ -1,6 +1,6 @@
 -- What is stored in an automaton's tables, of any bytes, and the walk over them. For the automaton of a set these are the shared machine's
 -- (laws); for any other bytes they are what the calls answer by.
-use Rattle.std.specs.Prelude.{ℕ, zero, suc, ◌+◌, not, ◌&&◌, cond, List, eqb, Option, Some, None}
+use Rattle.std.specs.Prelude.{ℕ, zero, suc, ◌+◌, not, ◌&&◌, cond, List, eqb}
 use Rattle.text.specs.Names.{Name, same_name}
 use Rattle.notation.specs.Limits.{max_labels}
 use Rattle.notation.specs.Reads.{word16, label_name}
@@ -49,10 +49,6 @@ fail_of a (suc zero) = 0
 fail_of a (suc (suc l)) = fail_at a l
 
 -- places of labels, each 1 more than its label, 0 for none; `more` bounds how many labels are looked at
-
-abbrev pub place_of : Option ℕ → ℕ
-place_of None = 0
-place_of (Some l) = suc l
 
 -- the place with name e on the chain of its hash
 unfoldable pub look_from : ℕ → List ℕ → Name → ℕ → ℕ

@@ -49,7 +49,7 @@ fn link_label(part: &mut [u8], l: usize)
     let automaton = Automaton { bytes: part };
     match automaton.look_up(e, h) {
         None => enter_name(part, h, l),
-        Some(last) => precede(part, last, l),
+        Some(last) => precede(part, last.number(), l),
     }
 }
 

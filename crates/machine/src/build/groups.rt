@@ -5,10 +5,10 @@ ghost use Rattle.std.specs.Prelude.{◌≡◌, ◌/◌, ◌≤◌, ◌<◌, min,
 ghost use Rattle.notation.specs.Limits.{max_labels};
 ghost use Rattle.notation.specs.Reads.{label_count, label_step};
 ghost use Rattle.stored.specs.Automaton.{automaton_size};
-ghost use Rattle.stored.specs.Tables.{place_of};
 ghost use Rattle.stored.specs.Code.Groups.{joins, far_over, bits_over, group_stored, grouped, grouped_below};
+ghost use Rattle.machine.specs.Places.{place_of};
 
-use crate::automaton::{Automaton, place};
+use crate::automaton::{Automaton, Label};
 use crate::bits::with_bit;
 use crate::build::chains::label_count;
 use crate::layout::{BITS_IN, FAR_IN, LINK_SIZE, LINKS_AT, NEXT_IN};
@@ -25,31 +25,32 @@ fn step_of(part: &[u8], l: usize) -> usize
 }
 
 // Whether a label has its step in byte b.
-fn joins_byte(part: &[u8], b: usize, label: Option<usize>) -> bool
+fn joins_byte(part: &[u8], b: usize, label: Option<Label>) -> bool
     requires { place_of label ≤ 65536 }
     ensures { result ≡ joins part.now b (place_of label) }
 {
-    label.is_some_and(|l| step_of(part, l) / 8 == b)
+    label.is_some_and(|l| step_of(part, l.number()) / 8 == b)
 }
 
 // The place that a label takes over from the next one of its name.
-fn far_over(part: &[u8], on: bool, next: Option<usize>) -> usize
+fn far_over(part: &[u8], on: bool, next: Option<Label>) -> usize
     requires { place_of next < 65536 }
     ensures { (result ≡ far_over on part.now (place_of next)) × (result < 65536) }
 {
     match next {
-        Some(l) if on => link_field(part, l, FAR_IN),
-        _ => place(next),
+        Some(l) if on => link_field(part, l.number(), FAR_IN),
+        Some(l) => l.place,
+        None => 0,
     }
 }
 
 // The bits that it takes over.
-fn bits_over(part: &[u8], on: bool, next: Option<usize>) -> usize
+fn bits_over(part: &[u8], on: bool, next: Option<Label>) -> usize
     requires { place_of next < 65536 }
     ensures { (result ≡ bits_over on part.now (place_of next)) × (result < 256) }
 {
     match next {
-        Some(l) if on => link_field(part, l, BITS_IN) % 256,
+        Some(l) if on => link_field(part, l.number(), BITS_IN) % 256,
         _ => 0,
     }
 }

@@ -3,14 +3,15 @@ ghost use Rattle.std.specs.Prelude.{◌≡◌, suc, ◌≤◌, ◌<◌, length, 
 ghost use Rattle.text.specs.Names.{max_name, name_form};
 ghost use Rattle.notation.specs.Limits.{max_steps};
 ghost use Rattle.model.specs.Limits.{max_depth};
-ghost use Rattle.stored.specs.Tables.{place_of, first_of};
+ghost use Rattle.stored.specs.Tables.{first_of};
 ghost use Rattle.stored.specs.RunContracts.{Opens};
 ghost use Rattle.stored.specs.Usable.{Openable, Ready, Usable};
 ghost use Rattle.stored.specs.Run.{run_size};
 ghost use Rattle.stored.specs.RunCalls.{depth_of, with_row, open_run, open_walk};
 ghost use Rattle.stored.specs.Code.OpenSteps.{blank_row};
+ghost use Rattle.machine.specs.Places.{place_of};
 
-use crate::automaton::Automaton;
+use crate::automaton::{Automaton, Label};
 use crate::layout::MASK_SIZE;
 use crate::run::layout::{DEPTH_AT, ROW_SIZE};
 use crate::run::{candidates, lent, refusals, row, rows, steps};
@@ -32,7 +33,7 @@ fn store(run: &mut [u8], d: usize, e: &[u8], state: usize)
 
 // What an open writes: the new row, the matches, the depth, which was d. `first` is the first label with the name, `state`
 // the state that the walk ends in.
-fn write(a: &[u8], run: &mut [u8], e: &[u8], first: Option<usize>, d: usize, state: usize)
+fn write(a: &[u8], run: &mut [u8], e: &[u8], first: Option<Label>, d: usize, state: usize)
     requires openable { (Openable a.now) × ((run_size ≤ length run.old) × ((d < max_depth) × (length e.now ≤ max_name))) }
     requires first_value { (place_of first ≡ first_of a.now e.now) × ((d ≡ depth_of run.old) × (state ≡ (open_walk a.now run.old e.now).state)) }
     ensures { run.new ≡ open_run a.now run.old e.now }

@@ -1,6 +1,7 @@
 -- `Automaton::walk_from`: the walk over the tables, whose current prefix is shorter at each failure move.
 use Rattle.stored.proofs.Laws.Tables.Fuel.{fail-state, fail-shorter, size-within, stays, over-follows, over-empty, over-falls}
-use Rattle.stored.specs.Tables.{place_of, size_of, fail_of, goto_by, one_more, walk_by}
+use Rattle.machine.specs.Places.{place_of}
+use Rattle.stored.specs.Tables.{size_of, fail_of, goto_by, one_more, walk_by}
 use Rattle.notation.specs.Limits.{max_steps}
 use native.Mathlib.Omega.{arith}
 use mathlib.Core.Path.{◌≡◌, sym, ◌∙◌, ap}

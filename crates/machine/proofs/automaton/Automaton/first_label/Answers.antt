@@ -4,7 +4,8 @@ use Prim.Native.Nat.{suc, ◌≤◌}
 use native.Mathlib.Omega.{arith}
 use Rattle.notation.specs.Reads.{label_count}
 use Rattle.stored.proofs.Laws.Tables.LookTurns.{first-none, first-at, first-within}
-use Rattle.stored.specs.Tables.{place_of, look_up, first_of}
+use Rattle.machine.specs.Places.{place_of}
+use Rattle.stored.specs.Tables.{look_up, first_of}
 use Rattle.machine.proofs.automaton.Automaton.first_label.Goals as goal
 
 pub returns-in_err-last-clause-found : goal.returns-in_err-last-clause-found
@@ -19,9 +20,9 @@ linked-requires c =
 pub returns-clause-found : goal.returns-clause-found
 returns-clause-found c =
     c.linked.ensures.place
-    ∙ sym (first-at c.args.self.now c.args.e.now c.in_ok-last.last (sym c.in_ok-last.ensures.found))
+    ∙ sym (first-at c.args.self.now c.args.e.now c.number.result (sym c.in_ok-last.ensures.found ∙ sym c.number.ensures))
 
 pub returns-clause-within : goal.returns-clause-within
 returns-clause-within c =
-    let found : place_of c.linked.result ≡ first_of c.args.self.now c.args.e.now = c.linked.ensures.place ∙ sym (first-at c.args.self.now c.args.e.now c.in_ok-last.last (sym c.in_ok-last.ensures.found)) in
+    let found : place_of c.linked.result ≡ first_of c.args.self.now c.args.e.now = c.linked.ensures.place ∙ sym (first-at c.args.self.now c.args.e.now c.number.result (sym c.in_ok-last.ensures.found ∙ sym c.number.ensures)) in
     rw found (first-within c.args.self.now c.requires c.args.e.now)

@@ -1,5 +1,6 @@
 use Rattle.stored.proofs.Laws.Tables.Along.{left}
-use Rattle.stored.specs.Tables.{place_of, goto_from, goto_by}
+use Rattle.machine.specs.Places.{place_of}
+use Rattle.stored.specs.Tables.{goto_from, goto_by}
 use Rattle.notation.specs.Reads.{label_count}
 use Rattle.notation.specs.Limits.{max_labels}
 use mathlib.Core.Path.{◌≡◌}

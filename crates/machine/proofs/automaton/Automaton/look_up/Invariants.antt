@@ -1,5 +1,6 @@
 use Rattle.stored.proofs.Laws.Tables.Along.{left}
-use Rattle.stored.specs.Tables.{place_of, look_from, look_up}
+use Rattle.machine.specs.Places.{place_of}
+use Rattle.stored.specs.Tables.{look_from, look_up}
 use Rattle.notation.specs.Reads.{label_count}
 use Rattle.notation.specs.Limits.{max_labels}
 use mathlib.Core.Path.{◌≡◌}

@@ -10,4 +10,4 @@ returns-in-None c =
 pub returns-in-Some : goal.returns-in-Some
 unfolding linked
 returns-in-Some c =
-    rw (← c.label_name-e.ensures, ← c.in-Some.ensures.found) c.precede.ensures
+    rw (← c.label_name-e.ensures, ← c.in-Some.ensures.found, ← c.number.ensures) c.precede.ensures

@@ -5,7 +5,8 @@ use borrow.Author.Tests.{eq-eqb, ne_eqb}
 use Rattle.notation.specs.Reads.{label_name}
 use Rattle.stored.proofs.Laws.Tables.Fuel.{fail-state}
 use Rattle.stored.specs.Code.Fails.{fail_to}
-use Rattle.stored.specs.Tables.{place_of, parent_at, fail_of, first_of}
+use Rattle.machine.specs.Places.{place_of}
+use Rattle.stored.specs.Tables.{parent_at, fail_of, first_of}
 use Rattle.machine.proofs.build.fails.fail_to.Goals as goal
 
 pub returns-then-parent-eq0 : goal.returns-then-parent-eq0

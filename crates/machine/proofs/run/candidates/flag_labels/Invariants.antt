@@ -6,7 +6,7 @@ use Rattle.notation.specs.Limits.{max_labels}
 use Rattle.notation.specs.Reads.{label_count}
 use Rattle.stored.specs.Bits.{bit_at}
 use Rattle.stored.specs.Marked.{marked_from}
-use Rattle.stored.specs.Tables.{place_of}
+use Rattle.machine.specs.Places.{place_of}
 use Rattle.stored.proofs.Laws.Tables.Along.{left}
 use Rattle.machine.proofs.run.candidates.flag_labels.Given as goal
 
