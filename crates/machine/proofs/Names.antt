@@ -1,12 +1,12 @@
 -- The names of labels, as they stand in the set's text.
 use Prim.Native.Nat.{ℕ, ◌+◌, ◌-◌, ◌≤◌, ◌<◌}
-use mathlib.Core.Path.{◌≡◌, refl, ap, ◌∙◌}
-use mathlib.Core.Bool.{true, ◌&&◌}
+use mathlib.Core.Path.{◌≡◌, refl, sym, ap, ◌∙◌}
+use mathlib.Core.Bool.{Bool, ◌&&◌}
 use mathlib.Core.List.{List, [], ◌∷◌}
 use native.Mathlib.Omega.{arith}
 use lib.Dec.{eqb}
 use lib.ListN.{length, take, drop}
-use borrow.Author.Tests.{le-leb, lt-leb, lt-ltb}
+use borrow.Author.Tests.{le-leb, lt-leb, lt-ltb, ne_eqb}
 use Rattle.std.specs.Cmp.Lexicographic.{pointwise}
 use Rattle.text.specs.Names.{same_name}
 use Rattle.notation.specs.Limits.{max_set_bytes, max_labels}
@@ -21,17 +21,27 @@ same_name-pointwise [] (y ∷ ys) = refl
 same_name-pointwise (x ∷ xs) [] = refl
 same_name-pointwise (x ∷ xs) (y ∷ ys) = ap (λ b. eqb x y && b) (same_name-pointwise xs ys)
 
--- the name of a label that is there, as its entry has it
-module _ (a : List ℕ) (l : ℕ) (room : set_size ≤ length a) (few : l < max_labels) (there : l < label_count a) where
+none : (e : List ℕ) {r : Bool} → r ≡ eqb (length e) 0 → r ≡ same_name [] e
+unfolding same_name
+none [] h = h
+none (x ∷ e) h = h ∙ ne_eqb (length (x ∷ e)) 0 (omega arith)
+
+-- whether a label that is there has the name, by its entry: its bytes are none where they do not lie within the text's room
+module _ (a : List ℕ) (l : ℕ) (room : set_size ≤ length a) (few : l < max_labels) (there : l < label_count a) (e : List ℕ) where
   by-entry : label_name a l ≡ text_slice a (label_begin a l) (label_length a l)
   unfolding present label_at
   by-entry = simp (le-leb set_size _ room, lt-ltb l _ there, lt-ltb l max_labels few)
 
-  -- none where it would not lie within the text's room
-  pub none-past : max_set_bytes < label_begin a l + label_length a l → label_name a l ≡ []
+  pub past-room : {r : Bool} → max_set_bytes < label_begin a l + label_length a l → r ≡ eqb (length e) 0 → r ≡ same_name (label_name a l) e
   unfolding text_slice
-  none-past out = by-entry ∙ simp (le-leb set_size _ room, lt-leb (label_begin a l + label_length a l) max_set_bytes out)
+  past-room out h =
+      none e h
+      ∙ ap (λ n. same_name n e) (sym (by-entry ∙ simp (le-leb set_size _ room, lt-leb (label_begin a l + label_length a l) max_set_bytes out)))
 
-  pub part-of : label_begin a l + label_length a l ≤ max_set_bytes → label_name a l ≡ take (label_length a l) (drop (text_at + label_begin a l) a)
+  pub within-room : {r : Bool} → label_begin a l + label_length a l ≤ max_set_bytes → r ≡ pointwise eqb (take (label_length a l) (drop (text_at + label_begin a l) a)) e
+      → r ≡ same_name (label_name a l) e
   unfolding text_slice
-  part-of in-room = by-entry ∙ simp (le-leb set_size _ room, le-leb (label_begin a l + label_length a l) max_set_bytes in-room)
+  within-room in-room h =
+      h
+      ∙ (same_name-pointwise (take (label_length a l) (drop (text_at + label_begin a l) a)) e
+      ∙ ap (λ n. same_name n e) (sym (by-entry ∙ simp (le-leb set_size _ room, le-leb (label_begin a l + label_length a l) max_set_bytes in-room))))

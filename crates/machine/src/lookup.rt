@@ -17,28 +17,20 @@ use notation::layout::{LABEL_LENGTH_IN, LABEL_SIZE, LABELS_AT, TEXT_AT};
 use notation::limits::MAX_SET_BYTES;
 
 impl<'a> Automaton<'a> {
-    // The name of a label; none where it would not lie within the text's room.
-    pub fn name(&self, l: usize) -> &'a [u8]
-        requires few { l < max_labels }
-        requires there { l < label_count self.now }
-        ensures { result.now ≡ label_name self.now l }
-    {
-        let entry = LABELS_AT + LABEL_SIZE * l;
-        let at = self.word(entry);
-        let size = self.word(entry + LABEL_LENGTH_IN);
-        if MAX_SET_BYTES < at + size {
-            return &self.bytes[..0];
-        }
-        let from = TEXT_AT + at;
-        &self.bytes[from..from + size]
-    }
-
+    // Whether the label has the name; its bytes are none where they do not lie within the text's room.
     fn label_is(&self, l: usize, e: &[u8]) -> bool
         requires few { l < max_labels }
         requires there { l < label_count self.now }
         ensures { result ≡ same_name (label_name self.now l) e.now }
     {
-        self.name(l) == e
+        let bytes = self.bytes;
+        let entry = LABELS_AT + LABEL_SIZE * l;
+        let from = TEXT_AT + self.word(entry);
+        let to = from + self.word(entry + LABEL_LENGTH_IN);
+        if TEXT_AT + MAX_SET_BYTES < to {
+            return e.is_empty();
+        }
+        &bytes[from..to] == e
     }
 
     // The last label with the name. `h` is the hash of `e`.

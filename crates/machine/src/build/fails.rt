@@ -9,7 +9,7 @@ ghost use Rattle.stored.specs.Code.Fails.{fail_to, failed_if, failed_below, fail
 use crate::automaton::Automaton;
 use crate::layout::{FAIL_IN, LINK_SIZE, LINKS_AT, PARENT_IN, SIZE_IN};
 use notation::limits::MAX_STEPS;
-use notation::reads::labels;
+use notation::reads::{label_name, labels};
 use text::store::put16;
 
 // The state of the failure link of label `l`: the open's walk from its parent's.
@@ -22,7 +22,7 @@ fn fail_to(a: &[u8], l: usize) -> usize
     if parent == 0 {
         return 0;
     }
-    let first = automaton.first_label(automaton.name(l));
+    let first = automaton.first_label(label_name(a, l));
     automaton.walk_from(automaton.fail_of(parent), first).state
 }
 

@@ -27,5 +27,5 @@ returns c =
     let l = c.args.l in
     let p = c.link-parent.ensures.value in
     let f : c.fail_of.result ≡ fail_of a (parent_at a l) = c.fail_of.ensures ∙ ap (fail_of a) p in
-    let first : place_of c.first_label-first.result ≡ first_of a (label_name a l) = c.first_label-first.ensures.found ∙ ap (first_of a) c.name.ensures in
+    let first : place_of c.first_label-first.result ≡ first_of a (label_name a l) = c.first_label-first.ensures.found ∙ ap (first_of a) c.label_name.ensures in
     rw (ne_eqb (parent_at a l) 0 (λ e. c.if-parent-eq0.false (p ∙ e)), ← f, ← first) (ap (λ w. w.state) c.walk_from.ensures.walked)
