@@ -13,7 +13,6 @@ use crate::automaton::Automaton;
 use crate::layout::{LINK_SIZE, LINKS_AT, PARENT_IN, SIZE_IN};
 use crate::walk::size_of;
 use notation::limits::MAX_LABELS;
-use notation::reads::{PathAt, StepAt};
 use notation::{PathPlace, reads};
 use stored::place::Place;
 use text::store::put16;
@@ -22,15 +21,7 @@ use text::store::put16;
 fn starts_path(part: &[u8], p: usize, i: usize) -> bool
     ensures { result ≡ starts_at (path_at part.now (record { 0 = p })) i }
 {
-    match reads::path_at(part, PathPlace(p)) {
-        PathAt::Path {
-            first,
-            steps: _,
-            at: _,
-            size: _,
-        } => first == i,
-        PathAt::Missing => false,
-    }
+    reads::path_at(part, PathPlace(p)).is_some_and(|path| path.first == i)
 }
 
 fn store_word(part: &mut [u8], l: usize, q: usize)
@@ -80,16 +71,14 @@ fn pass_step(part: &mut [u8], i: usize, at: Place) -> Place
     ensures sound { Sound (i + 1) result part.new }
 {
     let first = starts_path(part, at.paths, i);
-    match reads::step_at(part, i) {
-        StepAt::Step { descendant, star } => {
-            let on = at.enter(first, descendant);
-            if star {
-                on.emptied()
-            } else {
-                put_word(part, on)
-            }
-        }
-        StepAt::Missing => at,
+    let Some(step) = reads::step_at(part, i) else {
+        return at;
+    };
+    let on = at.enter(first, step.descendant);
+    if step.star {
+        on.emptied()
+    } else {
+        put_word(part, on)
     }
 }
 
