@@ -6,14 +6,19 @@ use mathlib.Core.Path.{◌≡◌, refl, sym, ap, ◌∙◌}
 use mathlib.Core.Bool.{Bool, true, false, ◌&&◌}
 use mathlib.Core.List.{List, [], ◌∷◌, ◌++◌, append_assoc, append-nil}
 use lib.Dec.{leb}
-use lib.ListN.{length, set, length-append}
-use lib.Seq.{sets, length-sets}
+use lib.ListN.{length, drop, set, length-append}
+use lib.Seq.{sets, sets-eq, length-sets}
 use borrow.Author.Tests.{le-leb, lt-leb, leb-true, leb-false}
 use Rattle.text.proofs.Laws.Tests.{cases, clash, and_left, and_right}
 use Rattle.text.specs.Answers.{said}
 use Rattle.text.specs.Order.{Condition, given}
 use Rattle.text.specs.Written.{written_into, TextWritten}
-use Rattle.text.specs.declared.written.Written.{Written}
+use Rattle.std.specs.Prelude.{Result, Ok, Err}
+use Rattle.std.specs.Result.{IsErrAnd}
+use Rattle.text.specs.declared.refusals.Refusal.{Refusal}
+use Rattle.text.specs.Refusals.{number_of}
+use Rattle.text.proofs.Laws.Numbers.{some_number}
+use Rattle.text.proofs.Laws.Results.{err_says, handed_on}
 use Rattle.text.specs.declared.output.Cursor.{Cursor}
 use Rattle.text.specs.Output.{start, writes, Puts, Adds, no_pieces, a_piece}
 
@@ -122,14 +127,32 @@ fits-as (a_piece {out} {out₁} {out₂} {piece} {bytes} {cursor} {cursor₁} {c
 pub fits-from-start : {dry : Bool} {bytes out out' : List ℕ} {cursor : Cursor} → Adds out (start dry) bytes out' cursor → cursor.fits ≡ leb (length bytes) (length out)
 fits-from-start {out = out} x = rw zero-add at (fits-as x refl (omega arith))
 
+-- a refusal changes nothing
+pub into-kept : (n : ℕ) (text before : List ℕ) → (n ≡ 0 → ⊥) → written_into n text before ≡ before
+into-kept zero text before z = absurd (z refl)
+into-kept (suc n) text before z = refl
+
+-- the same promise by an order that gives the same number
+pub same_order : {order other : List Condition} {text before after : List ℕ} {answer : Result ℕ Refusal} → given order ≡ given other
+    → TextWritten order text before answer after → TextWritten other text before answer after
+same_order {text = text} {before} e w =
+    record { answers = w.answers ∙ ap (λ (n : ℕ). said n (length text)) e; leaves = w.leaves ∙ ap (λ (n : ℕ). written_into n text before) e }
+
 -- a text that is delivered: a number is given, or all of it had room
 module _ (order : List Condition) (text out : List ℕ) where
-  pub refused-with : (n : ℕ) → n ≡ given order → (n ≡ 0 → ⊥) → TextWritten order text out (Written.Refused n) out
-  refused-with zero e z = absurd (z refl)
-  refused-with (suc n) e z = record { answers = ap (λ (k : ℕ). said k (length text)) e; leaves = ap (λ (k : ℕ). written_into k text out) e }
+  pub refused-with : (r : Refusal) → number_of r ≡ given order → TextWritten order text out (Err r) out
+  refused-with r e = record { answers = err_says r (given order) (length text) e; leaves = sym (into-kept (given order) text out (λ z. some_number r (e ∙ z))) }
+
+  -- a copy over the buffer's first bytes
+  pub written_front : given order ≡ 0 → length text ≤ length out → TextWritten order text out (Ok (length text)) (text ++ drop (length text) out)
+  written_front z l = record { answers = rw z; leaves = rw (z, sets-eq text out 0 (omega arith), zero-add (length text)) }
+
+  -- the same where a `?` hands on the refusal of a call
+  pub refused-as : (answer : Result ℕ Refusal) (r : Refusal) → IsErrAnd answer (λ x. x ≡ r) → number_of r ≡ given order → TextWritten order text out answer out
+  refused-as answer r h e = rw (handed_on answer r h) (refused-with r e)
 
   pub written_as : {after : List ℕ} {cursor : Cursor} → given order ≡ 0 → length text ≤ length out → Adds out (start false) text after cursor
-      → TextWritten order text out (Written.Bytes cursor.at) after
+      → TextWritten order text out (Ok cursor.at) after
   written_as {after} {cursor} z l x =
       let f : cursor.fits ≡ true = fits-from-start x ∙ le-leb (length text) (length out) l in
       let e : cursor.at ≡ length text = went x f ∙ zero-add (length text) in
