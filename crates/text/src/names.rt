@@ -41,13 +41,13 @@ pub enum Class {
 }
 
 impl Class {
-    pub fn begins_name(self) -> bool
+    fn begins_name(self) -> bool
         ensures { result ≡ can_begin self }
     {
         self == Class::Start
     }
 
-    pub fn in_name(self) -> bool
+    fn in_name(self) -> bool
         ensures { result ≡ can_follow self }
     {
         matches!(
