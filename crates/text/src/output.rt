@@ -15,6 +15,7 @@ pub trait Sink {
 }
 
 // How long a text is; nothing is written.
+#[derive(Clone, Copy, Debug)]
 pub struct Length {
     pub bytes: usize,
 }
@@ -30,6 +31,7 @@ impl Sink for Length {
 }
 
 // The front of a lent buffer. A piece that has no room is left out, and so are all after it.
+#[derive(Drop)]
 pub struct Front<'a> {
     pub out: &'a mut [u8],
     // After the last piece; none once one had no room.

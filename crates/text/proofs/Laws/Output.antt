@@ -111,15 +111,25 @@ ran_out {s} (a_piece {t = t} {u} {piece} {bytes} p r) n e i h =
     let stays = late r (rw k) ∙ k in
     (ap (λ (x : Front). x.end) stays, ([], piece ++ bytes, refl, ap (λ (x : Front). x.out) stays)))
 
+same-some : {n m : ℕ} → Some n ≡ Some m → n ≡ m
+same-some e = cc
+
 -- a text that is delivered: a number is given, or all of it had room
 module _ (order : List Condition) (text : List ℕ) (out : MutBor (List ℕ)) where
   pub refused-with : (n : ℕ) → n ≡ given order → (n ≡ 0 → ⊥) → TextWritten order text out.now (Written.Refused n) out.now
   refused-with zero e z = absurd (z refl)
   refused-with (suc n) e z = record { answers = ap (λ (k : ℕ). said k (length text)) e; leaves = ap (λ (k : ℕ). written_into k text out.now) e }
 
-  -- from the buffer's start on
-  pub written_as : {t : Front} → given order ≡ 0 → length text ≤ length out.now → Adds fronted (record { out = out; end = Some 0 }) text t
-      → (t.end ≡ Some (length text)) × TextWritten order text out.now (Written.Bytes (length text)) t.out.now
-  written_as {t} z l x =
-      let w = filled x 0 refl (omega arith) in
-      (ap (λ (f : Front). f.end) w ∙ rw zero-add, record { answers = rw z; leaves = rw (z, w) })
+  -- from the buffer's start on: the buffer at the end, `after`, is what the front left of it, as long as it is the same reference
+  module _ {t : Front} (z : given order ≡ 0) (l : length text ≤ length out.now) (x : Adds fronted (record { out = out; end = Some 0 }) text t) where
+    pub front-end : t.end ≡ Some (length text)
+    front-end = ap (λ (f : Front). f.end) (filled x 0 refl (omega arith)) ∙ rw zero-add
+
+    pub same-buffer : out.ghost_name ≡ t.out.ghost_name
+    same-buffer = sym (ap (λ (f : Front). f.out.ghost_name) (filled x 0 refl (omega arith)))
+
+    pub written_as : (n : ℕ) (after : List ℕ) → t.end ≡ Some n → after ≡ t.out.now → TextWritten order text out.now (Written.Bytes n) after
+    written_as n after e a =
+        let w = filled x 0 refl (omega arith) in
+        let m : n ≡ length text = same-some (sym e ∙ front-end) in
+        record { answers = rw (z, m); leaves = rw (z, a, w) }

@@ -1,9 +1,10 @@
 -- A turn of each loop of the listing: one place, or one folder, more.
-use Prim.Native.Nat.{ℕ, zero, suc, ◌+◌}
-use native.Mathlib.Nat.{zero-add, add-zero, add-suc, suc-add}
+use Prim.Native.Nat.{ℕ, suc, ◌+◌, ◌-◌, ◌<◌, ◌≤◌}
+use native.Mathlib.Omega.{arith}
+use native.Mathlib.Numerals.{add-one}
 use mathlib.Core.Path.{◌≡◌, refl, sym, ◌∙◌, ap}
 use mathlib.Core.Bool.{Bool, true, false, cond}
-use mathlib.Core.List.{List, [], ◌∷◌, ◌++◌, append_assoc, append-nil}
+use mathlib.Core.List.{List, [], ◌∷◌, ◌++◌, append_assoc}
 use Rattle.model.specs.Folders.{count_from}
 use Rattle.stored.specs.HeldSet.{folder_held}
 use Rattle.stored.specs.Asking.{place_matched, any_matched, paths_of_folder}
@@ -12,35 +13,43 @@ use Rattle.notation.specs.Print.{folder_word, footer}
 use Rattle.filing.specs.Listing.{moves_word, moves_line}
 use Rattle.filing.specs.Listed.{path_listed, if_matched, paths_listed, line_listed, line_at, folder_listed, folders_listed}
 
-count-end : (first n : ℕ) → count_from first (suc n) ≡ count_from first n ++ ((first + n) ∷ [])
+-- the first of the numbers up to an end, and what is left of them there
+pub count_next : (i end : ℕ) → i < end → count_from i (end - i) ≡ i ∷ count_from (i + 1) (end - (i + 1))
 unfolding count_from
-count-end first zero = rw add-zero
-count-end first (suc n) = ap (λ (l : List ℕ). first ∷ l) (count-end (suc first) n ∙ rw (suc-add, ← add-suc))
+count_next i end h =
+    let k : end - i ≡ suc (end - (i + 1)) = omega arith in
+    rw (k, add-one i, count_from)
 
-paths-joined : (a run xs ys : List ℕ) → paths_listed a run (xs ++ ys) ≡ paths_listed a run xs ++ paths_listed a run ys
+pub count_done : (i end : ℕ) → end ≤ i → count_from i (end - i) ≡ []
+unfolding count_from
+count_done i end h =
+    let k : end - i ≡ 0 = omega arith in
+    rw k
+
+-- the paths from a place on, which is matched, or is not
+module _ (a run : List ℕ) (place end : ℕ) (h : place < end) where
+  pub paths_first : place_matched a run (record { 0 = place }) ≡ true
+      → path_listed a place ++ paths_listed a run (count_from (place + 1) (end - (place + 1))) ≡ paths_listed a run (count_from place (end - place))
+  unfolding paths_listed
+  paths_first e = rw (count_next place end h, e)
+
+  pub paths_skip : place_matched a run (record { 0 = place }) ≡ false
+      → paths_listed a run (count_from (place + 1) (end - (place + 1))) ≡ paths_listed a run (count_from place (end - place))
+  unfolding paths_listed
+  paths_skip e = rw (count_next place end h, e)
+
+pub paths_done : (a run : List ℕ) (place end : ℕ) → end ≤ place → [] ≡ paths_listed a run (count_from place (end - place))
 unfolding paths_listed
-paths-joined a run [] ys = refl
-paths-joined a run (x ∷ xs) ys = rw (paths-joined a run xs ys, append_assoc (if_matched a run x) (paths_listed a run xs) (paths_listed a run ys))
+paths_done a run place end h = sym (ap (paths_listed a run) (count_done place end h))
 
-pub paths-more : (a run : List ℕ) (first n : ℕ) → paths_listed a run (count_from first n) ++ if_matched a run (first + n) ≡ paths_listed a run (count_from first (suc n))
-unfolding paths_listed
-paths-more a run first n = sym (ap (paths_listed a run) (count-end first n) ∙ paths-joined a run (count_from first n) ((first + n) ∷ []) ∙ ap (λ (l : List ℕ). paths_listed a run (count_from first n) ++ l) (append-nil (if_matched a run (first + n))))
-
-folders-joined : (a run xs ys : List ℕ) → folders_listed a run (xs ++ ys) ≡ folders_listed a run xs ++ folders_listed a run ys
+pub folders_next : (a run : List ℕ) (i end : ℕ) → i < end
+    → folder_listed a run i ++ folders_listed a run (count_from (i + 1) (end - (i + 1))) ≡ folders_listed a run (count_from i (end - i))
 unfolding folders_listed
-folders-joined a run [] ys = refl
-folders-joined a run (x ∷ xs) ys = rw (folders-joined a run xs ys, append_assoc (folder_listed a run x) (folders_listed a run xs) (folders_listed a run ys))
+folders_next a run i end h = sym (ap (folders_listed a run) (count_next i end h))
 
-pub folders-more : (a run : List ℕ) (n : ℕ) → folders_listed a run (count_from 0 n) ++ folder_listed a run n ≡ folders_listed a run (count_from 0 (suc n))
+pub folders_done : (a run : List ℕ) (i end : ℕ) → end ≤ i → [] ≡ folders_listed a run (count_from i (end - i))
 unfolding folders_listed
-folders-more a run n = sym (ap (folders_listed a run) (count-end 0 n) ∙ rw zero-add (folders-joined a run (count_from 0 n) (n ∷ []) ∙ ap (λ (l : List ℕ). folders_listed a run (count_from 0 n) ++ l) (append-nil (folder_listed a run n))))
-
--- the place of a path that is matched, and of one that is not
-pub path-yes : (a run : List ℕ) (place : ℕ) → place_matched a run (record { 0 = place }) ≡ true → path_listed a place ≡ if_matched a run place
-path-yes a run place e = sym (ap (λ (b : Bool). cond b (path_listed a place) []) e)
-
-pub path-no : (a run : List ℕ) (place : ℕ) → place_matched a run (record { 0 = place }) ≡ false → [] ≡ if_matched a run place
-path-no a run place e = sym (ap (λ (b : Bool). cond b (path_listed a place) []) e)
+folders_done a run i end h = sym (ap (folders_listed a run) (count_done i end h))
 
 -- a folder that is matched, and one that is not
 pub folder-yes : (a run : List ℕ) (i : ℕ) → any_matched a run (paths_of_folder (folder_held a i)) ≡ true → line_at a run (folder_held a i) ≡ folder_listed a run i
