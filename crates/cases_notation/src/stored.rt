@@ -1,7 +1,6 @@
 // What the reading calls say of a stored set, and writing it back.
 use cases::say;
 use notation::layout::SET_SIZE;
-use notation::reads::{FolderAt, FolderIndex, LabelAt, PathAt, StepAt};
 use notation::{FolderNumber, PathPlace, reads};
 use text::written::Written;
 
@@ -25,47 +24,38 @@ pub fn counts(part: &[u8]) {
 pub fn folder(part: &[u8], i: usize) {
     say::count(b"folder at ", i);
     match reads::folder_at(part, i) {
-        FolderAt::Folder {
-            number,
-            first,
-            paths,
-        } => {
-            say::count(b": number ", number.0);
-            say::count(b", first path ", first.0);
-            say::count(b", paths ", paths);
+        Some(folder) => {
+            say::count(b": number ", folder.number.0);
+            say::count(b", first path ", folder.first.0);
+            say::count(b", paths ", folder.paths);
             say::bytes(b"\n");
         }
-        FolderAt::Missing => say::bytes(b": missing\n"),
+        None => say::bytes(b": missing\n"),
     }
 }
 
 pub fn numbered(part: &[u8], number: usize) {
     say::count(b"folder of number ", number);
     match reads::folder_of(part, FolderNumber(number)) {
-        FolderIndex::At(i) => {
+        Some(i) => {
             say::count(b": at ", i);
             say::bytes(b"\n");
         }
-        FolderIndex::Missing => say::bytes(b": missing\n"),
+        None => say::bytes(b": missing\n"),
     }
 }
 
 pub fn path(part: &[u8], i: usize) {
     say::count(b"path ", i);
     match reads::path_at(part, PathPlace(i)) {
-        PathAt::Path {
-            first,
-            steps,
-            at,
-            size,
-        } => {
-            say::count(b": first step ", first);
-            say::count(b", steps ", steps);
-            say::count(b", at ", at);
-            say::count(b", bytes ", size);
+        Some(path) => {
+            say::count(b": first step ", path.first);
+            say::count(b", steps ", path.steps);
+            say::count(b", at ", path.at);
+            say::count(b", bytes ", path.size);
             say::bytes(b", ");
         }
-        PathAt::Missing => say::bytes(b": missing"),
+        None => say::bytes(b": missing"),
     }
     say::bytes(reads::path_text(part, PathPlace(i)));
     say::bytes(b"\n");
@@ -74,25 +64,25 @@ pub fn path(part: &[u8], i: usize) {
 pub fn step(part: &[u8], i: usize) {
     say::count(b"step ", i);
     match reads::step_at(part, i) {
-        StepAt::Step { descendant, star } => {
-            say::yes_no(b": descendant ", descendant);
-            say::yes_no(b", star ", star);
+        Some(step) => {
+            say::yes_no(b": descendant ", step.descendant);
+            say::yes_no(b", star ", step.star);
             say::bytes(b"\n");
         }
-        StepAt::Missing => say::bytes(b": missing\n"),
+        None => say::bytes(b": missing\n"),
     }
 }
 
 pub fn label(part: &[u8], i: usize) {
     say::count(b"label ", i);
     match reads::label_at(part, i) {
-        LabelAt::Label { at, size, step } => {
-            say::count(b": at ", at);
-            say::count(b", bytes ", size);
-            say::count(b", step ", step);
+        Some(label) => {
+            say::count(b": at ", label.at);
+            say::count(b", bytes ", label.size);
+            say::count(b", step ", label.step);
             say::bytes(b", ");
         }
-        LabelAt::Missing => say::bytes(b": missing"),
+        None => say::bytes(b": missing"),
     }
     say::bytes(reads::label_name(part, i));
     say::bytes(b"\n");

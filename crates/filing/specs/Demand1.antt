@@ -5,7 +5,9 @@ use Rattle.std.specs.Prelude.{ℕ, ◌≤◌, ◌<◌, ◌≡◌, true, ◌↔�
 use Rattle.std.specs.Borrow.{Bor}
 use Rattle.text.specs.Names.{Name}
 use Rattle.notation.specs.Sets.{FolderSet}
-use Rattle.text.specs.Refusals.{Refusal, short_buffer, bad_shape, repeated_attribute, number_of}
+use Rattle.text.specs.declared.refusals.Refusal.{Refusal}
+use Rattle.text.specs.declared.refusals.Refusal.TheVariants.{ShortBuffer, BadShape, RepeatedAttribute}
+use Rattle.text.specs.Refusals.{number_of}
 use Rattle.text.specs.Answers.{number_said}
 use Rattle.text.specs.Written.{written_says}
 use Rattle.notation.specs.Judged.{RefusedText}
@@ -45,7 +47,7 @@ WrittenBy order before answer after = AnswersBy order (written_says answer) × I
 
 -- a set's text is refused: 1 for a buffer below this size, then for the text's own fault
 pub data SetRefused (size : ℕ) (text before : List ℕ) (r : Refusal) : Type 0 where
-  short_first : r ≡ short_buffer → length before < size → SetRefused size text before r
+  short_first : r ≡ ShortBuffer → length before < size → SetRefused size text before r
   of_text : size ≤ length before → RefusedText text r → SetRefused size text before r
 
 -- what a call that judges a set's text answers, and that a refusal changes nothing
@@ -59,11 +61,11 @@ pub record SetJudged (size : ℕ) (text before : List ℕ) (answer : ℕ) (after
 pub record ReportJudged (a run : List ℕ) (c : Counters) (report : List ℕ) (answer : ℕ) (run' : List ℕ) (c' : Counters) : Type 0 where
   pub refusals : (r : Refusal) → (answer ≡ number_of r) ↔ ReportGives a run report (refused r)
   -- 15 of these on its own condition: neither 1 nor 14, and no token is refused so
-  pub repeats : (answer ≡ number_of repeated_attribute) ↔ (Unmet (start_conditions a run) × RepeatsAttribute report)
+  pub repeats : (answer ≡ number_of RepeatedAttribute) ↔ (Unmet (start_conditions a run) × RepeatsAttribute report)
   pub accepted : (answer ≡ 0) ↔ ((t : Left) × ReportGives a run report (filed t))
   pub either : (answer ≡ 0) ⊎ ((r : Refusal) × (answer ≡ number_of r))
-  pub untouched : (answer ≡ number_of short_buffer) ⊎ (answer ≡ number_of bad_shape) → (run' ≡ run) × (c' ≡ c)
-  pub fresh : (answer ≡ number_of short_buffer → ⊥) → (answer ≡ number_of bad_shape → ⊥) → IfRefused answer ((run' ≡ start_run a run) × (c' ≡ no_counters))
+  pub untouched : (answer ≡ number_of ShortBuffer) ⊎ (answer ≡ number_of BadShape) → (run' ≡ run) × (c' ≡ c)
+  pub fresh : (answer ≡ number_of ShortBuffer → ⊥) → (answer ≡ number_of BadShape → ⊥) → IfRefused answer ((run' ≡ start_run a run) × (c' ≡ no_counters))
 
 pub record Demand1 : Type 0 where
   -- the numbers are those from 1 to 15, and no two refusals have the same
@@ -101,4 +103,4 @@ pub record Demand1 : Type 0 where
   pub lists_refusal : (n : ℕ) (before : List ℕ) (answer : Written) (after : List ℕ) → RefusedWritten n before answer after
       → WrittenBy (refused_conditions before) before answer after
   pub prints : (text report a run out : List ℕ) (answer : Written) (a' run' out' : List ℕ) → Prints text report a run out answer a' run' out'
-      → AnswersBy (gives (too_small a run out) short_buffer ∷ []) (written_says answer) × IfRefused (number_said (written_says answer)) ((a' ≡ a) × ((run' ≡ run) × (out' ≡ out)))
+      → AnswersBy (gives (too_small a run out) ShortBuffer ∷ []) (written_says answer) × IfRefused (number_said (written_says answer)) ((a' ≡ a) × ((run' ≡ run) × (out' ≡ out)))

@@ -10,7 +10,6 @@ use crate::limits::LISTING_SIZE;
 use machine::run::{lent, matches};
 use machine::set;
 use notation::PathPlace;
-use notation::reads::FolderAt;
 use stored::counters::Counters;
 use text::output::{Front, Length, Sink, put_number, put_numbered};
 use text::refusals::SHORT_BUFFER;
@@ -43,14 +42,9 @@ fn put_folder<S: Sink>(a: &[u8], run: &[u8], i: usize, to: &mut S)
     if !matches::folder_paths_matched(a, run, i) {
         return;
     }
-    if let FolderAt::Folder {
-        number,
-        first,
-        paths,
-    } = set::folder_at(a, i)
-    {
-        put_numbered(to, b"(folder ", number.0);
-        put_paths(a, run, first.0, paths, to);
+    if let Some(folder) = set::folder_at(a, i) {
+        put_numbered(to, b"(folder ", folder.number.0);
+        put_paths(a, run, folder.first.0, folder.paths, to);
         to.put(b")\n");
     }
 }

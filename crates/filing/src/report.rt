@@ -1,7 +1,8 @@
 // Filing a report (paper 01: Reports): its tokens in order, each given to the machine as what it is in the tree.
 ghost use Rattle.std.specs.Prelude.{◌≡◌, true, cond, [], ◌≤◌, length};
 ghost use Rattle.text.specs.Names.{name_form};
-ghost use Rattle.text.specs.Refusals.{repeated_attribute, number_of};
+ghost use Rattle.text.specs.declared.refusals.Refusal.TheVariants.{RepeatedAttribute};
+ghost use Rattle.text.specs.Refusals.{number_of};
 ghost use Rattle.text.specs.Answers.{number_said};
 ghost use Rattle.stored.specs.Answers.{opened_says};
 ghost use Rattle.stored.specs.Run.{run_size};
@@ -110,7 +111,7 @@ fn take_text(run: &[u8], refusal: u8, all: bool) -> u8
 
 // A tag that repeats an attribute's name refuses the report, whatever an earlier token was refused with.
 fn with_repeat(refusal: u8, twice: bool) -> u8
-    ensures { result ≡ cond twice (number_of repeated_attribute) refusal }
+    ensures { result ≡ cond twice (number_of RepeatedAttribute) refusal }
 {
     if twice {
         return REPEATED_ATTRIBUTE;

@@ -9,7 +9,9 @@ use Rattle.notation.specs.Form.{paths_of}
 use Rattle.notation.specs.Accepted.{Accepted}
 use Rattle.text.specs.Answers.{Answer, refused, value, number_said}
 use Rattle.notation.specs.Fit.{name_at, Active}
-use Rattle.text.specs.Refusals.{Refusal, not_found, number_of}
+use Rattle.text.specs.declared.refusals.Refusal.{Refusal}
+use Rattle.text.specs.declared.refusals.Refusal.TheVariants.{NotFound}
+use Rattle.text.specs.Refusals.{number_of}
 use Rattle.notation.specs.declared.PathPlace.{PathPlace}
 use Rattle.notation.specs.declared.FolderNumber.{FolderNumber}
 use Rattle.model.specs.Words.{Word}
@@ -77,7 +79,7 @@ pub data OpenAnswered (s : FolderSet) (before : List Call) (e : Name) : Answer �
 pub record Answers (there holds : Type 0) (answer : Answer Bool) : Type 0 where
   pub yes : (answer ≡ value true) ↔ holds
   pub no : (answer ≡ value false) ↔ (there × (holds → ⊥))
-  pub gone : (answer ≡ refused (number_of not_found)) ↔ (there → ⊥)
+  pub gone : (answer ≡ refused (number_of NotFound)) ↔ (there → ⊥)
 
 -- a folder of this number is in the set
 pub record HasFolder (s : FolderSet) (number : ℕ) : Type 0 where
@@ -123,7 +125,7 @@ pub record Holds (s : FolderSet) (a : List ℕ) (made : List Made) (calls : List
   pub folders : (number : FolderNumber) → Answers (HasFolder s number.0) (HasMatchedPath s a t.bytes number.0) (ask_folder a t.bytes number)
   -- open names, active steps and current prefix are those defined for the names opened and not yet closed
   pub names : (d : ℕ) → 1 ≤ d → d ≤ length still → (ask_name a t.bytes d ≡ name_at still d) × (name_refusal a t.bytes d ≡ 0)
-  pub no_names : (d : ℕ) → ((1 ≤ d) × (d ≤ length still) → ⊥) → (ask_name a t.bytes d ≡ []) × (name_refusal a t.bytes d ≡ number_of not_found)
+  pub no_names : (d : ℕ) → ((1 ≤ d) × (d ≤ length still) → ⊥) → (ask_name a t.bytes d ≡ []) × (name_refusal a t.bytes d ≡ number_of NotFound)
   pub steps : (place : PathPlace) (k : ℕ) → Answers (StepThere s place.0 k) (Active (path_of_place s place.0) k still) (ask_step a t.bytes place k)
   pub prefix : PrefixAnswered s still (ask_prefix a t.bytes)
   -- a fresh run on the same set, given only the opens of those names in order, answers the same

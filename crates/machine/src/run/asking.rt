@@ -2,17 +2,15 @@
 ghost use Rattle.std.specs.Prelude.{◌≡◌, ◌+◌, ◌-◌, ◌≤◌};
 ghost use Rattle.text.specs.Names.{within};
 ghost use Rattle.text.specs.Answers.{said};
-ghost use Rattle.notation.specs.Reads.{path_at};
 ghost use Rattle.stored.specs.Answers.{asked_says, length_says};
 ghost use Rattle.stored.specs.Usable.{Ready};
 ghost use Rattle.stored.specs.RunCalls.{depth_of, active_at};
-ghost use Rattle.stored.specs.Asking.{has_path, ask_refusal, ask_path, ask_folder, ask_step, ask_prefix, name_refusal, OpenName};
+ghost use Rattle.stored.specs.Asking.{ask_refusal, ask_path, ask_folder, ask_step, ask_prefix, name_refusal, OpenName};
 
 use crate::bits::bit_in;
 use crate::run::layout::ACTIVE_IN;
 use crate::run::{matches, refusals, rows, shape};
 use crate::walk::size_of;
-use notation::reads::{FolderIndex, PathAt};
 use notation::{FolderNumber, PathPlace, reads};
 use stored::answers::{Asked, Length};
 use text::arith::minus;
@@ -30,25 +28,11 @@ fn answer(refused: u8, yes: bool) -> Asked
     Asked::No
 }
 
-fn has_path(a: &[u8], place: PathPlace) -> bool
-    ensures { result ≡ has_path (path_at a.now place) }
-{
-    match reads::path_at(a, place) {
-        PathAt::Path {
-            first: _,
-            steps: _,
-            at: _,
-            size: _,
-        } => true,
-        PathAt::Missing => false,
-    }
-}
-
 // Is a path matched?
 pub fn path_matched(a: &[u8], run: &[u8], place: PathPlace) -> Asked
     ensures { asked_says result ≡ ask_path a.now run.now place }
 {
-    let refused = refusals::ask_refusal(a, run, has_path(a, place));
+    let refused = refusals::ask_refusal(a, run, reads::path_at(a, place).is_some());
     answer(refused, matches::place_matched(a, run, place))
 }
 
@@ -56,13 +40,13 @@ pub fn path_matched(a: &[u8], run: &[u8], place: PathPlace) -> Asked
 pub fn folder_matched(a: &[u8], run: &[u8], number: FolderNumber) -> Asked
     ensures { asked_says result ≡ ask_folder a.now run.now number }
 {
-    match reads::folder_of(a, number) {
-        FolderIndex::At(i) => answer(
-            refusals::ask_refusal(a, run, true),
-            matches::folder_paths_matched(a, run, i),
-        ),
-        FolderIndex::Missing => answer(refusals::ask_refusal(a, run, false), false),
-    }
+    let Some(i) = reads::folder_of(a, number) else {
+        return answer(refusals::ask_refusal(a, run, false), false);
+    };
+    answer(
+        refusals::ask_refusal(a, run, true),
+        matches::folder_paths_matched(a, run, i),
+    )
 }
 
 // Step s, from 1, of a path that begins with step `first`, on the innermost element.
@@ -89,15 +73,10 @@ fn ask_step(a: &[u8], run: &[u8], first: usize, steps: usize, s: usize) -> Asked
 pub fn step_active(a: &[u8], run: &[u8], place: PathPlace, s: usize) -> Asked
     ensures { asked_says result ≡ ask_step a.now run.now place s }
 {
-    match reads::path_at(a, place) {
-        PathAt::Path {
-            first,
-            steps,
-            at: _,
-            size: _,
-        } => ask_step(a, run, first, steps, s),
-        PathAt::Missing => answer(refusals::ask_refusal(a, run, false), false),
-    }
+    let Some(path) = reads::path_at(a, place) else {
+        return answer(refusals::ask_refusal(a, run, false), false);
+    };
+    ask_step(a, run, path.first, path.steps, s)
 }
 
 // The length of the current prefix (paper 01: the held word).

@@ -7,7 +7,6 @@ ghost use Rattle.stored.specs.Asking.{place_matched, any_matched, paths_of_folde
 use crate::bits::bit_in;
 use crate::run::layout::MATCHES_AT;
 use crate::set;
-use notation::reads::{FolderAt, PathAt};
 use notation::{PathPlace, reads};
 use text::arith::minus;
 
@@ -15,15 +14,10 @@ use text::arith::minus;
 pub fn place_matched(a: &[u8], run: &[u8], place: PathPlace) -> bool
     ensures { result ≡ place_matched a.now run.now place }
 {
-    match reads::path_at(a, place) {
-        PathAt::Path {
-            first,
-            steps,
-            at: _,
-            size: _,
-        } => bit_in(run, MATCHES_AT, minus(first + steps, 1)),
-        PathAt::Missing => false,
-    }
+    let Some(path) = reads::path_at(a, place) else {
+        return false;
+    };
+    bit_in(run, MATCHES_AT, minus(path.first + path.steps, 1))
 }
 
 // One of `count` paths from place `first` on is matched.
@@ -46,12 +40,8 @@ fn any_matched(a: &[u8], run: &[u8], first: usize, count: usize) -> bool
 pub fn folder_paths_matched(a: &[u8], run: &[u8], i: usize) -> bool
     ensures { result ≡ any_matched a.now run.now (paths_of_folder (folder_held a.now i)) }
 {
-    match set::folder_at(a, i) {
-        FolderAt::Folder {
-            number: _,
-            first,
-            paths,
-        } => any_matched(a, run, first.0, paths),
-        FolderAt::Missing => false,
-    }
+    let Some(folder) = set::folder_at(a, i) else {
+        return false;
+    };
+    any_matched(a, run, folder.first.0, folder.paths)
 }

@@ -17,7 +17,9 @@ use Rattle.text.specs.Answers.{Answer, value, said}
 use Rattle.text.proofs.Laws.Said.{said-refused}
 use Rattle.text.proofs.Laws.Numbers.{some_number}
 use Rattle.notation.specs.Fit.{name_at, Active}
-use Rattle.text.specs.Refusals.{Refusal, number_of, not_found}
+use Rattle.text.specs.declared.refusals.Refusal.{Refusal}
+use Rattle.text.specs.declared.refusals.Refusal.TheVariants.{NotFound}
+use Rattle.text.specs.Refusals.{number_of}
 use Rattle.notation.specs.declared.PathPlace.{PathPlace}
 use Rattle.notation.specs.declared.FolderNumber.{FolderNumber}
 use Rattle.model.specs.Prefix.{prefix_of}
@@ -153,7 +155,7 @@ module _ (s : FolderSet) (a : List ℕ) (m : Means s a) (rest : List ℕ) (calls
       let w : within 1 (length (open_names st)) d ≡ true = within_in d (length (open_names st)) lo (omega (arith, ap length counted)) in
       (ask-name s a m st few rest d ∙ rw w (ap (λ (l : List Name). name_at l d) counted), ask-name-refused s a m st few rest d ∙ rw w)
 
-  pub no-name-answers : (d : ℕ) → ((1 ≤ d) × (d ≤ length held) → ⊥) → (ask_name a bytes d ≡ []) × (name_refusal a bytes d ≡ number_of not_found)
+  pub no-name-answers : (d : ℕ) → ((1 ≤ d) × (d ≤ length held) → ⊥) → (ask_name a bytes d ≡ []) × (name_refusal a bytes d ≡ number_of NotFound)
   no-name-answers d h =
       let w : within 1 (length (open_names st)) d ≡ false = within-not d (length (open_names st)) (λ p. h (p.0, omega (arith, ap length counted, p.1))) in
       (ask-name s a m st few rest d ∙ rw w, ask-name-refused s a m st few rest d ∙ rw w)

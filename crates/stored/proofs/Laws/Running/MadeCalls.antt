@@ -5,7 +5,8 @@ use mathlib.Core.Bool.{Bool, true, false, cond}
 use mathlib.Core.List.{List, [], ◌∷◌, ◌++◌}
 use native.Mathlib.Omega.{arith}
 use lib.Dec.{eqb}
-use Rattle.text.specs.Refusals.{number_of, short_buffer}
+use Rattle.text.specs.declared.refusals.Refusal.TheVariants.{ShortBuffer}
+use Rattle.text.specs.Refusals.{number_of}
 use Rattle.text.specs.Names.{Name}
 use Rattle.text.specs.Answers.{said, number_said}
 use Rattle.text.proofs.Laws.Said.{said-number}
@@ -105,11 +106,11 @@ closes-so a t e =
 abbrev nothing : Left
 nothing = record { bytes = []; counters = no_counters }
 
-short-open : (e : Name) → open_refusal [] [] no_counters e ≡ number_of short_buffer
+short-open : (e : Name) → open_refusal [] [] no_counters e ≡ number_of ShortBuffer
 unfolding open_refusal given first automaton_size
 short-open e = refl
 
-short-close : (e : Name) → close_refusal [] [] no_counters e ≡ number_of short_buffer
+short-close : (e : Name) → close_refusal [] [] no_counters e ≡ number_of ShortBuffer
 unfolding close_refusal given first automaton_size
 short-close e = refl
 

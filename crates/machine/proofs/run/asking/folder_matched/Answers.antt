@@ -3,10 +3,10 @@ use Rattle.text.specs.Lists.{any}
 use Rattle.stored.specs.Asking.{ask_folder}
 use Rattle.machine.proofs.run.asking.folder_matched.Goals as goal
 
-pub returns-in-At : goal.returns-in-At
+pub returns : goal.returns
 unfolding ask_folder
-returns-in-At c = rw (sym c.folder_of.ensures ∙ c.in-At.is, ← c.ask_refusal.ensures, ← c.folder_paths_matched.ensures) c.answer.ensures
+returns c = rw (sym c.folder_of.ensures ∙ c.in-Some.is, ← c.ask_refusal-2.ensures, ← c.folder_paths_matched.ensures) c.answer-2.ensures
 
-pub returns-in-Missing : goal.returns-in-Missing
+pub returns-in_default : goal.returns-in_default
 unfolding ask_folder any
-returns-in-Missing c = rw (sym c.folder_of.ensures ∙ c.in-Missing.is, ← c.ask_refusal-in-Missing.ensures) c.answer-in-Missing.ensures
+returns-in_default c = rw (sym c.folder_of.ensures ∙ c.in_default.is, ← c.ask_refusal.ensures) c.answer.ensures

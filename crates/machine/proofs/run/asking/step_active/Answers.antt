@@ -5,12 +5,12 @@ use Rattle.stored.specs.Asking.{ask_step}
 use Rattle.machine.proofs.run.asking.step_active.Goals as goal
 
 pub ask_step-requires : goal.ask_step-requires
-ask_step-requires c = (omega (arith, ap path_top c.in-Path.is, c.path_at.ensures.1), omega (arith, ap path_top c.in-Path.is, c.path_at.ensures.1))
+ask_step-requires c = (omega (arith, ap path_top c.in-Some.is, c.path_at.ensures.1), omega (arith, ap path_top c.in-Some.is, c.path_at.ensures.1))
 
-pub returns-in-Path : goal.returns-in-Path
+pub returns : goal.returns
 unfolding ask_step
-returns-in-Path c = rw (sym c.path_at.ensures.0 ∙ c.in-Path.is) c.ask_step.ensures
+returns c = rw (sym c.path_at.ensures.0 ∙ c.in-Some.is) c.ask_step.ensures
 
-pub returns-in-Missing : goal.returns-in-Missing
+pub returns-in_default : goal.returns-in_default
 unfolding ask_step
-returns-in-Missing c = rw (sym c.path_at.ensures.0 ∙ c.in-Missing.is, ← c.ask_refusal.ensures) c.answer.ensures
+returns-in_default c = rw (sym c.path_at.ensures.0 ∙ c.in_default.is, ← c.ask_refusal.ensures) c.answer.ensures

@@ -5,11 +5,11 @@ use Rattle.text.specs.Lists.{any}
 use Rattle.machine.proofs.run.matches.folder_paths_matched.Goals as goal
 
 pub any_matched-requires : goal.any_matched-requires
-any_matched-requires c = (omega (arith, ap top_held c.in-Folder.is, c.folder_at.ensures.1), omega (arith, ap top_held c.in-Folder.is, c.folder_at.ensures.1))
+any_matched-requires c = (omega (arith, ap top_held c.in-Some.is, c.folder_at.ensures.1), omega (arith, ap top_held c.in-Some.is, c.folder_at.ensures.1))
 
-pub returns-in-Folder : goal.returns-in-Folder
-returns-in-Folder c = rw (sym c.folder_at.ensures.0 ∙ c.in-Folder.is) c.any_matched.ensures
+pub returns : goal.returns
+returns c = rw (sym c.folder_at.ensures.0 ∙ c.in-Some.is) c.any_matched.ensures
 
-pub returns-in-Missing : goal.returns-in-Missing
+pub returns-in_default : goal.returns-in_default
 unfolding any
-returns-in-Missing c = rw (sym c.folder_at.ensures.0 ∙ c.in-Missing.is)
+returns-in_default c = rw (sym c.folder_at.ensures.0 ∙ c.in_default.is)
