@@ -4,19 +4,23 @@ use native.Mathlib.Omega.{arith}
 use native.Mathlib.Nat.{zero-add, add-zero}
 use mathlib.Core.Path.{◌≡◌, refl, sym, ap, ◌∙◌}
 use mathlib.Core.List.{List, [], ◌∷◌, ◌++◌, append_assoc, append-nil}
-use lib.ListN.{length, set, length-append}
-use lib.Seq.{sets, length-sets, drop-drop}
+use lib.Dec.{leb}
+use lib.ListN.{length, drop, set, length-append}
+use lib.Seq.{sets, sets-eq, length-sets, drop-drop}
 use borrow.Rule.Slice.PartMut.{put_mid}
-use Rattle.std.proofs.lemmas.List.Edits.{sets-eq}
 use borrow.Author.Tests.{le-leb, lt-leb, leb-true, leb-false}
 use denote.Ref.{MutBor}
-use lib.Dec.{leb}
 use Rattle.text.specs.Answers.{said}
 use Rattle.text.specs.Order.{Condition, given}
 use Rattle.text.specs.Written.{written_into, TextWritten}
-use Rattle.text.specs.declared.written.Written.{Written}
+use Rattle.std.specs.Prelude.{Result, Ok, Err, Option, None, Some}
+use Rattle.std.specs.Option.{ok_or}
+use Rattle.std.specs.Result.{IsErrAnd}
+use Rattle.text.specs.declared.refusals.Refusal.{Refusal}
+use Rattle.text.specs.Refusals.{number_of}
+use Rattle.text.proofs.Laws.Numbers.{some_number}
+use Rattle.text.proofs.Laws.Results.{err_says, handed_on}
 use Rattle.text.proofs.Laws.Tests.{cases}
-use Rattle.std.specs.Prelude.{Option, None, Some}
 use Rattle.text.specs.declared.output.Length.{Length}
 use Rattle.text.specs.declared.output.Front.{Front}
 use Rattle.text.specs.Output.{Adds, no_pieces, a_piece, measured, fronted}
@@ -111,25 +115,35 @@ ran_out {s} (a_piece {t = t} {u} {piece} {bytes} p r) n e i h =
     let stays = late r (rw k) ∙ k in
     (ap (λ (x : Front). x.end) stays, ([], piece ++ bytes, refl, ap (λ (x : Front). x.out) stays)))
 
-same-some : {n m : ℕ} → Some n ≡ Some m → n ≡ m
-same-some e = cc
+-- a refusal changes nothing
+pub into-kept : (n : ℕ) (text before : List ℕ) → (n ≡ 0 → ⊥) → written_into n text before ≡ before
+into-kept zero text before z = absurd (z refl)
+into-kept (suc n) text before z = refl
+
+-- the same promise by an order that gives the same number
+pub same_order : {order other : List Condition} {text before after : List ℕ} {answer : Result ℕ Refusal} → given order ≡ given other
+    → TextWritten order text before answer after → TextWritten other text before answer after
+same_order {text = text} {before} e w =
+    record { answers = w.answers ∙ ap (λ (n : ℕ). said n (length text)) e; leaves = w.leaves ∙ ap (λ (n : ℕ). written_into n text before) e }
 
 -- a text that is delivered: a number is given, or all of it had room
-module _ (order : List Condition) (text : List ℕ) (out : MutBor (List ℕ)) where
-  pub refused-with : (n : ℕ) → n ≡ given order → (n ≡ 0 → ⊥) → TextWritten order text out.now (Written.Refused n) out.now
-  refused-with zero e z = absurd (z refl)
-  refused-with (suc n) e z = record { answers = ap (λ (k : ℕ). said k (length text)) e; leaves = ap (λ (k : ℕ). written_into k text out.now) e }
+module _ (order : List Condition) (text out : List ℕ) where
+  pub refused-with : (r : Refusal) → number_of r ≡ given order → TextWritten order text out (Err r) out
+  refused-with r e = record { answers = err_says r (given order) (length text) e; leaves = sym (into-kept (given order) text out (λ z. some_number r (e ∙ z))) }
 
-  -- from the buffer's start on: the buffer at the end, `after`, is what the front left of it, as long as it is the same reference
-  module _ {t : Front} (z : given order ≡ 0) (l : length text ≤ length out.now) (x : Adds fronted (record { out = out; end = Some 0 }) text t) where
-    pub front-end : t.end ≡ Some (length text)
-    front-end = ap (λ (f : Front). f.end) (filled x 0 refl (omega arith)) ∙ rw zero-add
+  -- a copy over the buffer's first bytes
+  pub written_front : given order ≡ 0 → length text ≤ length out → TextWritten order text out (Ok (length text)) (text ++ drop (length text) out)
+  written_front z l = record { answers = rw z; leaves = rw (z, sets-eq text out 0 (omega arith), zero-add (length text)) }
 
-    pub same-buffer : out.ghost_name ≡ t.out.ghost_name
-    same-buffer = sym (ap (λ (f : Front). f.out.ghost_name) (filled x 0 refl (omega arith)))
+  -- the same where a `?` hands on the refusal of a call
+  pub refused-as : (answer : Result ℕ Refusal) (r : Refusal) → IsErrAnd answer (λ x. x ≡ r) → number_of r ≡ given order → TextWritten order text out answer out
+  refused-as answer r h e = rw (handed_on answer r h) (refused-with r e)
 
-    pub written_as : (n : ℕ) (after : List ℕ) → t.end ≡ Some n → after ≡ t.out.now → TextWritten order text out.now (Written.Bytes n) after
-    written_as n after e a =
-        let w = filled x 0 refl (omega arith) in
-        let m : n ≡ length text = same-some (sym e ∙ front-end) in
-        record { answers = rw (z, m); leaves = rw (z, a, w) }
+-- into the front of a buffer, which at the end is `after`: what the front left of it, as long as it is the same reference
+module _ (order : List Condition) (text : List ℕ) (out : MutBor (List ℕ)) (z : given order ≡ 0) (l : length text ≤ length out.now) {t : Front}
+    (x : Adds fronted (record { out = out; end = Some 0 }) text t) where
+  pub same-buffer : out.ghost_name ≡ t.out.ghost_name
+  same-buffer = sym (ap (λ (f : Front). f.out.ghost_name) (filled x 0 refl (omega arith)))
+
+  pub written_as : (answer : Result ℕ Refusal) (after : List ℕ) (r : Refusal) → answer ≡ ok_or t.end r → after ≡ t.out.now → TextWritten order text out.now answer after
+  written_as answer after r e a = let w = filled x 0 refl (omega arith) in record { answers = rw (e, w, z, zero-add (length text)); leaves = rw (a, w, z) }
