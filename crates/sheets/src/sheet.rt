@@ -134,7 +134,10 @@ fn refusal(a: &[u8], run: &[u8], out: &[u8]) -> u8
     if out.len() < SHEET_SIZE {
         return SHORT_BUFFER;
     }
-    lent::pair_refusal(a, run)
+    match lent::pair_refusal(a, run) {
+        Ok(()) => 0,
+        Err(r) => r.number(),
+    }
 }
 
 // Writes the sheet of a run to the first bytes of `out` and answers its length, or the number of the refusal. Bytes past it stay. It costs one
