@@ -1,20 +1,21 @@
 // Writing what the filing program prints: the listing of a run, or the line of a refusal.
-ghost use Rattle.std.specs.Prelude.{◌≡◌, ◌≤◌};
+ghost use Rattle.std.specs.Prelude.{◌≡◌, ◌≤◌, [], length};
 ghost use Rattle.model.specs.Folders.{count_from};
 ghost use Rattle.stored.specs.HeldSet.{folders_held};
+ghost use Rattle.text.specs.Answers.{refusal_in};
 ghost use Rattle.text.specs.Output.{Adds};
+ghost use Rattle.text.specs.Written.{TextWritten};
+ghost use Rattle.filing.specs.Limits.{max_refused_line};
 ghost use Rattle.filing.specs.Listing.{moves_line, refused_line};
 ghost use Rattle.filing.specs.Listed.{path_listed, paths_listed, folder_listed, folders_listed, listing_in, listing_refusal, ListingWritten, RefusedWritten};
 
 use crate::limits::LISTING_SIZE;
-use crate::report::number;
 use machine::run::{lent, matches};
 use machine::set;
 use notation::PathPlace;
 use stored::counters::Counters;
 use text::output::{Front, Length, Sink, put_number, put_numbered};
-use text::refusals::SHORT_BUFFER;
-use text::written::Written;
+use text::refusals::Refusal;
 
 fn put_path<S: Sink>(a: &[u8], place: usize, to: &mut S)
     ensures { Adds S.puts to.old (path_listed a.now place) to.new }
@@ -76,61 +77,56 @@ fn put_listing<S: Sink>(a: &[u8], run: &[u8], c: Counters, to: &mut S)
     to.put(b")\n");
 }
 
-// The line of a refusal.
-pub fn put_refused<S: Sink>(n: u8, to: &mut S)
+fn put_refused<S: Sink>(n: u8, to: &mut S)
     ensures { Adds S.puts to.old (refused_line n) to.new }
 {
-    put_numbered(to, b"(refused ", n as usize);
+    put_numbered(to, b"(refused ", usize::from(n));
     to.put(b")\n");
 }
 
 // 1 and 14. The listing is measured, since what is stored may have more than there is room for.
-fn refusal(a: &[u8], run: &[u8], c: Counters, out: &[u8]) -> u8
-    ensures { result ≡ listing_refusal a.now run.now c out.now }
+fn check(a: &[u8], run: &[u8], c: Counters, out: &[u8]) -> Result<(), Refusal>
+    ensures { refusal_in result ≡ listing_refusal a.now run.now c out.now }
 {
     if out.len() < LISTING_SIZE {
-        return SHORT_BUFFER;
+        return Err(Refusal::ShortBuffer);
     }
-    let refused = number(lent::refusal(a, run, c));
-    if refused != 0 {
-        return refused;
-    }
+    lent::refusal(a, run, c)?;
     let mut length = Length { bytes: 0 };
     put_listing(a, run, c, &mut length);
     if length.bytes > out.len() {
-        return SHORT_BUFFER;
+        return Err(Refusal::ShortBuffer);
     }
-    0
+    Ok(())
 }
 
-// Writes the listing of a run to the first bytes of `out` and answers its length, or the number of the refusal. Bytes past it stay. The
-// listing is gone through twice, once for its length, so that a refusal changes nothing.
-pub fn write_listing(a: &[u8], run: &[u8], c: Counters, out: &mut [u8]) -> Written
+// Writes the listing of a run to the first bytes of `out` and answers its length, or the refusal. Bytes past it stay. The listing is gone
+// through twice, once for its length, so that a refusal changes nothing.
+pub fn write_listing(a: &[u8], run: &[u8], c: Counters, out: &mut [u8]) -> Result<usize, Refusal>
     ensures { ListingWritten a.now run.now c out.old result out.new }
 {
-    let refused = refusal(a, run, c, out);
-    if refused != 0 {
-        return Written::Refused(refused);
-    }
+    check(a, run, c, out)?;
     let mut front = Front::new(out);
     put_listing(a, run, c, &mut front);
-    match front.end {
-        Some(n) => Written::Bytes(n),
-        None => Written::Refused(SHORT_BUFFER),
-    }
+    front.end.ok_or(Refusal::ShortBuffer)
 }
 
-// Writes the line of a refusal in the same way, at once: it always has room.
-pub fn write_refused(n: u8, out: &mut [u8]) -> Written
+// An inner call: the line of a refusal, by its number, at the start of a buffer that has room for each such line.
+pub fn write_line(n: u8, out: &mut [u8]) -> Result<usize, Refusal>
+    requires { max_refused_line ≤ length out.old }
+    ensures { TextWritten [] (refused_line n) out.old result out.new }
+{
+    let mut front = Front::new(out);
+    put_refused(n, &mut front);
+    front.end.ok_or(Refusal::ShortBuffer)
+}
+
+// Writes the line of a refusal, by its number, and answers its length; 1 for a buffer that is short for a listing.
+pub fn write_refused(n: u8, out: &mut [u8]) -> Result<usize, Refusal>
     ensures { RefusedWritten n out.old result out.new }
 {
     if out.len() < LISTING_SIZE {
-        return Written::Refused(SHORT_BUFFER);
+        return Err(Refusal::ShortBuffer);
     }
-    let mut front = Front::new(out);
-    put_refused(n, &mut front);
-    match front.end {
-        Some(n) => Written::Bytes(n),
-        None => Written::Refused(SHORT_BUFFER),
-    }
+    write_line(n, out)
 }

@@ -1,4 +1,6 @@
 -- From a composed text to the buffer: what is refused, what is written, and what is answered.
+use Rattle.std.specs.Prelude.{Err}
+use Rattle.text.specs.Answers.{says}
 use Prim.Native.Nat.{ℕ, ◌-◌, ◌^◌, ◌≤◌, ◌<◌, max, min}
 use native.Mathlib.Nat.{zero-add}
 use native.Mathlib.Omega.{arith}
@@ -15,7 +17,6 @@ use Rattle.text.specs.declared.refusals.Refusal.TheVariants.{ShortBuffer, BadSha
 use Rattle.text.specs.Refusals.{number_of}
 use Rattle.text.specs.Order.{first, given}
 use Rattle.stored.specs.RunCalls.{shaped, too_short, lent_conditions}
-use Rattle.text.specs.declared.written.Written.{Written}
 use Rattle.stored.specs.declared.counters.Counters.{Counters}
 use Rattle.text.proofs.Laws.Tests.{cases, clash}
 use Rattle.text.proofs.Laws.Order.{not-given}
@@ -80,8 +81,8 @@ module _ (a run : List ℕ) (c : Counters) (out : List ℕ) where
         let size = length out in
         let e : t.bytes ≡ min text (2 ^ 64 - 1) = rw zero-add at (measured-length x (omega arith)) in
         let same : leb t.bytes size ≡ leb text size = cases (leb text size)
-            (λ y. le-leb t.bytes size (omega (arith, leb-true text size y)) ∙ sym y)
-            (λ y. lt-leb t.bytes size (omega (arith, leb-false text size y)) ∙ sym y) in
+        (λ y. le-leb t.bytes size (omega (arith, leb-true text size y)) ∙ sym y)
+        (λ y. lt-leb t.bytes size (omega (arith, leb-false text size y)) ∙ sym y) in
         rw same (length-left z)
 
   -- where nothing is refused the listing has room
@@ -105,14 +106,10 @@ refused-length n h =
     let k : length (decimal n) ≤ 3 = decimal-few 2 n (omega arith) in
     omega (arith, length-append (decimal n) footer)
 
-pub refused-short : (n : ℕ) → n < 256 → length (refused_line n) ≤ listing_size
-unfolding listing_size max_set_bytes max_moves_line
-refused-short n h = omega (arith, refused-length n h)
-
 pub line-fits : (out : List ℕ) → listing_size ≤ length out → given (refused_conditions out) ≡ 0
 unfolding given first
 line-fits out l = let y : ltb (length out) listing_size ≡ false = le-ltb (length out) listing_size l in rw y
 
-pub line-short : (n : ℕ) (out : List ℕ) → length out < listing_size → RefusedWritten n out (Written.Refused (number_of ShortBuffer)) out
+pub line-short : (out : List ℕ) → length out < listing_size → number_of ShortBuffer ≡ given (refused_conditions out)
 unfolding given first
-line-short n out h = let y : ltb (length out) listing_size ≡ true = lt-ltb (length out) listing_size h in record { answers = rw y; leaves = rw y }
+line-short out h = let y : ltb (length out) listing_size ≡ true = lt-ltb (length out) listing_size h in rw y

@@ -12,7 +12,7 @@ loop-place-preserved g c u x =
     let l = c.loop-place in
     let inside = c.loop-place-test.true in
     elim c.if-place_matched.branch [
-        then-place_matched w ↦ l.invariant u (same_bytes (and_then w.put_path.ensures (rw w.to-is at x)) (paths_first _ _ _ _ inside (sym c.place_matched.ensures ∙ w.if-place_matched.true)))
+      | then-place_matched w ↦ l.invariant u (same_bytes (and_then w.put_path.ensures (rw w.to-is at x)) (paths_first _ _ _ _ inside (sym c.place_matched.ensures ∙ w.if-place_matched.true)))
       | else-place_matched w ↦ l.invariant u (same_bytes (rw w.to-is at x) (paths_skip _ _ _ _ inside (sym c.place_matched.ensures ∙ w.if-place_matched.false)))
     ]
 

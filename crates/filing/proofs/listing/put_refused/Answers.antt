@@ -8,4 +8,4 @@ use Rattle.filing.proofs.listing.put_refused.Goals as goal
 
 pub returns : goal.returns
 unfolding refused_line refused_word footer
-returns g c = same_bytes (and_then c.put_numbered.ensures (one c.put.ensures)) (append_assoc refused_word (decimal c.args.n) footer)
+returns g c = same_bytes (and_then (rw c.from.ensures at c.put_numbered.ensures) (one c.put.ensures)) (append_assoc refused_word (decimal c.args.n) footer)
