@@ -4,52 +4,48 @@ use native.Mathlib.Omega.{arith}
 use native.Mathlib.Numerals.{add-one}
 use mathlib.Core.Path.{◌≡◌, refl, sym, ◌∙◌, ap}
 use mathlib.Core.Bool.{Bool, true, false, cond}
-use mathlib.Core.List.{List, [], ◌∷◌, ◌++◌, append_assoc}
+use mathlib.Core.List.{List, [], ◌∷◌, ◌++◌, map, append_assoc}
 use Rattle.model.specs.Folders.{count_from}
 use Rattle.stored.specs.HeldSet.{folder_held}
 use Rattle.stored.specs.Asking.{place_matched, any_matched, paths_of_folder}
+use Rattle.text.specs.Bytes.{joined}
 use Rattle.text.specs.Decimal.{decimal}
+use Rattle.text.specs.Output.{Adds, no_pieces}
+use Rattle.text.proofs.Laws.Output.{and_then, same_bytes}
 use Rattle.notation.specs.Print.{folder_word, footer}
 use Rattle.filing.specs.Listing.{moves_word, moves_line}
 use Rattle.filing.specs.Listed.{path_listed, if_matched, paths_listed, line_listed, line_at, folder_listed, folders_listed}
 
 -- the first of the numbers up to an end, and what is left of them there
-pub count_next : (i end : ℕ) → i < end → count_from i (end - i) ≡ i ∷ count_from (i + 1) (end - (i + 1))
+count_next : (i end : ℕ) → i < end → count_from i (end - i) ≡ i ∷ count_from (i + 1) (end - (i + 1))
 unfolding count_from
 count_next i end h =
     let k : end - i ≡ suc (end - (i + 1)) = omega arith in
     rw (k, add-one i, count_from)
 
-pub count_done : (i end : ℕ) → end ≤ i → count_from i (end - i) ≡ []
+count_done : (i end : ℕ) → end ≤ i → count_from i (end - i) ≡ []
 unfolding count_from
 count_done i end h =
     let k : end - i ≡ 0 = omega arith in
     rw k
 
--- the paths from a place on, which is matched, or is not
-module _ (a run : List ℕ) (place end : ℕ) (h : place < end) where
-  pub paths_first : place_matched a run (record { 0 = place }) ≡ true
-      → path_listed a place ++ paths_listed a run (count_from (place + 1) (end - (place + 1))) ≡ paths_listed a run (count_from place (end - place))
-  unfolding paths_listed
-  paths_first e = rw (count_next place end h, e)
+-- a turn of a loop that puts a text for each number up to an end, told from what is left
+module _ {S : Type 0} {puts : S → List ℕ → S} (f : ℕ → List ℕ) (i end : ℕ) where
+  pub turn : {s t u : S} → i < end → Adds puts s (f i) t → Adds puts t (joined (map f (count_from (i + 1) (end - (i + 1))))) u
+      → Adds puts s (joined (map f (count_from i (end - i)))) u
+  unfolding joined
+  turn h x y = same_bytes (and_then x y) (sym (ap (λ (l : List ℕ). joined (map f l)) (count_next i end h)))
 
-  pub paths_skip : place_matched a run (record { 0 = place }) ≡ false
-      → paths_listed a run (count_from (place + 1) (end - (place + 1))) ≡ paths_listed a run (count_from place (end - place))
-  unfolding paths_listed
-  paths_skip e = rw (count_next place end h, e)
+  pub turned : {s : S} → end ≤ i → Adds puts s (joined (map f (count_from i (end - i)))) s
+  unfolding joined
+  turned h = same_bytes no_pieces (sym (ap (λ (l : List ℕ). joined (map f l)) (count_done i end h)))
 
-pub paths_done : (a run : List ℕ) (place end : ℕ) → end ≤ place → [] ≡ paths_listed a run (count_from place (end - place))
-unfolding paths_listed
-paths_done a run place end h = sym (ap (paths_listed a run) (count_done place end h))
+-- a place that is matched, and one that is not
+pub path-yes : (a run : List ℕ) (place : ℕ) → place_matched a run (record { 0 = place }) ≡ true → path_listed a place ≡ if_matched a run place
+path-yes a run place e = sym (ap (λ (b : Bool). cond b (path_listed a place) []) e)
 
-pub folders_next : (a run : List ℕ) (i end : ℕ) → i < end
-    → folder_listed a run i ++ folders_listed a run (count_from (i + 1) (end - (i + 1))) ≡ folders_listed a run (count_from i (end - i))
-unfolding folders_listed
-folders_next a run i end h = sym (ap (folders_listed a run) (count_next i end h))
-
-pub folders_done : (a run : List ℕ) (i end : ℕ) → end ≤ i → [] ≡ folders_listed a run (count_from i (end - i))
-unfolding folders_listed
-folders_done a run i end h = sym (ap (folders_listed a run) (count_done i end h))
+pub path-no : (a run : List ℕ) (place : ℕ) → place_matched a run (record { 0 = place }) ≡ false → [] ≡ if_matched a run place
+path-no a run place e = sym (ap (λ (b : Bool). cond b (path_listed a place) []) e)
 
 -- a folder that is matched, and one that is not
 pub folder-yes : (a run : List ℕ) (i : ℕ) → any_matched a run (paths_of_folder (folder_held a i)) ≡ true → line_at a run (folder_held a i) ≡ folder_listed a run i
