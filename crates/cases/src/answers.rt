@@ -1,7 +1,7 @@
 // How answers print.
 use std::fmt;
 use std::fmt::Write;
-use stored::answers::{Asked, Length, Opened};
+use text::refusals::Refusal;
 use text::written::Written;
 
 // Bytes as text; one that does not print stands as `?`.
@@ -31,58 +31,56 @@ impl fmt::Display for YesNo {
 
 // What a call answered: a value after a word, or the number of the refusal.
 #[derive(Clone, Copy)]
-pub struct Answer<T>(pub &'static str, pub Result<T, u8>);
+pub struct Answer<T>(pub &'static str, pub Result<T, Refusal>);
 
 impl<T: fmt::Display> fmt::Display for Answer<T> {
     fn fmt<W: fmt::Write>(&self, f: &mut fmt::Formatter<W>) -> fmt::Result {
         let word = self.0;
         match &self.1 {
             Ok(value) => write!(f, "{word}{value}"),
-            Err(number) => write!(f, "refused {number}"),
+            Err(refusal) => write!(f, "refused {}", refusal.number()),
         }
     }
 }
 
 // The number of the refusal, 0 for none.
 #[derive(Clone, Copy)]
-pub struct Number(pub Result<(), u8>);
+pub struct Number(pub Result<(), Refusal>);
 
 impl fmt::Display for Number {
     fn fmt<W: fmt::Write>(&self, f: &mut fmt::Formatter<W>) -> fmt::Result {
-        let number = self.0.err().unwrap_or(0);
+        let number = self.0.map_or_else(Refusal::number, |()| 0);
         write!(f, "{number}")
     }
 }
 
-pub fn done(refusal: u8) -> Result<(), u8> {
-    if refusal == 0 { Ok(()) } else { Err(refusal) }
-}
-
-pub fn opened(answer: Opened) -> Result<usize, u8> {
-    match answer {
-        Opened::Accepted(moves) => Ok(moves),
-        Opened::Refused(n) => Err(n),
+fn refusal_of(number: u8) -> Refusal {
+    match number {
+        1 => Refusal::ShortBuffer,
+        2 => Refusal::TooLarge,
+        3 => Refusal::MalformedSet,
+        4 => Refusal::OutOfOrder,
+        5 => Refusal::NameTooLong,
+        6 => Refusal::PathTooLong,
+        7 => Refusal::OverCapacity,
+        8 => Refusal::InvalidByte,
+        9 => Refusal::SyntaxError,
+        10 => Refusal::NotOneRoot,
+        11 => Refusal::TooDeep,
+        12 => Refusal::MismatchedClose,
+        13 => Refusal::NotFound,
+        14 => Refusal::BadShape,
+        _ => Refusal::RepeatedAttribute,
     }
 }
 
-pub fn asked(answer: Asked) -> Result<YesNo, u8> {
-    match answer {
-        Asked::Yes => Ok(YesNo(true)),
-        Asked::No => Ok(YesNo(false)),
-        Asked::Refused(n) => Err(n),
-    }
+pub fn done(refusal: u8) -> Result<(), Refusal> {
+    if refusal == 0 { Ok(()) } else { Err(refusal_of(refusal)) }
 }
 
-pub fn measured(answer: Length) -> Result<usize, u8> {
-    match answer {
-        Length::Symbols(n) => Ok(n),
-        Length::Refused(n) => Err(n),
-    }
-}
-
-pub fn written(answer: Written) -> Result<usize, u8> {
+pub fn written(answer: Written) -> Result<usize, Refusal> {
     match answer {
         Written::Bytes(n) => Ok(n),
-        Written::Refused(n) => Err(n),
+        Written::Refused(n) => Err(refusal_of(n)),
     }
 }

@@ -10,6 +10,7 @@ use machine::layout::AUTOMATON_SIZE;
 use machine::run::layout::RUN_SIZE;
 use notation::layout::{PATH_LENGTH_IN, PATH_SIZE, PATHS_AT, TEXT_LEN_AT};
 use stored::counters::Counters;
+use text::refusals::Refusal;
 
 const NO_FOLDERS: &str = "(folders\n)\n";
 
@@ -34,12 +35,12 @@ impl Bench {
         })
     }
 
-    fn file(&mut self, report: &[u8]) -> Result<(), u8> {
+    fn file(&mut self, report: &[u8]) -> Result<(), Refusal> {
         let counters = &mut self.counters;
         done(file_report(self.automaton.get(), self.run.get_mut(), counters, report))
     }
 
-    fn list(&self, page: &mut [u8]) -> Result<usize, u8> {
+    fn list(&self, page: &mut [u8]) -> Result<usize, Refusal> {
         written(write_listing(self.automaton.get(), self.run.get(), self.counters, page))
     }
 
@@ -51,7 +52,7 @@ impl Bench {
 }
 
 // What was written at the start of a page, or that it was refused.
-fn print_page(rt: &impl Print, answer: Result<usize, u8>, page: &[u8]) -> Result<()> {
+fn print_page(rt: &impl Print, answer: Result<usize, Refusal>, page: &[u8]) -> Result<()> {
     match answer {
         Ok(length) => rt.write_all(page.get(..length).context("past the page")?)?,
         Err(_) => println!(rt; "no page")?,
@@ -59,13 +60,13 @@ fn print_page(rt: &impl Print, answer: Result<usize, u8>, page: &[u8]) -> Result
     Ok(())
 }
 
-fn print_refused(rt: &impl Print, refusal: u8) -> Result<()> {
+fn print_refused(rt: &impl Print, refusal: Refusal) -> Result<()> {
     let mut page = [0; LISTING_SIZE];
-    let answer = written(write_refused(refusal, &mut page));
+    let answer = written(write_refused(refusal.number(), &mut page));
     print_page(rt, answer, &page)
 }
 
-fn print_answer(rt: &impl Print, answer: Result<(), u8>) -> Result<()> {
+fn print_answer(rt: &impl Print, answer: Result<(), Refusal>) -> Result<()> {
     Ok(println!(rt; "answer {}", Number(answer))?)
 }
 

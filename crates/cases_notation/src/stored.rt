@@ -2,7 +2,7 @@
 use anyhow::Result;
 use cases::answers::{Shown, YesNo};
 use notation::layout::SET_SIZE;
-use notation::reads::{FolderAt, FolderIndex, LabelAt, PathAt, StepAt};
+use notation::reads::{StoredFolder, StoredLabel, StoredPath, StoredStep};
 use notation::{FolderNumber, PathPlace, reads};
 
 // The first, the last and the next byte of a buffer of one byte more than a set.
@@ -24,20 +24,20 @@ pub fn counts(rt: &impl Print, part: &[u8]) -> Result<()> {
 
 pub fn folder(rt: &impl Print, part: &[u8], i: usize) -> Result<()> {
     match reads::folder_at(part, i) {
-        FolderAt::Folder {
+        Some(StoredFolder {
             number: FolderNumber(number),
             first: PathPlace(first),
             paths,
-        } => println!(rt; "folder at {i}: number {number}, first path {first}, paths {paths}")?,
-        FolderAt::Missing => println!(rt; "folder at {i}: missing")?,
+        }) => println!(rt; "folder at {i}: number {number}, first path {first}, paths {paths}")?,
+        None => println!(rt; "folder at {i}: missing")?,
     }
     Ok(())
 }
 
 pub fn numbered(rt: &impl Print, part: &[u8], number: usize) -> Result<()> {
     match reads::folder_of(part, FolderNumber(number)) {
-        FolderIndex::At(i) => println!(rt; "folder of number {number}: at {i}")?,
-        FolderIndex::Missing => println!(rt; "folder of number {number}: missing")?,
+        Some(i) => println!(rt; "folder of number {number}: at {i}")?,
+        None => println!(rt; "folder of number {number}: missing")?,
     }
     Ok(())
 }
@@ -45,29 +45,23 @@ pub fn numbered(rt: &impl Print, part: &[u8], number: usize) -> Result<()> {
 pub fn path(rt: &impl Print, part: &[u8], i: usize) -> Result<()> {
     let text = Shown(reads::path_text(part, PathPlace(i)));
     match reads::path_at(part, PathPlace(i)) {
-        PathAt::Path {
+        Some(StoredPath {
             first,
             steps,
             at,
             size,
-        } => println!(rt;
-            "path {i}: first step {first}, steps {steps}, at {at}, bytes {size}, {text}"
-        )?,
-        PathAt::Missing => println!(rt; "path {i}: missing{text}")?,
+        }) => println!(rt; "path {i}: first step {first}, steps {steps}, at {at}, bytes {size}, {text}")?,
+        None => println!(rt; "path {i}: missing{text}")?,
     }
     Ok(())
 }
 
 pub fn step(rt: &impl Print, part: &[u8], i: usize) -> Result<()> {
     match reads::step_at(part, i) {
-        StepAt::Step { descendant, star } => {
-            println!(rt;
-                "step {i}: descendant {}, star {}",
-                YesNo(descendant),
-                YesNo(star)
-            )?
+        Some(StoredStep { descendant, star }) => {
+            println!(rt; "step {i}: descendant {}, star {}", YesNo(descendant), YesNo(star))?
         }
-        StepAt::Missing => println!(rt; "step {i}: missing")?,
+        None => println!(rt; "step {i}: missing")?,
     }
     Ok(())
 }
@@ -75,10 +69,10 @@ pub fn step(rt: &impl Print, part: &[u8], i: usize) -> Result<()> {
 pub fn label(rt: &impl Print, part: &[u8], i: usize) -> Result<()> {
     let name = Shown(reads::label_name(part, i));
     match reads::label_at(part, i) {
-        LabelAt::Label { at, size, step } => {
+        Some(StoredLabel { at, size, step }) => {
             println!(rt; "label {i}: at {at}, bytes {size}, step {step}, {name}")?
         }
-        LabelAt::Missing => println!(rt; "label {i}: missing{name}")?,
+        None => println!(rt; "label {i}: missing{name}")?,
     }
     Ok(())
 }

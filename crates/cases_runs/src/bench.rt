@@ -1,7 +1,7 @@
 // A line of the script is carried out. `# TITLE`. `(`: a set, built. `?`: something asked. `=`: something put in place. `;`: a remark.
 // Any other line is a call that changes the run.
 use anyhow::{Result, bail};
-use cases::answers::{Answer, Shown, asked, done, measured, opened};
+use cases::answers::{Answer, Shown, YesNo};
 use cases::lent::Lent;
 use cases::script::{number, numbers, place, split_word};
 use cases::texts::expand;
@@ -59,20 +59,20 @@ impl Bench {
         let name = rest.as_bytes();
         match word {
             "start" => {
-                let answer = done(start::start(a, run, counters)).map(|()| "accepted");
+                let answer = start::start(a, run, counters).map(|()| "accepted");
                 println!(rt; "  start {}", Answer("", answer))?;
             }
             "open" => {
-                let answer = opened(open::open(a, run, counters, name));
+                let answer = open::open(a, run, counters, name);
                 println!(rt; "  open {rest} {}", Answer("accepted ", answer))?;
             }
             "close" => {
-                let answer = done(close::close(a, run, counters, name)).map(|()| "accepted");
+                let answer = close::close(a, run, counters, name).map(|()| "accepted");
                 println!(rt; "  close {rest} {}", Answer("", answer))?;
             }
             "deepen" => {
                 for _ in 0..number(rest)? {
-                    open::open(a, run, counters, b"a");
+                    let _ = open::open(a, run, counters, b"a");
                 }
             }
             _ => bail!("no such call: {word}"),
@@ -87,29 +87,24 @@ impl Bench {
         match word {
             "?path" => {
                 let path = number(rest)?;
-                let answer = asked(asking::path_matched(a, run, PathPlace(path)));
+                let answer = asking::path_matched(a, run, PathPlace(path)).map(YesNo);
                 println!(rt; "  path {path} {}", Answer("", answer))?;
             }
             "?step" => {
                 let [path, step] = numbers::<2>(rest)?;
-                let answer = asked(asking::step_active(a, run, PathPlace(path), step));
+                let answer = asking::step_active(a, run, PathPlace(path), step).map(YesNo);
                 println!(rt; "  path {path} step {step} {}", Answer("", answer))?;
             }
             "?folder" => {
                 let number = number(rest)?;
-                let answer = asked(asking::folder_matched(a, run, FolderNumber(number)));
+                let answer = asking::folder_matched(a, run, FolderNumber(number)).map(YesNo);
                 println!(rt; "  folder {number} {}", Answer("", answer))?;
             }
             "?length" => {
-                let answer = measured(asking::prefix_length(a, run));
+                let answer = asking::prefix_length(a, run);
                 println!(rt; "  prefix {}", Answer("", answer))?;
             }
-            "?name" => {
-                let depth = number(rest)?;
-                let answer = done(asking::name_refusal(a, run, depth)).map(|()| "accepted");
-                let name = Shown(asking::open_name(a, run, depth));
-                println!(rt; "  name {depth} ({name}) {}", Answer("", answer))?;
-            }
+            "?name" => self.ask_name(rt, number(rest)?)?,
             "?counters" => {
                 let Counters {
                     opens,
@@ -122,6 +117,15 @@ impl Bench {
             _ => bail!("no such question: {word}"),
         }
         Ok(())
+    }
+
+    // The name between brackets, and the refusal beside it.
+    fn ask_name(&self, rt: &impl Print, depth: usize) -> Result<()> {
+        let a = self.automaton.get();
+        let run = self.run.get();
+        let answer = asking::name_refusal(a, run, depth).map(|()| "accepted");
+        let name = Shown(asking::open_name(a, run, depth));
+        Ok(println!(rt; "  name {depth} ({name}) {}", Answer("", answer))?)
     }
 
     // The last byte that is lent of each buffer, and the byte after it.

@@ -1,7 +1,9 @@
 -- What the filing program's one call promises (paper 01: The filing program), from the bytes of a set and a report to the bytes that are printed.
 use Rattle.std.specs.Prelude.{ℕ, ◌≤◌, ◌≡◌, Bool, true, false, ◌||◌, List, ◌++◌, ltb, length, drop}
 use Rattle.notation.specs.Sets.{FolderSet}
-use Rattle.text.specs.Refusals.{Refusal, short_buffer, number_of}
+use Rattle.text.specs.declared.refusals.Refusal.{Refusal}
+use Rattle.text.specs.declared.refusals.Refusal.TheVariants.{ShortBuffer}
+use Rattle.text.specs.Refusals.{number_of}
 use Rattle.text.specs.Answers.{refused, value}
 use Rattle.notation.specs.Accepted.{Accepted}
 use Rattle.notation.specs.Judged.{RefusedText, Verdict, Judged}
@@ -27,7 +29,7 @@ pub record PrintsText (text before : List ℕ) (answer : Written) (after : List 
 -- what is answered and left, of any text, report and buffers
 pub record Prints (text report a run out : List ℕ) (answer : Written) (a' run' out' : List ℕ) : Type 0 where
   -- a short buffer: 1, and nothing is changed
-  pub short : too_small a run out ≡ true → (written_says answer ≡ refused (number_of short_buffer)) × ((a' ≡ a) × ((run' ≡ run) × (out' ≡ out)))
+  pub short : too_small a run out ≡ true → (written_says answer ≡ refused (number_of ShortBuffer)) × ((a' ≡ a) × ((run' ≡ run) × (out' ≡ out)))
   -- else what text and report print is printed
   pub printed : too_small a run out ≡ false → (bytes : List ℕ) → PrintedText text report bytes → PrintsText bytes out answer out'
   -- the automaton is left as a build leaves it

@@ -1,10 +1,10 @@
 -- What the calls that write a listing promise, of any automaton, run and counters, by what is stored.
-use Rattle.std.specs.Prelude.{ℕ, max, not, ◌||◌, cond, List, [], ◌∷◌, ◌++◌, ltb, length}
+use Rattle.std.specs.Prelude.{ℕ, max, not, ◌||◌, cond, List, [], ◌∷◌, ◌++◌, ltb, length, Option, Some, None}
 use Rattle.text.specs.Decimal.{decimal}
 use Rattle.notation.specs.Print.{folder_word, footer}
-use Rattle.text.specs.Refusals.{short_buffer, bad_shape}
+use Rattle.text.specs.declared.refusals.Refusal.TheVariants.{ShortBuffer, BadShape}
 use Rattle.text.specs.Written.{TextWritten}
-use Rattle.notation.specs.declared.reads.FolderAt.{FolderAt}
+use Rattle.notation.specs.declared.reads.StoredFolder.{StoredFolder}
 use Rattle.model.specs.Folders.{count_from}
 use Rattle.text.specs.Order.{Condition, gives, given}
 use Rattle.stored.specs.RunCalls.{shaped, too_short}
@@ -31,9 +31,9 @@ paths_listed a run (place ∷ places) = if_matched a run place ++ paths_listed a
 unfoldable pub line_listed : List ℕ → List ℕ → ℕ → List ℕ → List ℕ
 line_listed a run number places = folder_word ++ (decimal number ++ (paths_listed a run places ++ footer))
 
-abbrev pub line_at : List ℕ → List ℕ → FolderAt → List ℕ
-line_at a run (FolderAt.Folder number first count) = line_listed a run number.0 (count_from first.0 count)
-line_at a run FolderAt.Missing = []
+abbrev pub line_at : List ℕ → List ℕ → Option StoredFolder → List ℕ
+line_at a run (Some f) = line_listed a run f.number.0 (count_from f.first.0 f.paths)
+line_at a run None = []
 
 -- none where no path is matched
 unfoldable pub folder_listed : List ℕ → List ℕ → ℕ → List ℕ
@@ -55,7 +55,7 @@ listing_room a run c = cond (shaped a run c) (max listing_size (length (listing_
 -- 1 and 14 (automaton, run and counters)
 abbrev pub listing_conditions : List ℕ → List ℕ → Counters → List ℕ → List Condition
 listing_conditions a run c out =
-    gives (too_short a run || ltb (length out) (listing_room a run c)) short_buffer ∷ gives (not (shaped a run c)) bad_shape ∷ []
+    gives (too_short a run || ltb (length out) (listing_room a run c)) ShortBuffer ∷ gives (not (shaped a run c)) BadShape ∷ []
 
 abbrev pub listing_refusal : List ℕ → List ℕ → Counters → List ℕ → ℕ
 listing_refusal a run c out = given (listing_conditions a run c out)
@@ -65,7 +65,7 @@ ListingWritten a run c before answer after = TextWritten (listing_conditions a r
 
 -- the line of a refusal: 1 for a short buffer
 abbrev pub refused_conditions : List ℕ → List Condition
-refused_conditions out = gives (ltb (length out) listing_size) short_buffer ∷ []
+refused_conditions out = gives (ltb (length out) listing_size) ShortBuffer ∷ []
 
 abbrev pub RefusedWritten : ℕ → List ℕ → Written → List ℕ → Type 0
 RefusedWritten n before answer after = TextWritten (refused_conditions before) (refused_line n) before answer after

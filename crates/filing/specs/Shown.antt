@@ -2,7 +2,9 @@
 -- from the bytes of a set and a report to the bytes that are printed. Whether a report is filed or refused is the machine's word (Filing).
 use Rattle.std.specs.Prelude.{ℕ, ◌≤◌, ◌≡◌, Bool, true, false, ◌||◌, List, ◌++◌, ltb, length, drop}
 use Rattle.notation.specs.Sets.{FolderSet}
-use Rattle.text.specs.Refusals.{Refusal, short_buffer, number_of}
+use Rattle.text.specs.declared.refusals.Refusal.{Refusal}
+use Rattle.text.specs.declared.refusals.Refusal.TheVariants.{ShortBuffer}
+use Rattle.text.specs.Refusals.{number_of}
 use Rattle.text.specs.Answers.{refused, value}
 use Rattle.notation.specs.Accepted.{Accepted}
 use Rattle.notation.specs.Judged.{RefusedText, Verdict, Judged}
@@ -47,7 +49,7 @@ pub record PrintsText (size : ℕ) (text before : List ℕ) (answer : Written) (
 pub record PrintsBy (size : ℕ) (For : FolderSet → List ℕ → List ℕ → Type 0) (text report a run out : List ℕ) (answer : Written)
     (a' run' out' : List ℕ) : Type 0 where
   -- a short buffer: 1, and nothing is changed
-  pub short : too_small size a run out ≡ true → (written_says answer ≡ refused (number_of short_buffer)) × ((a' ≡ a) × ((run' ≡ run) × (out' ≡ out)))
+  pub short : too_small size a run out ≡ true → (written_says answer ≡ refused (number_of ShortBuffer)) × ((a' ≡ a) × ((run' ≡ run) × (out' ≡ out)))
   -- else what text and report bring is printed
   pub printed : too_small size a run out ≡ false → (bytes : List ℕ) → ShownText For text report bytes → PrintsText size bytes out answer out'
   -- the automaton is left as a build leaves it

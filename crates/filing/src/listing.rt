@@ -7,10 +7,10 @@ ghost use Rattle.filing.specs.Listing.{moves_line, refused_line};
 ghost use Rattle.filing.specs.Listed.{path_listed, if_matched, paths_listed, line_listed, line_at, folder_listed, folders_listed, listing_in, listing_refusal, ListingWritten, RefusedWritten};
 
 use crate::limits::LISTING_SIZE;
+use crate::report::number;
 use machine::run::{lent, matches};
 use machine::set;
 use notation::PathPlace;
-use notation::reads::FolderAt;
 use stored::counters::Counters;
 use text::output::{Cursor, begin, emit, emit_number, emit_numbered};
 use text::refusals::SHORT_BUFFER;
@@ -57,14 +57,11 @@ fn emit_paths(
 fn emit_line(a: &[u8], run: &[u8], i: usize, out: &mut [u8], cursor: Cursor) -> Cursor
     ensures { Adds out.old cursor (line_at a.now run.now (folder_held a.now i)) out.new result }
 {
-    match set::folder_at(a, i) {
-        FolderAt::Folder {
-            number,
-            first,
-            paths,
-        } => emit_folder_line(a, run, number.0, first.0, paths, out, cursor),
-        FolderAt::Missing => cursor,
-    }
+    let Some(folder) = set::folder_at(a, i) else {
+        return cursor;
+    };
+    let number = folder.number.0;
+    emit_folder_line(a, run, number, folder.first.0, folder.paths, out, cursor)
 }
 
 fn emit_folder_line(
@@ -142,7 +139,7 @@ fn refusal(a: &[u8], run: &[u8], c: Counters, out: &mut [u8]) -> u8
     if size < LISTING_SIZE {
         return SHORT_BUFFER;
     }
-    let refused = lent::refusal(a, run, c);
+    let refused = number(lent::refusal(a, run, c));
     if refused != 0 {
         return refused;
     }

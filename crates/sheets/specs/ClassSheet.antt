@@ -1,5 +1,5 @@
 -- The class sheet (paper 02, A.2) as one statement. Of each call the contract alone is used.
-use Rattle.std.specs.Prelude.{ℕ, suc, ◌-◌, ◌*◌, ◌≤◌, ◌<◌, ◌≡◌, true, false, ◌↔◌, List, ◌∷◌, ◌++◌, map, length, get_or, take, drop, replicate}
+use Rattle.std.specs.Prelude.{ℕ, suc, ◌-◌, ◌*◌, ◌≤◌, ◌<◌, ◌≡◌, true, false, ◌↔◌, List, ◌∷◌, ◌++◌, map, length, get_or, take, drop, replicate, Some}
 use mathlib.Core.List.{Memᴰ}
 use Rattle.text.specs.Bytes.{joined}
 use Rattle.text.specs.declared.written.Written.{Written}
@@ -8,7 +8,6 @@ use Rattle.notation.specs.Sets.{Path, Folder, FolderSet, folder_number}
 use Rattle.notation.specs.Form.{paths_of}
 use Rattle.notation.specs.Accepted.{Accepted}
 use Rattle.notation.specs.declared.PathPlace.{PathPlace}
-use Rattle.notation.specs.declared.reads.FolderAt.{FolderAt}
 use Rattle.model.specs.Folders.{count_from, HasFolders}
 use Rattle.stored.specs.Build.{Built}
 use Rattle.stored.specs.Run.{run_size}
@@ -33,7 +32,7 @@ use Rattle.sheets.specs.Printer.{PrintsSheet}
 pub record BeginsBy (a : List ℕ) (place i number : ℕ) : Type 0 where
   pub first : PathPlace
   pub count : ℕ
-  pub held : folder_held a i ≡ FolderAt.Folder (record { 0 = number }) first count
+  pub held : folder_held a i ≡ Some (record { number = record { 0 = number }; first = first; paths = count })
   pub before : first.0 ≤ place
 
 -- a place has the number of the last such folder, and 0 where there is none

@@ -8,7 +8,6 @@ use machine::run::matches;
 use machine::set;
 use notation::PathPlace;
 use notation::limits::MAX_PATHS;
-use notation::reads::FolderAt;
 
 // Puts the places of the matched paths into a table, in order, and answers how many there are.
 pub fn collect(a: &[u8], run: &[u8], at: &mut [u8]) -> usize
@@ -51,13 +50,8 @@ fn enter(a: &[u8], i: usize, numbers: &mut [u16])
     requires { length numbers.old ≡ max_paths }
     ensures { Entered (folder_held a.now i) numbers.old numbers.new }
 {
-    match set::folder_at(a, i) {
-        FolderAt::Folder {
-            number,
-            first,
-            paths: _,
-        } => fill(numbers, first.0, narrow(number.0)),
-        FolderAt::Missing => {}
+    if let Some(folder) = set::folder_at(a, i) {
+        fill(numbers, folder.first.0, narrow(folder.number.0));
     }
 }
 

@@ -1,7 +1,8 @@
 -- What the calls of a report's tokens answer, by what the code says of each token (follows the code; laws tie it to the tokens' events).
 use Rattle.std.specs.Prelude.{ℕ, ◌≡◌, Bool, true, false, not, ◌&&◌, cond, List, [], ◌∷◌, eqb, length, drop}
 use Rattle.text.specs.Names.{Name}
-use Rattle.text.specs.Refusals.{syntax_error, not_one_root, repeated_attribute, number_of}
+use Rattle.text.specs.declared.refusals.Refusal.TheVariants.{SyntaxError, NotOneRoot, RepeatedAttribute}
+use Rattle.text.specs.Refusals.{number_of}
 use Rattle.text.specs.Order.{gives, first}
 use Rattle.stored.specs.RunCalls.{depth_of, start_run}
 use Rattle.stored.specs.Demand3.{Left}
@@ -46,7 +47,7 @@ file_close a t e = file_event (stored_machine a) t (closing e)
 
 -- text, by whether it is all blank
 abbrev pub file_text : Left → Bool → Outcome Left
-file_text t all = unless (first (gives (eqb (depth_of t.bytes) 0 && not all) not_one_root ∷ [])) t
+file_text t all = unless (first (gives (eqb (depth_of t.bytes) 0 && not all) NotOneRoot ∷ [])) t
 
 -- what was answered before a text becomes this
 abbrev pub TextTaken : List ℕ → ℕ → Bool → ℕ → Type 0
@@ -54,18 +55,18 @@ TextTaken run n all n' = (o : Outcome Left) (c : Counters) → Answered o n run 
 
 -- the same of a declaration at an offset that ends here, in bytes of this length in all, and where to read on: past offset 0 nothing is left
 pub record DeclarationTaken (n : ℕ) (c : Counters) (at end total n' : ℕ) (c' : Counters) (next : ℕ) : Type 0 where
-  pub taken : (o : Outcome Left) (run : List ℕ) → Answered o n run c → Answered (cond (eqb at 0) o (refused syntax_error)) n' run c'
+  pub taken : (o : Outcome Left) (run : List ℕ) → Answered o n run c → Answered (cond (eqb at 0) o (refused SyntaxError)) n' run c'
   pub onward : next ≡ cond (eqb at 0) end total
 
 -- 15 for a tag that repeats an attribute's name, whatever was answered before
 abbrev pub with_repeat : Bool → Outcome Left → Outcome Left
-with_repeat true o = refused repeated_attribute
+with_repeat true o = refused RepeatedAttribute
 with_repeat false o = o
 
 -- what the token at an offset makes of an outcome, with its tag's name: 9 where there is none, and of a declaration past offset 0
 abbrev pub step_found : List ℕ → ℕ → Outcome Left → Found → Name → Outcome Left
-step_found a at o Nothing e = refused syntax_error
-step_found a at o (Declaration end) e = cond (eqb at 0) o (refused syntax_error)
+step_found a at o Nothing e = refused SyntaxError
+step_found a at o (Declaration end) e = cond (eqb at 0) o (refused SyntaxError)
 step_found a at o (Comment end) e = o
 step_found a at o (Start from to end twice) e = and_then (with_repeat twice o) (λ t. file_open a t e)
 step_found a at o (Empty from to end twice) e = and_then (with_repeat twice o) (λ t. and_then (file_open a t e) (λ t₂. file_close a t₂ e))
@@ -94,5 +95,5 @@ file_last t = file_end (stored_machine []) t
 
 -- what the rest of the tokens makes of an outcome: 9 comes first of all, then 15
 abbrev pub run_from : List ℕ → Outcome Left → Read (List Token) → Outcome Left
-run_from a o fail = refused syntax_error
+run_from a o fail = refused SyntaxError
 run_from a o (got ts r) = and_then (with_repeat (repeats_in ts) o) (λ t. file_events (stored_machine a) t (events_of ts))

@@ -9,10 +9,8 @@ use crate::layout::{
     ANYWHERE_MASK, CHILD_MASK, DESCENDANT_MASK, LAST_MASK, MASK_SIZE, MASKS_AT, ROOT_MASK,
     STAR_MASK, START_AT,
 };
-use notation::reads::{PathAt, StepAt};
 use notation::{PathPlace, reads};
 use text::store::put16;
-use text::truth::negated;
 
 const STEP_BITS: usize = 8 * MASK_SIZE;
 
@@ -57,9 +55,8 @@ fn flag_step(part: &mut [u8], i: usize, first: bool, last: bool)
     if STEP_BITS <= i {
         return;
     }
-    match reads::step_at(part, i) {
-        StepAt::Step { descendant, star } => flag_role(part, i, descendant, star, first, last),
-        StepAt::Missing => {}
+    if let Some(step) = reads::step_at(part, i) {
+        flag_role(part, i, step.descendant, step.star, first, last);
     }
 }
 
@@ -79,14 +76,8 @@ fn flag_path(part: &mut [u8], place: usize)
     requires { automaton_size ≤ length part.old }
     ensures { part.new ≡ flag_path place part.old }
 {
-    match reads::path_at(part, PathPlace(place)) {
-        PathAt::Path {
-            first,
-            steps,
-            at: _,
-            size: _,
-        } => flag_steps(part, first, steps),
-        PathAt::Missing => {}
+    if let Some(path) = reads::path_at(part, PathPlace(place)) {
+        flag_steps(part, path.first, path.steps);
     }
 }
 
@@ -106,28 +97,14 @@ pub fn write_masks(part: &mut [u8])
 fn is_child(part: &[u8], i: usize) -> bool
     ensures { result ≡ child_at (step_at part.now i) }
 {
-    match reads::step_at(part, i) {
-        StepAt::Step {
-            descendant,
-            star: _,
-        } => negated(descendant),
-        StepAt::Missing => false,
-    }
+    reads::step_at(part, i).is_some_and(|step| !step.descendant)
 }
 
 // The path of this place begins with `/`.
 fn is_rooted(part: &[u8], place: usize) -> bool
     ensures { result ≡ rooted part.now place }
 {
-    match reads::path_at(part, PathPlace(place)) {
-        PathAt::Path {
-            first,
-            steps: _,
-            at: _,
-            size: _,
-        } => is_child(part, first),
-        PathAt::Missing => false,
-    }
+    reads::path_at(part, PathPlace(place)).is_some_and(|path| is_child(part, path.first))
 }
 
 fn start_state(part: &[u8]) -> usize

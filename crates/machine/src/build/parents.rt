@@ -12,7 +12,6 @@ use crate::layout::{LINK_SIZE, LINKS_AT, PARENT_IN, SIZE_IN};
 use crate::lookup::first_label;
 use crate::walk::{goto_state, size_of};
 use notation::limits::MAX_LABELS;
-use notation::reads::{PathAt, StepAt};
 use notation::{PathPlace, reads};
 use stored::place::Place;
 use text::store::put16;
@@ -21,15 +20,7 @@ use text::store::put16;
 fn starts_path(part: &[u8], p: usize, i: usize) -> bool
     ensures { result ≡ starts_at (path_at part.now (record { 0 = p })) i }
 {
-    match reads::path_at(part, PathPlace(p)) {
-        PathAt::Path {
-            first,
-            steps: _,
-            at: _,
-            size: _,
-        } => first == i,
-        PathAt::Missing => false,
-    }
+    reads::path_at(part, PathPlace(p)).is_some_and(|path| path.first == i)
 }
 
 fn enter(at: Place, first: bool, deep: bool) -> Place
@@ -103,21 +94,18 @@ fn pass_step(part: &mut [u8], i: usize, at: Place) -> Place
     ensures { (part.new ≡ (passed i at part.old).bytes) × ((result ≡ (passed i at part.old).place) × (Sound (i + 1) result part.new)) }
 {
     let first = starts_path(part, at.paths, i);
-    let x = reads::step_at(part, i);
-    match x {
-        StepAt::Step { descendant, star } => {
-            let on = enter(at, first, descendant);
-            if star {
-                return Place {
-                    labels: on.labels,
-                    paths: on.paths,
-                    state: 0,
-                };
-            }
-            put_word(part, on)
-        }
-        StepAt::Missing => at,
+    let Some(step) = reads::step_at(part, i) else {
+        return at;
+    };
+    let on = enter(at, first, step.descendant);
+    if step.star {
+        return Place {
+            labels: on.labels,
+            paths: on.paths,
+            state: 0,
+        };
     }
+    put_word(part, on)
 }
 
 // Every step, from the first to the last.

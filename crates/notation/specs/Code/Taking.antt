@@ -4,7 +4,9 @@ use Rattle.std.proofs.lemmas.List.Edits.{sets}
 use Rattle.text.specs.Bytes.{joined}
 use Rattle.text.specs.Decimal.{decimal}
 use Rattle.text.specs.Read.{Read, fail, got, starts_with}
-use Rattle.text.specs.Refusals.{Refusal, out_of_order, name_too_long, path_too_long, over_capacity, malformed_set, too_large, number_of}
+use Rattle.text.specs.declared.refusals.Refusal.{Refusal}
+use Rattle.text.specs.declared.refusals.Refusal.TheVariants.{OutOfOrder, NameTooLong, PathTooLong, OverCapacity, MalformedSet, TooLarge}
+use Rattle.text.specs.Refusals.{number_of}
 use Rattle.notation.specs.Limits.{max_steps, max_paths, max_labels}
 use Rattle.notation.specs.Sets.{Test, Step, step, Path, Folder, folder, FolderSet, test_of}
 use Rattle.notation.specs.Print.{print_axis, print_test, print_step, print_path, folder_word, header, footer}
@@ -50,11 +52,11 @@ moved_tally n t = tally (t.at + n) t.last t.first t.folders t.paths t.steps t.la
 abbrev pub step_counted : ℕ → ℕ → ℕ → Tally → Tally
 step_counted end labels long t =
     tally end t.last t.first t.folders t.paths (t.steps + 1) (t.labels + labels)
-    (or_else t.fault (or_else long (cond (leb max_steps (t.steps - t.first)) (number_of path_too_long) 0)))
+    (or_else t.fault (or_else long (cond (leb max_steps (t.steps - t.first)) (number_of PathTooLong) 0)))
 
 abbrev pub step_tally : Step → Tally → Tally
 step_tally x t =
-    step_counted (t.at + length (print_step x)) (length (label_of (test_of x))) (cond (long_test (test_of x)) (number_of name_too_long) 0) t
+    step_counted (t.at + length (print_step x)) (length (label_of (test_of x))) (cond (long_test (test_of x)) (number_of NameTooLong) 0) t
 
 -- a path begins after its space and bracket, and ends with its bracket
 abbrev pub path_begun : Tally → Tally
@@ -66,7 +68,7 @@ path_ended t = tally (t.at + 1) t.last t.first t.folders (t.paths + 1) t.steps t
 -- a folder's number n, which ends there; it must be above the one before (4)
 abbrev pub number_counted : ℕ → ℕ → Tally → Tally
 number_counted n end t =
-    tally end n t.first (t.folders + 1) t.paths t.steps t.labels (or_else t.fault (cond (leb n t.last) (number_of out_of_order) 0))
+    tally end n t.first (t.folders + 1) t.paths t.steps t.labels (or_else t.fault (cond (leb n t.last) (number_of OutOfOrder) 0))
 
 -- what is counted, and the bytes of the read set
 pub record State : Type 0 where
@@ -144,13 +146,13 @@ pub record Small (text : List ℕ) (t : Tally) : Type 0 where
 
 -- the refusal of what was counted: the first fault met, or 7; 0 for none
 abbrev pub tally_refusal : Tally → ℕ
-tally_refusal t = or_else t.fault (cond (ltb max_paths t.paths || ltb max_labels t.labels) (number_of over_capacity) 0)
+tally_refusal t = or_else t.fault (cond (ltb max_paths t.paths || ltb max_labels t.labels) (number_of OverCapacity) 0)
 
 -- the refusal of a text that was read so: 3, the first of 4 to 6, 7, or 0 for none
 abbrev pub read_refusal : Read FolderSet → ℕ
-read_refusal fail = number_of malformed_set
-read_refusal (got s r) = or_else (first_of (faults s)) (cond (over_limits s) (number_of over_capacity) 0)
+read_refusal fail = number_of MalformedSet
+read_refusal (got s r) = or_else (first_of (faults s)) (cond (over_limits s) (number_of OverCapacity) 0)
 
 -- what a text is refused with, in build's order; 0 for an accepted set
 unfoldable pub text_refusal : List ℕ → ℕ
-text_refusal text = cond (over_bytes text) (number_of too_large) (read_refusal (read_set text))
+text_refusal text = cond (over_bytes text) (number_of TooLarge) (read_refusal (read_set text))

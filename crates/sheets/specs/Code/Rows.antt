@@ -1,7 +1,7 @@
 -- The tables from which the lines of a sheet are made: places of matched paths, and the number of each place's folder.
-use Rattle.std.specs.Prelude.{ℕ, ◌≤◌, ◌<◌, ◌≡◌, cond, List, map, leb, length, get_or, take}
+use Rattle.std.specs.Prelude.{ℕ, ◌≤◌, ◌<◌, ◌≡◌, cond, List, map, leb, length, get_or, take, Option}
 use Rattle.notation.specs.Limits.{max_number, max_paths}
-use Rattle.notation.specs.declared.reads.FolderAt.{FolderAt}
+use Rattle.notation.specs.declared.reads.StoredFolder.{StoredFolder}
 use Rattle.stored.specs.HeldSet.{path_held}
 use Rattle.sheets.specs.Sheet.{Row, row}
 use Rattle.sheets.specs.SheetIn.{matched_places, or_before, number_among}
@@ -12,7 +12,7 @@ pub record Filled (before : List ℕ) (from number : ℕ) (after : List ℕ) : T
   pub each : (p : ℕ) → p < length before → get_or after p 0 ≡ cond (leb from p) number (get_or before p 0)
 
 -- the same of a folder that is there, from its first path on
-pub record Entered (f : FolderAt) (before after : List ℕ) : Type 0 where
+pub record Entered (f : Option StoredFolder) (before after : List ℕ) : Type 0 where
   pub size : length after ≡ length before
   pub each : (p : ℕ) → p < length before → get_or after p 0 ≡ or_before f p (get_or before p 0)
 

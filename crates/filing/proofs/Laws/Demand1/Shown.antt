@@ -4,7 +4,9 @@ use mathlib.Core.Path.{◌≡◌, ap, ◌∙◌}
 use mathlib.Core.Bool.{Bool, false, cond}
 use mathlib.Core.List.{List, [], ◌∷◌}
 use lib.ListN.{length}
-use Rattle.text.specs.Refusals.{Refusal, short_buffer, number_of}
+use Rattle.text.specs.declared.refusals.Refusal.{Refusal}
+use Rattle.text.specs.declared.refusals.Refusal.TheVariants.{ShortBuffer}
+use Rattle.text.specs.Refusals.{number_of}
 use Rattle.text.specs.Answers.{value, number_said}
 use Rattle.text.specs.Written.{written_says}
 use Rattle.text.specs.declared.written.Written.{Written}
@@ -29,7 +31,7 @@ module _ (size : ℕ) (For : FolderSet → List ℕ → List ℕ → Type 0) (to
   pub printed-by : RefusesShort size a run out answer a' run' out'
   printed-by =
       let small = too_small size a run out in
-      let order = gives small short_buffer ∷ [] in
+      let order = gives small ShortBuffer ∷ [] in
       cases small
-      (λ y. (answers_by order 0 (written_says answer) ((p.short y).0 ∙ rw (alone small short_buffer, y)), λ n. (p.short y).1))
-      (λ f. let (k, e) = says f in (answers_by order k (written_says answer) (e ∙ rw (alone small short_buffer, f)), λ n. absurd (n (ap number_said e))))
+      (λ y. (answers_by order 0 (written_says answer) ((p.short y).0 ∙ rw (alone small ShortBuffer, y)), λ n. (p.short y).1))
+      (λ f. let (k, e) = says f in (answers_by order k (written_says answer) (e ∙ rw (alone small ShortBuffer, f)), λ n. absurd (n (ap number_said e))))

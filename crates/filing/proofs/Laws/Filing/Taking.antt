@@ -10,19 +10,21 @@ use lib.ListN.{length, drop}
 use borrow.Author.Tests.{eq-eqb, ne_eqb, lt-ltb, le-ltb, le-leb, not-false}
 use Rattle.text.proofs.Laws.Tests.{cases, clash, neither, or_left}
 use Rattle.text.specs.Names.{Name}
-use Rattle.text.specs.Refusals.{Refusal, too_large, invalid_byte, syntax_error, not_one_root, repeated_attribute, number_of}
+use Rattle.text.specs.declared.refusals.Refusal.{Refusal}
+use Rattle.text.specs.declared.refusals.Refusal.TheVariants.{TooLarge, InvalidByte, SyntaxError, NotOneRoot, RepeatedAttribute}
+use Rattle.text.specs.Refusals.{number_of}
 use Rattle.text.proofs.Laws.Numbers.{some_number}
 use Rattle.text.specs.Lists.{every, any}
-use Rattle.text.specs.Answers.{number_said}
+use Rattle.std.specs.Prelude.{Result}
+use Rattle.text.specs.Answers.{refusal_in}
 use Rattle.text.proofs.Laws.Said.{said-number}
 use Rattle.text.specs.Order.{gives, first, number_in, given}
-use Rattle.stored.specs.Answers.{opened_says}
 use Rattle.stored.specs.RunCalls.{depth_of, start_conditions, start_refusal, start_run, open_others, open_refusal, open_walk, open_run, open_counters, close_others, close_run, close_counters, no_counters}
 use Rattle.stored.specs.RunContracts.{Starts, Opens, Closes}
 use Rattle.stored.specs.Usable.{Usable}
 use Rattle.stored.specs.Demand3.{Left, started}
 use Rattle.stored.specs.declared.counters.Counters.{Counters}
-use Rattle.stored.specs.declared.answers.Opened.{Opened}
+use Rattle.text.proofs.Laws.Results.{number_in_said}
 use Rattle.stored.proofs.Laws.Shapes.Given.{open-others, close-others}
 use Rattle.stored.proofs.Laws.Shapes.Kept.{start-usable, open-usable, close-usable}
 use Rattle.stored.proofs.Laws.Running.Restart.{start-restart, open-restart, close-restart}
@@ -72,10 +74,10 @@ module _ (a run : List ℕ) (c : Counters) (e : Name) (u : Usable a run c) (run'
   abbrev t : Left
   t = record { bytes = run; counters = c }
 
-  pub open-taken : (answer : Opened) → n ≡ number_said (opened_says answer) → Opens a run c e answer run' c' → Taking a run (file_open a t e) n run' c'
+  pub open-taken : (answer : Result ℕ Refusal) → n ≡ refusal_in answer → Opens a run c e answer run' c' → Taking a run (file_open a t e) n run' c'
   unfolding given
   open-taken answer is o =
-      let same : n ≡ open_refusal a run c e = is ∙ ap number_said o.answers ∙ said-number (open_refusal a run c e) (open_walk a run e).moves in
+      let same : n ≡ open_refusal a run c e = is ∙ number_in_said answer (open_refusal a run c e) (open_walk a run e).moves o.answers in
       let r = rw (← same) at o.run_after in
       record {
         answered = settled (first (open_others run c e)) n run' (open_run a run e) run c' (open_counters a run c e) c (same ∙ open-others a run c e u) r (rw (← same) at o.counters_after);
@@ -105,14 +107,14 @@ taken_here a run o n c' t = record { answered = t; restarts = refl }
 
 -- a tag that repeats an attribute's name
 
-pub repeat-answered : (twice : Bool) (o : Outcome Left) (n n' : ℕ) (run : List ℕ) (c : Counters) → n' ≡ cond twice (number_of repeated_attribute) n → Answered o n run c
+pub repeat-answered : (twice : Bool) (o : Outcome Left) (n n' : ℕ) (run : List ℕ) (c : Counters) → n' ≡ cond twice (number_of RepeatedAttribute) n → Answered o n run c
     → Answered (with_repeat twice o) n' run c
 repeat-answered true o n n' run c e t = e
 repeat-answered false (refused r) n n' run c e t = e ∙ t
 repeat-answered false (filed l) n n' run c e t = (e ∙ t.0, t.1)
 
-pub repeat-zero : (twice : Bool) (n n' : ℕ) → n' ≡ cond twice (number_of repeated_attribute) n → n' ≡ 0 → n ≡ 0
-repeat-zero true n n' e z = absurd (some_number repeated_attribute (sym e ∙ z))
+pub repeat-zero : (twice : Bool) (n n' : ℕ) → n' ≡ cond twice (number_of RepeatedAttribute) n → n' ≡ 0 → n ≡ 0
+repeat-zero true n n' e z = absurd (some_number RepeatedAttribute (sym e ∙ z))
 repeat-zero false n n' e z = sym e ∙ z
 
 -- in one token or in a later one
@@ -142,7 +144,7 @@ found-events total short a o (text ps) at end h = rw none-repeat (then_same o _ 
 
 -- a declaration that is not the first token
 found-late : (total : ℕ) (a : List ℕ) (o : Outcome Left) (x : Token) (at end : ℕ) (e : Name) → (eqb at 0 || not (is_declaration x)) ≡ false
-    → step_found a at o (shown total x at end) e ≡ refused syntax_error
+    → step_found a at o (shown total x at end) e ≡ refused SyntaxError
 found-late total a o declaration at end e h = rw (or_left (eqb at 0) false h)
 found-late total a o (comment c) at end e h = clash (or-true (eqb at 0)) h
 found-late total a o (start_tag n l b) at end e h = clash (or-true (eqb at 0)) h
@@ -190,10 +192,10 @@ module _ (a s : List ℕ) (short : length s ≤ max_report_bytes) (i : ℕ) (ins
   goes_same next end p q e f g = rw (e, f) g
 
   -- 9 ends the reading
-  goes_none : RunAt a o s i ≡ refused syntax_error → Goes (length s) (refused syntax_error)
-  goes_none h = (inside, (omega arith, taken-end a s (length s) (refused syntax_error) (omega arith) ∙ sym h))
+  goes_none : RunAt a o s i ≡ refused SyntaxError → Goes (length s) (refused SyntaxError)
+  goes_none h = (inside, (omega arith, taken-end a s (length s) (refused SyntaxError) (omega arith) ∙ sym h))
 
-  goes-late : (t : Token) (r : List ℕ) → read_token (drop i s) ≡ got t r → (eqb i 0 || not (is_declaration t)) ≡ false → RunAt a o s i ≡ refused syntax_error
+  goes-late : (t : Token) (r : List ℕ) → read_token (drop i s) ≡ got t r → (eqb i 0 || not (is_declaration t)) ≡ false → RunAt a o s i ≡ refused SyntaxError
   goes-late t r e h =
       let (first, d) = neither (eqb i 0) (not (is_declaration t)) h in
       rw first (ap (run_from a o) (from-late s i t r inside e (not-false (is_declaration t) d)))
@@ -212,7 +214,7 @@ module _ (a s : List ℕ) (short : length s ≤ max_report_bytes) (i : ℕ) (ins
       let end = length s - length r in
       cases (eqb i 0 || not (is_declaration t))
       (λ h. goes_same _ end _ (token_taken a o t) (shown-next (length s) t i end h) (found-events (length s) short a o t i end h) (goes-next t r e h))
-      (λ h. goes_same _ (length s) _ (refused syntax_error) (late-next (length s) t i end h) (found-late (length s) a o t i end (name_of_token t) h) (goes_none (goes-late t r e h)))
+      (λ h. goes_same _ (length s) _ (refused SyntaxError) (late-next (length s) t i end h) (found-late (length s) a o t i end (name_of_token t) h) (goes_none (goes-late t r e h)))
 
 -- a fresh run for a refusal
 pub left-done : (fresh : Left) (o : Outcome Left) (n : ℕ) (run : List ℕ) (c : Counters) → Answered o n run c → n ≡ 0 → Leaves fresh o n run c
@@ -232,7 +234,7 @@ module _ (run : List ℕ) (c : Counters) (all : Bool) (n : ℕ) (c' : Counters) 
   unfolding first
   text-blank h z e = rw (h, and-false (eqb (depth_of run) 0)) (z, rw e)
 
-  pub text-outside : all ≡ false → depth_of run ≡ 0 → n ≡ number_of not_one_root → text_answered
+  pub text-outside : all ≡ false → depth_of run ≡ 0 → n ≡ number_of NotOneRoot → text_answered
   unfolding first
   text-outside h z e = rw (h, eq-eqb (depth_of run) 0 z) e
 
@@ -245,11 +247,11 @@ module _ (run : List ℕ) (c : Counters) (n : ℕ) (c' : Counters) where
   abbrev end_answered : Type 0
   end_answered = Answered (file_last (record { bytes = run; counters = c })) n run c'
 
-  pub end-rootless : c.opens ≡ 0 → n ≡ number_of not_one_root → end_answered
+  pub end-rootless : c.opens ≡ 0 → n ≡ number_of NotOneRoot → end_answered
   unfolding first
   end-rootless z e = rw (eq-eqb c.opens 0 z) e
 
-  pub end-open : (c.opens ≡ 0 → ⊥) → (depth_of run ≡ 0 → ⊥) → n ≡ number_of not_one_root → end_answered
+  pub end-open : (c.opens ≡ 0 → ⊥) → (depth_of run ≡ 0 → ⊥) → n ≡ number_of NotOneRoot → end_answered
   unfolding first
   end-open y z e = rw (ne_eqb c.opens 0 y, ne_eqb (depth_of run) 0 z) e
 
@@ -259,11 +261,11 @@ module _ (run : List ℕ) (c : Counters) (n : ℕ) (c' : Counters) where
 
 -- 2 and 8, and else the tokens
 module _ (a : List ℕ) (t : Left) (s : List ℕ) where
-  pub report-long : max_report_bytes < length s → file_report (stored_machine a) t [] s ≡ refused too_large
+  pub report-long : max_report_bytes < length s → file_report (stored_machine a) t [] s ≡ refused TooLarge
   unfolding file_report first
   report-long h = rw (lt-ltb max_report_bytes (length s) h)
 
-  pub report-foreign : length s ≤ max_report_bytes → every listed s ≡ false → file_report (stored_machine a) t [] s ≡ refused invalid_byte
+  pub report-foreign : length s ≤ max_report_bytes → every listed s ≡ false → file_report (stored_machine a) t [] s ≡ refused InvalidByte
   unfolding file_report first
   report-foreign h k = rw (le-ltb max_report_bytes (length s) h, k)
 
@@ -271,12 +273,12 @@ module _ (a : List ℕ) (t : Left) (s : List ℕ) where
   unfolding file_report first
   report-run h k = rw (le-ltb max_report_bytes (length s) h, k) (go (read_report s))
     where
-      unless-repeat : (b : Bool) (k : Left → Outcome Left) → and_then (unless (first (gives b repeated_attribute ∷ [])) t) (λ t. and_then (k t) file_last) ≡ and_then (and_then (with_repeat b (filed t)) k) file_last
+      unless-repeat : (b : Bool) (k : Left → Outcome Left) → and_then (unless (first (gives b RepeatedAttribute ∷ [])) t) (λ t. and_then (k t) file_last) ≡ and_then (and_then (with_repeat b (filed t)) k) file_last
       unless-repeat true k = refl
       unless-repeat false k = refl
 
       go : (x : Read (List Token))
-          → and_then (unless (first (gives (is_no_run x) syntax_error ∷ gives (repeats_in (tokens_in x)) repeated_attribute ∷ [])) t) (λ t. and_then (file_events (stored_machine a) t (events_of (tokens_in x))) file_last)
+          → and_then (unless (first (gives (is_no_run x) SyntaxError ∷ gives (repeats_in (tokens_in x)) RepeatedAttribute ∷ [])) t) (λ t. and_then (file_events (stored_machine a) t (events_of (tokens_in x))) file_last)
           ≡ and_then (run_from a (filed t) x) file_last
       go fail = refl
       go (got ts r) = unless-repeat (repeats_in ts) (λ t. file_events (stored_machine a) t (events_of ts))
@@ -361,7 +363,7 @@ module _ (a : List ℕ) (t : Left) (e : Name) (u : Usable a t.bytes t.counters) 
   unfolding given
   close-fit = unless-fit a (first (close_others t.bytes e)) _ (λ n. close-usable a t.bytes t.counters e u (close-others a t.bytes t.counters e u ∙ ap number_in n))
 
-first-fit : (a : List ℕ) (b : Bool) (o : Outcome Left) → Fit a o → Fit a (cond b o (refused syntax_error))
+first-fit : (a : List ℕ) (b : Bool) (o : Outcome Left) → Fit a o → Fit a (cond b o (refused SyntaxError))
 first-fit a true o f = f
 first-fit a false o f = tt
 
@@ -378,7 +380,7 @@ found-fit a at o (Empty from to end twice) e u =
     then_fit a (with_repeat twice o) _ (repeat-fit a twice o u) (λ t v. then_fit a (file_open a t e) (λ t₂. file_close a t₂ e) (open-fit a t e v) (λ t₂ w. close-fit a t₂ e w))
 found-fit a at o (End from to end) e u = then_fit a o _ u (λ t v. close-fit a t e v)
 found-fit a at o (Text all end) e u =
-    then_fit a o _ u (λ t v. unless-fit a (first (gives (eqb (depth_of t.bytes) 0 && not all) not_one_root ∷ [])) t (λ n. v))
+    then_fit a o _ u (λ t v. unless-fit a (first (gives (eqb (depth_of t.bytes) 0 && not all) NotOneRoot ∷ [])) t (λ n. v))
 
 -- what an open that is accepted leaves
 pub opened-usable : (a run : List ℕ) (c : Counters) (e : Name) (n : ℕ) (run' : List ℕ) (c' : Counters) → Taking a run (file_open a (record { bytes = run; counters = c }) e) n run' c'
@@ -408,7 +410,7 @@ module _ (a run : List ℕ) (n : ℕ) (c : Counters) (s : List ℕ) (i n' : ℕ)
   module _ (short : length s ≤ max_report_bytes) (inside : i < length s) (step : Stepping a run n c s i n' run' c' next) where
     pub turn-past : (i < next) × (next ≤ length s)
     turn-past =
-        let g = goes a s short i inside (refused syntax_error) (read_token (drop i s)) refl in
+        let g = goes a s short i inside (refused SyntaxError) (read_token (drop i s)) refl in
         rw step.onward (g.0, g.1.0)
 
     pub turn-taken : (all : Outcome Left) → Turn a s i n run c all → Turn a s next n' run' c' all

@@ -3,7 +3,8 @@ use Prim.Native.Nat.{ℕ}
 use mathlib.Core.Path.{◌≡◌, refl, sym, ap, ◌∙◌}
 use mathlib.Core.List.{List, ◌∷◌}
 use Rattle.notation.specs.Sets.{Path, FolderSet}
-use Rattle.text.specs.Refusals.{Refusal, number_of}
+use Rattle.text.specs.declared.refusals.Refusal.{Refusal}
+use Rattle.text.specs.Refusals.{number_of}
 use Rattle.documents.specs.Tree.{Document}
 use Rattle.documents.specs.Document.{document_in}
 use Rattle.documents.proofs.Laws.Trees.OneDocument.{one-document}

@@ -10,7 +10,9 @@ use borrow.Author.Tests.{le-ltb, ltb-false}
 use native.Mathlib.Nat.{zero-add}
 use native.Mathlib.Omega.{arith}
 use Rattle.notation.specs.Sets.{FolderSet}
-use Rattle.text.specs.Refusals.{Refusal, number_of, short_buffer}
+use Rattle.text.specs.declared.refusals.Refusal.{Refusal}
+use Rattle.text.specs.declared.refusals.Refusal.TheVariants.{ShortBuffer}
+use Rattle.text.specs.Refusals.{number_of}
 use Rattle.notation.specs.Accepted.{Accepted}
 use Rattle.notation.specs.Judged.{RefusedText, Verdict, refuses, accepts, Judged, verdict_number}
 use Rattle.text.proofs.Laws.Numbers.{number-within, some_number}
@@ -121,7 +123,7 @@ module _ (text : List ℕ) (s : FolderSet) (acc : Accepted text s) (behind run r
 
 -- `print_set`, and then `print_filing`
 module _ (text report a run out : List ℕ) where
-  pub too_small-is : too_small a run out ≡ true → Prints text report a run out (Written.Refused (number_of short_buffer)) a run out
+  pub too_small-is : too_small a run out ≡ true → Prints text report a run out (Written.Refused (number_of ShortBuffer)) a run out
   too_small-is h = record {
     short = λ _. (refl, (refl, (refl, refl)));
     printed = λ f. clash h f;

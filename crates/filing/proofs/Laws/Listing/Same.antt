@@ -1,4 +1,5 @@
 -- Within the automaton of a set and the run of a machine's state, the listing by what is stored is the listing of the set and the state.
+use Rattle.std.proofs.Common.{Some}
 use Prim.Native.Nat.{ℕ, zero, suc, ◌+◌, ◌<◌, suc-le-suc}
 use native.Mathlib.Omega.{arith}
 use native.Mathlib.Nat.{zero-add, add-zero, add-suc, suc-add, not-suc-le-zero, le_of_suc-le-suc}
@@ -11,7 +12,6 @@ use Rattle.notation.specs.Sets.{Path, folder, FolderSet, folder_number, folder_p
 use Rattle.text.specs.Lists.{non_empty, any}
 use Rattle.notation.specs.Form.{paths_of}
 use Rattle.notation.specs.Print.{print_path, print_paths, print_folder}
-use Rattle.notation.specs.declared.reads.FolderAt.{FolderAt}
 use Rattle.notation.proofs.Laws.Stored.FolderTable.{no_folder, paths_before, paths-between, paths-before-most}
 use Rattle.model.specs.Folders.{count_from}
 use Rattle.model.specs.Calls.{State}
@@ -67,7 +67,7 @@ module _ (a run : List ℕ) (matched : ℕ → Bool) where
   line-is n [] = refl
   line-is n (q ∷ qs) = refl
 
-  folder-same : (i n first : ℕ) (ps : List Path) → folder_held a i ≡ FolderAt.Folder (record { 0 = n }) (record { 0 = first }) (length ps) → PlacesSame a run matched first ps
+  folder-same : (i n first : ℕ) (ps : List Path) → folder_held a i ≡ Some (record { number = record { 0 = n }; first = record { 0 = first }; paths = length ps }) → PlacesSame a run matched first ps
       → folder_listed a run i ≡ line_of n (matched_paths matched first ps)
   unfolding folder_listed line_listed print_folder
   folder-same i n first ps e h = rw (e, some_same first ps h, paths-same first ps h) (line-is n (matched_paths matched first ps))

@@ -9,7 +9,9 @@ use lib.Seq.{sets-eq}
 use borrow.Author.Tests.{ltb-false}
 use native.Mathlib.Nat.{zero-add}
 use native.Mathlib.Omega.{arith}
-use Rattle.text.specs.Refusals.{Refusal, number_of, short_buffer}
+use Rattle.text.specs.declared.refusals.Refusal.{Refusal}
+use Rattle.text.specs.declared.refusals.Refusal.TheVariants.{ShortBuffer}
+use Rattle.text.specs.Refusals.{number_of}
 use Rattle.text.specs.Order.{Condition, given}
 use Rattle.text.specs.Answers.{said}
 use Rattle.text.specs.Output.{start, Adds}
@@ -96,7 +98,7 @@ pub record Showing (size : ℕ) (For : FolderSet → List ℕ → List ℕ → T
       → (bytes : List ℕ) × (For s report bytes × PrintsText size bytes out answer after)
 
 module _ (size : ℕ) (For : FolderSet → List ℕ → List ℕ → Type 0) (text report a run out : List ℕ) where
-  pub too_small-is : too_small size a run out ≡ true → PrintsBy size For text report a run out (Written.Refused (number_of short_buffer)) a run out
+  pub too_small-is : too_small size a run out ≡ true → PrintsBy size For text report a run out (Written.Refused (number_of ShortBuffer)) a run out
   too_small-is h = record {
     short = λ _. (refl, (refl, (refl, refl)));
     printed = λ f. clash h f;

@@ -10,7 +10,8 @@ use borrow.Author.Tests.{leb-true, leb-false, lt-ltb, le-ltb, ltb-false, not-fal
 use Rattle.notation.specs.Limits.{max_set_bytes}
 use Rattle.text.specs.Decimal.{decimal}
 use Rattle.notation.specs.Print.{footer}
-use Rattle.text.specs.Refusals.{short_buffer, bad_shape, number_of}
+use Rattle.text.specs.declared.refusals.Refusal.TheVariants.{ShortBuffer, BadShape}
+use Rattle.text.specs.Refusals.{number_of}
 use Rattle.text.specs.Order.{first, given}
 use Rattle.stored.specs.RunCalls.{shaped, too_short, lent_conditions}
 use Rattle.text.specs.declared.written.Written.{Written}
@@ -37,11 +38,11 @@ module _ (a run : List ℕ) (c : Counters) (out : List ℕ) where
 
   lent-good : given (lent_conditions a run c) ≡ 0 → (too_short a run ≡ false) × (shaped a run c ≡ true)
   lent-good z =
-      let t = not-given (too_short a run) short_buffer _ z in
-      (t.0, not-false (shaped a run c) (not-given (not (shaped a run c)) bad_shape _ t.1).0)
+      let t = not-given (too_short a run) ShortBuffer _ z in
+      (t.0, not-false (shaped a run c) (not-given (not (shaped a run c)) BadShape _ t.1).0)
 
   -- a buffer that is too short for every listing
-  pub out-short : length out < listing_size → listing_refusal a run c out ≡ number_of short_buffer
+  pub out-short : length out < listing_size → listing_refusal a run c out ≡ number_of ShortBuffer
   unfolding given first
   out-short h =
       let t : ltb (length out) (listing_room a run c) ≡ true = lt-ltb (length out) (listing_room a run c) (omega (arith, room-least)) in
@@ -57,7 +58,7 @@ module _ (a run : List ℕ) (c : Counters) (out : List ℕ) where
         (λ f. cases (shaped a run c) (λ s. absurd (n (rw (f, s)))) (λ s. rw (f, s, le-ltb (length out) listing_size h)))
 
     -- they are not: the length of what is stored is left
-    length-left : given (lent_conditions a run c) ≡ 0 → listing_refusal a run c out ≡ cond (leb (length (listing_in a run c)) (length out)) 0 (number_of short_buffer)
+    length-left : given (lent_conditions a run c) ≡ 0 → listing_refusal a run c out ≡ cond (leb (length (listing_in a run c)) (length out)) 0 (number_of ShortBuffer)
     unfolding listing_room given first
     length-left z =
         let (t, s) = lent-good z in
@@ -71,15 +72,15 @@ module _ (a run : List ℕ) (c : Counters) (out : List ℕ) where
         rw (t, s, l, y))
 
     pub dry-says : {after : List ℕ} {cursor : Cursor} → given (lent_conditions a run c) ≡ 0 → Adds out (start true) (listing_in a run c) after cursor
-        → listing_refusal a run c out ≡ cond cursor.fits 0 (number_of short_buffer)
+        → listing_refusal a run c out ≡ cond cursor.fits 0 (number_of ShortBuffer)
     dry-says z x = rw (fits-from-start x) (length-left z)
 
   -- where nothing is refused the listing has room
   pub listing-room : listing_refusal a run c out ≡ 0 → length (listing_in a run c) ≤ length out
   unfolding listing_room
   listing-room e =
-      let t = not-given (too_short a run || ltb (length out) (listing_room a run c)) short_buffer _ e in
-      let s : shaped a run c ≡ true = not-false (shaped a run c) (not-given (not (shaped a run c)) bad_shape _ t.1).0 in
+      let t = not-given (too_short a run || ltb (length out) (listing_room a run c)) ShortBuffer _ e in
+      let s : shaped a run c ≡ true = not-false (shaped a run c) (not-given (not (shaped a run c)) BadShape _ t.1).0 in
       let l : listing_room a run c ≤ length out = ltb-false (length out) (listing_room a run c) (go (too_short a run) (ltb (length out) (listing_room a run c)) t.0) in
       let m : max listing_size (length (listing_in a run c)) ≤ length out = rw s at l in
       omega arith
@@ -106,6 +107,6 @@ line-written n out h l x =
     let y : ltb (length out) listing_size ≡ false = le-ltb (length out) listing_size l in
     written_as (refused_conditions out) (refused_line n) out (rw y) (omega (arith, refused-short n h)) x
 
-pub line-short : (n : ℕ) (out : List ℕ) → length out < listing_size → RefusedWritten n out (Written.Refused (number_of short_buffer)) out
+pub line-short : (n : ℕ) (out : List ℕ) → length out < listing_size → RefusedWritten n out (Written.Refused (number_of ShortBuffer)) out
 unfolding given first
 line-short n out h = let y : ltb (length out) listing_size ≡ true = lt-ltb (length out) listing_size h in record { answers = rw y; leaves = rw y }

@@ -10,25 +10,26 @@ use Rattle.notation.specs.Limits.{max_set_bytes}
 use Rattle.notation.specs.Reads.{text_of}
 use Rattle.stored.specs.Automaton.{automaton_size}
 use Rattle.text.specs.Order.{first, given}
-use Rattle.text.specs.Refusals.{short_buffer, bad_shape, number_of}
+use Rattle.text.specs.declared.refusals.Refusal.TheVariants.{ShortBuffer, BadShape}
+use Rattle.text.specs.Refusals.{number_of}
 use Rattle.stored.specs.Shape.{automaton_shaped}
 use Rattle.stored.specs.Build.{SetWritten}
 use Rattle.text.specs.declared.written.Written.{Written}
 use borrow.Author.Rules.{rules}
 use Rattle.machine.proofs.write.write_set.Goals as goal
 
-short : (a out : List ℕ) → length a < automaton_size → SetWritten a out (Written.Refused (number_of short_buffer)) out
+short : (a out : List ℕ) → length a < automaton_size → SetWritten a out (Written.Refused (number_of ShortBuffer)) out
 unfolding given first automaton_size
 short a out h = let t = lt-ltb (length a) automaton_size h in record { answers = rw t; leaves = rw t }
 
-short-out : (a out : List ℕ) → automaton_size ≤ length a → length out < max_set_bytes → SetWritten a out (Written.Refused (number_of short_buffer)) out
+short-out : (a out : List ℕ) → automaton_size ≤ length a → length out < max_set_bytes → SetWritten a out (Written.Refused (number_of ShortBuffer)) out
 unfolding given first automaton_size max_set_bytes
 short-out a out k h =
     let t = le-ltb (length a) automaton_size k in
     let u = lt-ltb (length out) max_set_bytes h in
     record { answers = rw (t, u); leaves = rw (t, u) }
 
-bad-shape : (a out : List ℕ) → automaton_size ≤ length a → max_set_bytes ≤ length out → automaton_shaped a ≡ false → SetWritten a out (Written.Refused (number_of bad_shape)) out
+bad-shape : (a out : List ℕ) → automaton_size ≤ length a → max_set_bytes ≤ length out → automaton_shaped a ≡ false → SetWritten a out (Written.Refused (number_of BadShape)) out
 unfolding given first automaton_size max_set_bytes
 bad-shape a out k h s =
     let t = le-ltb (length a) automaton_size k in

@@ -5,7 +5,9 @@ use mathlib.Core.Path.{◌≡◌, refl, sym, ap, ◌∙◌}
 use mathlib.Core.Bool.{true, false, cond}
 use mathlib.Core.List.{List, [], ◌∷◌}
 use borrow.Author.Tests.{ne_eqb}
-use Rattle.text.specs.Refusals.{Refusal, too_large, malformed_set, over_capacity, number_of}
+use Rattle.text.specs.declared.refusals.Refusal.{Refusal}
+use Rattle.text.specs.declared.refusals.Refusal.TheVariants.{TooLarge, MalformedSet, OverCapacity}
+use Rattle.text.specs.Refusals.{number_of}
 use Rattle.notation.specs.Sets.{FolderSet}
 use Rattle.notation.specs.Print.{print}
 use Rattle.notation.specs.Form.{formed, OfForm, over_bytes, over_limits, faults}
@@ -42,34 +44,34 @@ module _ (text : List ℕ) where
 
   by-faults : over_bytes text ≡ false → (o : OfForm text) → (fs : List Refusal) → faults o.set ≡ fs → (v : Verdict) × Judged text v
   by-faults few o [] e =
-      cases (over_limits o.set) (λ y. (refuses over_capacity, overfull refl few o e y)) (λ n. (accepts o.set, accepted-of few o e n))
+      cases (over_limits o.set) (λ y. (refuses OverCapacity, overfull refl few o e y)) (λ n. (accepts o.set, accepted-of few o e n))
   by-faults few o (r ∷ later) e = (refuses r, faulty few o later e)
 
   pub some-verdict : (v : Verdict) × Judged text v
   some-verdict =
-      cases (over_bytes text) (λ over. (refuses too_large, over_long refl over))
+      cases (over_bytes text) (λ over. (refuses TooLarge, over_long refl over))
       (λ few. go few (read_set text) refl)
     where
       go : over_bytes text ≡ false → (m : Read FolderSet) → read_set text ≡ m → (v : Verdict) × Judged text v
-      go few fail e = (refuses malformed_set, not_of_form refl few (λ o. not-fail (sym (form-reads o) ∙ e)))
+      go few fail e = (refuses MalformedSet, not_of_form refl few (λ o. not-fail (sym (form-reads o) ∙ e)))
       go few (got s r) e = let o = read-form s r e in by-faults few o (faults o.set) refl
 
   -- what the code's reader answers
 
-  over-answer : over_bytes text ≡ true → text_refusal text ≡ number_of too_large
+  over-answer : over_bytes text ≡ true → text_refusal text ≡ number_of TooLarge
   unfolding text_refusal
   over-answer e = rw e
 
-  malformed-answer : over_bytes text ≡ false → (OfForm text → ⊥) → text_refusal text ≡ number_of malformed_set
+  malformed-answer : over_bytes text ≡ false → (OfForm text → ⊥) → text_refusal text ≡ number_of MalformedSet
   unfolding text_refusal
   malformed-answer few none = rw few (go (read_set text) refl)
     where
-      go : (m : Read FolderSet) → read_set text ≡ m → read_refusal m ≡ number_of malformed_set
+      go : (m : Read FolderSet) → read_set text ≡ m → read_refusal m ≡ number_of MalformedSet
       go fail e = refl
       go (got s r) e = absurd (none (read-form s r e))
 
   form-answer : (s : FolderSet) → formed s ≡ true → print s ≡ text → over_bytes text ≡ false
-      → text_refusal text ≡ or_else (first_of (faults s)) (cond (over_limits s) (number_of over_capacity) 0)
+      → text_refusal text ≡ or_else (first_of (faults s)) (cond (over_limits s) (number_of OverCapacity) 0)
   unfolding text_refusal
   form-answer s well prints few = rw (few, form-reads (record { set = s; well = well; prints = prints }))
 

@@ -5,7 +5,9 @@ use mathlib.Core.Path.{◌≡◌, refl, sym, ◌∙◌}
 use mathlib.Core.Logic.{◌↔◌}
 use mathlib.Core.List.{List, ◌++◌}
 use lib.ListN.{length, drop}
-use Rattle.text.specs.Refusals.{Refusal, short_buffer, number_of}
+use Rattle.text.specs.declared.refusals.Refusal.{Refusal}
+use Rattle.text.specs.declared.refusals.Refusal.TheVariants.{ShortBuffer}
+use Rattle.text.specs.Refusals.{number_of}
 use Rattle.notation.specs.Sets.{FolderSet}
 use Rattle.notation.specs.Accepted.{Accepted}
 use Rattle.notation.specs.Layout.{set_size, set_part}
@@ -39,10 +41,10 @@ module _ (text before : List ℕ) where
 
   -- each number exactly on its condition
   module _ (answer : ℕ) (after : List ℕ) (t : ReadSet text before answer after) where
-    pub answer-1 : (answer ≡ number_of short_buffer) ↔ (length before < set_size)
+    pub answer-1 : (answer ≡ number_of ShortBuffer) ↔ (length before < set_size)
     answer-1 = short-is text (length before) set_size answer (λ h. (t.short h).0) (λ h v j. (t.judged h v j).0)
 
-    pub answer-other : (q : Refusal) → (q ≡ short_buffer → ⊥) → (answer ≡ number_of q) ↔ ((set_size ≤ length before) × RefusedText text q)
+    pub answer-other : (q : Refusal) → (q ≡ ShortBuffer → ⊥) → (answer ≡ number_of q) ↔ ((set_size ≤ length before) × RefusedText text q)
     answer-other = refused-is text (length before) set_size answer (λ h. (t.short h).0) (λ h v j. (t.judged h v j).0)
 
     pub answer-0 : (answer ≡ 0) ↔ ((set_size ≤ length before) × ((s : FolderSet) × Accepted text s))

@@ -16,7 +16,8 @@ use Rattle.notation.specs.Judged.{accepts}
 use Rattle.notation.specs.Layout.{set_size, set_part}
 use Rattle.notation.specs.Reads.{text_of, text_slice, text_len}
 use Rattle.notation.specs.ReadSet.{ReadSet}
-use Rattle.text.specs.Refusals.{number_of, short_buffer}
+use Rattle.text.specs.declared.refusals.Refusal.TheVariants.{ShortBuffer}
+use Rattle.text.specs.Refusals.{number_of}
 use Rattle.text.specs.Answers.{value}
 use Rattle.text.specs.Order.{first, given}
 use Rattle.text.specs.Written.{written_says}
@@ -26,7 +27,7 @@ use Rattle.text.proofs.Laws.Tests.{cases, and_right}
 use Rattle.notation.proofs.Laws.Refused.AcceptedSet.{text-back}
 
 module _ (text : List ℕ) (s : FolderSet) (a : Accepted text s) (rest : List ℕ) where
-  pub written-short : (out : List ℕ) → length out < length text → given (text_conditions (set_part s ++ rest) out) ≡ number_of short_buffer
+  pub written-short : (out : List ℕ) → length out < length text → given (text_conditions (set_part s ++ rest) out) ≡ number_of ShortBuffer
   unfolding given first
   written-short out h = rw (text-back text s a rest, lt-ltb (length out) (length text) h)
 

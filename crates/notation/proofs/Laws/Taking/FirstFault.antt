@@ -5,7 +5,9 @@ use mathlib.Core.Path.{◌≡◌, refl, sym, ap, ◌∙◌}
 use mathlib.Core.Bool.{Bool, true, false, cond}
 use mathlib.Core.List.{List, [], ◌∷◌, ◌++◌}
 use lib.Dec.{leb}
-use Rattle.text.specs.Refusals.{Refusal, out_of_order, name_too_long, path_too_long, number_of}
+use Rattle.text.specs.declared.refusals.Refusal.{Refusal}
+use Rattle.text.specs.declared.refusals.Refusal.TheVariants.{OutOfOrder, NameTooLong, PathTooLong}
+use Rattle.text.specs.Refusals.{number_of}
 use Rattle.notation.specs.Limits.{max_steps}
 use Rattle.notation.specs.Sets.{Step, Path, folder, FolderSet, test_of}
 use Rattle.notation.specs.Form.{long_test, step_faults, path_faults, paths_faults, faults_after}
@@ -38,7 +40,7 @@ unfolding take_step
 step-met x s k e =
     let at : s.tally.steps - s.tally.first ≡ k = omega arith in
     record {
-      fault = rw (at, one-fault (long_test (test_of x)) name_too_long, one-fault (leb max_steps k) path_too_long, first-append);
+      fault = rw (at, one-fault (long_test (test_of x)) NameTooLong, one-fault (leb max_steps k) PathTooLong, first-append);
       last = refl;
     }
 
@@ -67,5 +69,5 @@ set-fault (folder n ps ∷ fs) s =
     let m = paths-met ps (take_number n s) in
     let falls = leb n s.tally.last in
     set-fault fs (take_folder (folder n ps) s)
-    ∙ rw (m.last, m.fault, then-first _ (paths_faults ps) (faults_after n fs), one-fault falls out_of_order)
-    (then-first s.tally.fault (cond falls (out_of_order ∷ []) []) (paths_faults ps ++ faults_after n fs))
+    ∙ rw (m.last, m.fault, then-first _ (paths_faults ps) (faults_after n fs), one-fault falls OutOfOrder)
+    (then-first s.tally.fault (cond falls (OutOfOrder ∷ []) []) (paths_faults ps ++ faults_after n fs))

@@ -10,7 +10,8 @@ use lib.Seq.{sets}
 use Rattle.text.specs.Bytes.{joined}
 use Rattle.text.specs.Names.{max_name}
 use Rattle.text.specs.Read.{got}
-use Rattle.text.specs.Refusals.{name_too_long, number_of}
+use Rattle.text.specs.declared.refusals.Refusal.TheVariants.{NameTooLong}
+use Rattle.text.specs.Refusals.{number_of}
 use Rattle.notation.specs.Sets.{Axis, child, descendant, label, star, Step, step}
 use Rattle.notation.specs.Print.{print_axis, print_step}
 use Rattle.notation.specs.Layout.{label_size, steps_at, labels_at, star_kind, axis_bit, label_entry}
@@ -31,7 +32,7 @@ module _ (t : Tally) (part : List ℕ) (s : StepFound) where
 
   pub label-given : (x : Step) (l : List ℕ) → s ≡ step_found t.at (got x l) → s.kind < star_kind
       → Gives (take_step x (state t part))
-      (step_counted s.end 1 (cond (leb (suc max_name) (s.end - s.from)) (number_of name_too_long) 0) t)
+      (step_counted s.end 1 (cond (leb (suc max_name) (s.end - s.from)) (number_of NameTooLong) 0) t)
       (sets (sets part (steps_at + t.steps) (s.kind ∷ [])) (labels_at + label_size * t.labels) (label_entry s.from (s.end - s.from) t.steps))
   unfolding take_step joined print_step
   label-given (step a star) l e k = absurd (omega (arith, ap StepFound.kind e))

@@ -5,14 +5,15 @@ use mathlib.Core.List.{List}
 use lib.ListN.{length}
 use lib.Seq.{sets}
 use borrow.Author.Tests.{lt-ltb, le-ltb}
-use Rattle.text.specs.Refusals.{number_of, short_buffer}
+use Rattle.text.specs.declared.refusals.Refusal.TheVariants.{ShortBuffer}
+use Rattle.text.specs.Refusals.{number_of}
 use Rattle.notation.specs.Reads.{text_of}
 use Rattle.text.specs.Order.{first, given}
 use Rattle.notation.specs.WriteText.{WriteText}
 use Rattle.text.specs.declared.written.Written.{Written}
 use Rattle.notation.proofs.write.write_text.Goals as goal
 
-short : (part before text : List ℕ) → text ≡ text_of part → length before < length text → WriteText part before (Written.Refused (number_of short_buffer)) before
+short : (part before text : List ℕ) → text ≡ text_of part → length before < length text → WriteText part before (Written.Refused (number_of ShortBuffer)) before
 unfolding given first
 short part before text e h =
     let h' : length before < length (text_of part) = rw e at h in

@@ -1,4 +1,5 @@
 -- The tables from which a sheet is made hold its rows: matched places one after the other, and the number of each place's folder.
+use Rattle.std.proofs.Common.{Option, Some, None}
 use Prim.Native.Nat.{ℕ, zero, suc, ◌+◌, ◌≤◌, ◌<◌}
 use native.Mathlib.Omega.{arith}
 use native.Mathlib.Nat.{zero-add}
@@ -11,9 +12,7 @@ use lib.Seq.{get_or-take, get_or-set_same, get_or-set_other, length-take-le, tak
 use borrow.Author.Tests.{leb-true, leb-false, le-leb}
 use Rattle.text.specs.Bytes.{joined}
 use Rattle.notation.specs.Limits.{max_number, max_paths}
-use Rattle.notation.specs.declared.PathPlace.{PathPlace}
-use Rattle.notation.specs.declared.FolderNumber.{FolderNumber}
-use Rattle.notation.specs.declared.reads.FolderAt.{FolderAt}
+use Rattle.notation.specs.declared.reads.StoredFolder.{StoredFolder}
 use Rattle.model.specs.Folders.{count_from}
 use Rattle.stored.specs.Shape.{automaton_shaped}
 use Rattle.stored.specs.HeldSet.{folders_held, folder_held}
@@ -68,16 +67,16 @@ unfolding number_among
 among-most a h place zero = omega arith
 among-most a h place (suc n) = go (folder_held a n) (number-most a h n) (among-most a h place n)
   where
-    go : (f : FolderAt) → number_held f ≤ max_number → number_among a place n ≤ max_number → or_before f place (number_among a place n) ≤ max_number
-    go (FolderAt.Folder number first count) k l = cases (leb first.0 place) (λ t. rw t k) (λ u. rw u l)
-    go FolderAt.Missing k l = l
+    go : (f : Option StoredFolder) → number_held f ≤ max_number → number_among a place n ≤ max_number → or_before f place (number_among a place n) ≤ max_number
+    go (Some f) k l = cases (leb f.first.0 place) (λ t. rw t k) (λ u. rw u l)
+    go None k l = l
 
 -- a folder that is there is entered from its first path on
-pub entered : (f : FolderAt) (number : FolderNumber) (first : PathPlace) (count : ℕ) (before after : List ℕ) → f ≡ FolderAt.Folder number first count
-    → Filled before first.0 number.0 after → Entered f before after
-entered f number first count before after e h = rw e (record { size = h.size; each = h.each })
+pub entered : (f : Option StoredFolder) (folder : StoredFolder) (before after : List ℕ) → f ≡ Some folder
+    → Filled before folder.first.0 folder.number.0 after → Entered f before after
+entered f folder before after e h = rw e (record { size = h.size; each = h.each })
 
-pub not_entered : (f : FolderAt) (l : List ℕ) → f ≡ FolderAt.Missing → Entered f l l
+pub not_entered : (f : Option StoredFolder) (l : List ℕ) → f ≡ None → Entered f l l
 not_entered f l e = rw e (record { size = refl; each = λ p h. refl })
 
 -- no folder, and one more
