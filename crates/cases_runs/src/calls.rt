@@ -4,8 +4,8 @@ use machine::layout::AUTOMATON_SIZE;
 use machine::run::layout::RUN_SIZE;
 use machine::run::{asking, close, open, start};
 use notation::{FolderNumber, PathPlace, reads};
-use stored::answers::{Asked, Length, Opened};
 use stored::counters::Counters;
+use text::refusals::Refusal;
 
 pub fn made(opens: usize, closes: usize, moves: usize) -> Counters {
     Counters {
@@ -22,52 +22,53 @@ pub fn counters(c: Counters) {
     bytes(b"\n");
 }
 
-fn refusal(r: u8) {
-    if r == 0 {
-        bytes(b" accepted\n");
-    } else {
-        count(b" refused ", r as usize);
-        bytes(b"\n");
-    }
-}
-
-pub fn begin(a: &[u8], run: &mut [u8], c: Counters) -> Counters {
-    let r = start::start_by(a, run, c);
-    bytes(b"  start");
-    refusal(r.refusal);
-    r.counters
-}
-
-fn opened(answer: Opened) {
-    match answer {
-        Opened::Accepted(n) => count(b" accepted ", n),
-        Opened::Refused(r) => count(b" refused ", r as usize),
-    }
+fn refused(r: Refusal) {
+    count(b" refused ", usize::from(r.number()));
     bytes(b"\n");
 }
 
-pub fn open(a: &[u8], run: &mut [u8], c: Counters, e: &[u8]) -> Counters {
-    let r = open::open_by(a, run, c, e);
+fn refusal(answer: Result<(), Refusal>) {
+    match answer {
+        Ok(()) => bytes(b" accepted\n"),
+        Err(r) => refused(r),
+    }
+}
+
+pub fn begin(a: &[u8], run: &mut [u8], c: &mut Counters) {
+    let answer = start::start(a, run, c);
+    bytes(b"  start");
+    refusal(answer);
+}
+
+fn opened(answer: Result<usize, Refusal>) {
+    match answer {
+        Ok(moves) => {
+            count(b" accepted ", moves);
+            bytes(b"\n");
+        }
+        Err(r) => refused(r),
+    }
+}
+
+pub fn open(a: &[u8], run: &mut [u8], c: &mut Counters, e: &[u8]) {
+    let answer = open::open(a, run, c, e);
     bytes(b"  open ");
     bytes(e);
-    let answer = r.answer;
     opened(answer);
-    r.counters
 }
 
-pub fn close(a: &[u8], run: &mut [u8], c: Counters, e: &[u8]) -> Counters {
-    let r = close::close_by(a, run, c, e);
+pub fn close(a: &[u8], run: &mut [u8], c: &mut Counters, e: &[u8]) {
+    let answer = close::close(a, run, c, e);
     bytes(b"  close ");
     bytes(e);
-    refusal(r.refusal);
-    r.counters
+    refusal(answer);
 }
 
-fn asked(answer: Asked) {
+fn asked(answer: Result<bool, Refusal>) {
     match answer {
-        Asked::Yes => bytes(b" yes\n"),
-        Asked::No => bytes(b" no\n"),
-        Asked::Refused(r) => refusal(r),
+        Ok(true) => bytes(b" yes\n"),
+        Ok(false) => bytes(b" no\n"),
+        Err(r) => refused(r),
     }
 }
 
@@ -87,12 +88,14 @@ pub fn step(a: &[u8], run: &[u8], place: usize, s: usize) {
     asked(asking::step_active(a, run, PathPlace(place), s));
 }
 
-fn length(answer: Length) {
+fn length(answer: Result<usize, Refusal>) {
     match answer {
-        Length::Symbols(n) => count(b" ", n),
-        Length::Refused(r) => count(b" refused ", r as usize),
+        Ok(symbols) => {
+            count(b" ", symbols);
+            bytes(b"\n");
+        }
+        Err(r) => refused(r),
     }
-    bytes(b"\n");
 }
 
 pub fn prefix(a: &[u8], run: &[u8]) {

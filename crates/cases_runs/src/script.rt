@@ -72,33 +72,26 @@ fn build(text: &[u8], a: &mut [u8]) {
 }
 
 // `start`, `open NAME`, `close NAME`, and `deepen N`: so many opens of `a` that are not printed.
-fn call(text: &[u8], a: &[u8], run: &mut [u8], c: Counters) -> Counters {
+fn call(text: &[u8], a: &[u8], run: &mut [u8], before: Counters) -> Counters {
+    let mut c = before;
     match words::byte(text, 0) {
-        b's' => calls::begin(a, run, c),
-        b'o' => calls::open(a, run, c, element(text)),
-        b'c' => calls::close(a, run, c, element(text)),
-        b'd' => deepen(a, run, c, words::first(text)),
-        _ => c,
+        b's' => calls::begin(a, run, &mut c),
+        b'o' => calls::open(a, run, &mut c, element(text)),
+        b'c' => calls::close(a, run, &mut c, element(text)),
+        b'd' => deepen(a, run, &mut c, words::first(text)),
+        _ => {}
     }
+    c
 }
 
 fn element(text: &[u8]) -> &[u8] {
     words::trimmed(words::after(text, b' '))
 }
 
-fn deepen(a: &[u8], run: &mut [u8], start: Counters, n: usize) -> Counters {
-    let mut c = start;
-    let mut i = 0;
-    while i < n {
-        c = unprinted(a, run, c);
-        i += 1;
+fn deepen(a: &[u8], run: &mut [u8], c: &mut Counters, n: usize) {
+    for _ in 0..n {
+        let _ = open::open(a, run, c, b"a");
     }
-    c
-}
-
-fn unprinted(a: &[u8], run: &mut [u8], c: Counters) -> Counters {
-    let r = open::open_by(a, run, c, b"a");
-    r.counters
 }
 
 // `?path PLACE`, `?step PLACE STEP`, `?folder NUMBER`, `?length` of the prefix, `?name DEPTH`, `?counters`, and the `?bytes` at a place.

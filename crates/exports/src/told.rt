@@ -1,11 +1,11 @@
 // Answers and counters as C has them: numbers, some behind a pointer.
 ghost use Rattle.std.specs.Prelude.{◌≡◌};
-ghost use Rattle.stored.specs.Answers.{asked_says};
+ghost use Rattle.text.specs.Answers.{says};
 ghost use Rattle.text.specs.Written.{written_says};
 ghost use Rattle.exports.specs.Told.{counters_in, Told, MatchTold};
 
-use stored::answers::Asked;
 use stored::counters::Counters;
+use text::refusals::Refusal;
 use text::written::Written;
 
 pub fn counters_in(c: &[usize; 3]) -> Counters
@@ -25,19 +25,19 @@ pub fn put_counters(c: Counters, to: &mut [usize; 3])
 }
 
 // 1 for yes and 0 for no.
-pub fn tell_match(answer: Asked, matched: &mut u8) -> u8
-    ensures { MatchTold (asked_says answer) matched.old result matched.new }
+pub fn tell_match(answer: Result<bool, Refusal>, matched: &mut u8) -> u8
+    ensures { MatchTold (says answer) matched.old result matched.new }
 {
     match answer {
-        Asked::Yes => {
+        Ok(true) => {
             *matched = 1;
             0
         }
-        Asked::No => {
+        Ok(false) => {
             *matched = 0;
             0
         }
-        Asked::Refused(n) => n,
+        Err(r) => r.number(),
     }
 }
 

@@ -1,14 +1,14 @@
 -- Demand 1 of the letter, as one statement: whatever a public call is lent, it brings its answer or one of fifteen numbered refusals, each
 -- exactly where its condition holds and no earlier one of the call's order does; and what a refused call leaves. Of each call the contract
 -- alone is used.
-use Rattle.std.specs.Prelude.{ℕ, ◌≤◌, ◌<◌, ◌≡◌, true, ◌↔◌, ◌⊎◌, List, [], ◌∷◌, length}
+use Rattle.std.specs.Prelude.{ℕ, ◌≤◌, ◌<◌, ◌≡◌, Bool, true, Result, ◌↔◌, ◌⊎◌, List, [], ◌∷◌, length}
 use Rattle.std.specs.Borrow.{Bor}
 use Rattle.text.specs.Names.{Name}
 use Rattle.notation.specs.Sets.{FolderSet}
 use Rattle.text.specs.declared.refusals.Refusal.{Refusal}
 use Rattle.text.specs.declared.refusals.Refusal.TheVariants.{ShortBuffer, BadShape, RepeatedAttribute}
 use Rattle.text.specs.Refusals.{number_of}
-use Rattle.text.specs.Answers.{number_said}
+use Rattle.text.specs.Answers.{number_said, says}
 use Rattle.text.specs.Written.{written_says}
 use Rattle.notation.specs.Judged.{RefusedText}
 use Rattle.notation.specs.Accepted.{Accepted}
@@ -21,16 +21,12 @@ use Rattle.notation.specs.declared.FolderNumber.{FolderNumber}
 use Rattle.text.specs.declared.written.Written.{Written}
 use Rattle.text.specs.Order.{Condition, gives, Unmet, GivenBy, AnswersBy}
 use Rattle.stored.specs.Automaton.{automaton_size}
-use Rattle.stored.specs.Answers.{opened_says, asked_says, length_says}
 use Rattle.stored.specs.Build.{Built, SetWritten, write_conditions}
 use Rattle.stored.specs.RunCalls.{start_conditions, open_conditions, close_conditions, start_run, no_counters}
 use Rattle.stored.specs.RunContracts.{Starts, Opens, Closes}
 use Rattle.stored.specs.Asking.{ask_conditions, has_path, has_folder, has_step, has_depth, ask_path, ask_folder, ask_step, ask_prefix, name_refusal, OpenName}
 use Rattle.stored.specs.Demand3.{Left}
 use Rattle.stored.specs.declared.counters.Counters.{Counters}
-use Rattle.stored.specs.declared.answers.Opened.{Opened}
-use Rattle.stored.specs.declared.answers.Asked.{Asked}
-use Rattle.stored.specs.declared.answers.Length.{Length}
 use Rattle.filing.specs.Filing.{refused, filed}
 use Rattle.filing.specs.ReportRefusals.{ReportGives, Files}
 use Rattle.filing.specs.FiledReport.{RepeatsAttribute}
@@ -81,18 +77,18 @@ pub record Demand1 : Type 0 where
   -- a run is started; elements are opened and closed
   pub starts : (a run : List ℕ) (c : Counters) (answer : ℕ) (run' : List ℕ) (c' : Counters) → Starts a run c answer run' c'
       → GivenBy (start_conditions a run) answer × IfRefused answer ((run' ≡ run) × (c' ≡ c))
-  pub opens : (a run : List ℕ) (c : Counters) (e : Name) (answer : Opened) (run' : List ℕ) (c' : Counters) → Opens a run c e answer run' c'
-      → AnswersBy (open_conditions a run c e) (opened_says answer) × IfRefused (number_said (opened_says answer)) ((run' ≡ run) × (c' ≡ c))
+  pub opens : (a run : List ℕ) (c : Counters) (e : Name) (answer : Result ℕ Refusal) (run' : List ℕ) (c' : Counters) → Opens a run c e answer run' c'
+      → AnswersBy (open_conditions a run c e) (says answer) × IfRefused (number_said (says answer)) ((run' ≡ run) × (c' ≡ c))
   pub closes : (a run : List ℕ) (c : Counters) (e : Name) (answer : ℕ) (run' : List ℕ) (c' : Counters) → Closes a run c e answer run' c'
       → GivenBy (close_conditions a run c e) answer × IfRefused answer ((run' ≡ run) × (c' ≡ c))
   -- a run is asked; nothing is lent to be changed
-  pub paths : (a run : List ℕ) (place : PathPlace) (answer : Asked) → asked_says answer ≡ ask_path a run place
-      → AnswersBy (ask_conditions a run (has_path (path_at a place))) (asked_says answer)
-  pub folders : (a run : List ℕ) (number : FolderNumber) (answer : Asked) → asked_says answer ≡ ask_folder a run number
-      → AnswersBy (ask_conditions a run (has_folder (folder_of a number))) (asked_says answer)
-  pub steps : (a run : List ℕ) (place : PathPlace) (s : ℕ) (answer : Asked) → asked_says answer ≡ ask_step a run place s
-      → AnswersBy (ask_conditions a run (has_step (path_at a place) s)) (asked_says answer)
-  pub prefixes : (a run : List ℕ) (answer : Length) → length_says answer ≡ ask_prefix a run → AnswersBy (ask_conditions a run true) (length_says answer)
+  pub paths : (a run : List ℕ) (place : PathPlace) (answer : Result Bool Refusal) → says answer ≡ ask_path a run place
+      → AnswersBy (ask_conditions a run (has_path (path_at a place))) (says answer)
+  pub folders : (a run : List ℕ) (number : FolderNumber) (answer : Result Bool Refusal) → says answer ≡ ask_folder a run number
+      → AnswersBy (ask_conditions a run (has_folder (folder_of a number))) (says answer)
+  pub steps : (a run : List ℕ) (place : PathPlace) (s : ℕ) (answer : Result Bool Refusal) → says answer ≡ ask_step a run place s
+      → AnswersBy (ask_conditions a run (has_step (path_at a place) s)) (says answer)
+  pub prefixes : (a run : List ℕ) (answer : Result ℕ Refusal) → says answer ≡ ask_prefix a run → AnswersBy (ask_conditions a run true) (says answer)
   pub names : (a : List ℕ) (run : Bor (List ℕ)) (d number : ℕ) (shown : Bor (List ℕ)) → number ≡ name_refusal a run.now d → OpenName a run d shown
       → GivenBy (ask_conditions a run.now (has_depth run.now d)) number × IfRefused number (shown.now ≡ [])
   -- a report is filed, listed, and both as one call

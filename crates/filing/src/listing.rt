@@ -7,6 +7,7 @@ ghost use Rattle.filing.specs.Listing.{moves_line, refused_line};
 ghost use Rattle.filing.specs.Listed.{path_listed, if_matched, paths_listed, line_listed, line_at, folder_listed, folders_listed, listing_in, listing_refusal, ListingWritten, RefusedWritten};
 
 use crate::limits::LISTING_SIZE;
+use crate::report::number;
 use machine::run::{lent, matches};
 use machine::set;
 use notation::PathPlace;
@@ -138,7 +139,7 @@ fn refusal(a: &[u8], run: &[u8], c: Counters, out: &mut [u8]) -> u8
     if size < LISTING_SIZE {
         return SHORT_BUFFER;
     }
-    let refused = lent::refusal(a, run, c);
+    let refused = number(lent::refusal(a, run, c));
     if refused != 0 {
         return refused;
     }

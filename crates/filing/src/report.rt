@@ -3,8 +3,7 @@ ghost use Rattle.std.specs.Prelude.{◌≡◌, true, cond, [], ◌≤◌, length
 ghost use Rattle.text.specs.Names.{name_form};
 ghost use Rattle.text.specs.declared.refusals.Refusal.TheVariants.{RepeatedAttribute};
 ghost use Rattle.text.specs.Refusals.{number_of};
-ghost use Rattle.text.specs.Answers.{number_said};
-ghost use Rattle.stored.specs.Answers.{opened_says};
+ghost use Rattle.text.specs.Answers.{refusal_in};
 ghost use Rattle.stored.specs.Run.{run_size};
 ghost use Rattle.stored.specs.RunCalls.{start_run, no_counters};
 ghost use Rattle.stored.specs.Usable.{Usable};
@@ -19,12 +18,13 @@ ghost use Rattle.filing.specs.Code.Taking.{Answered, Taking, Stepping, Leaves, f
 use machine::run::close::close_usable;
 use machine::run::open::open_usable;
 use machine::run::shape::depth;
-use machine::run::start::{start_by, start_on};
+use machine::run::start::{start, start_on};
 use reports::limits::MAX_REPORT;
 use reports::tokens::{Found, all_listed, token_at};
-use stored::answers::Opened;
 use stored::counters::Counters;
-use text::refusals::{INVALID_BYTE, NOT_ONE_ROOT, REPEATED_ATTRIBUTE, SYNTAX_ERROR, TOO_LARGE};
+use text::refusals::{
+    INVALID_BYTE, NOT_ONE_ROOT, REPEATED_ATTRIBUTE, Refusal, SYNTAX_ERROR, TOO_LARGE,
+};
 
 // What calls answer: the refusal, 0 for none, and the counters after them.
 #[derive(Clone, Copy)]
@@ -43,18 +43,28 @@ pub fn with_none(n: u8) -> Taken
     }
 }
 
-fn of_open(answer: Opened, c: Counters) -> Taken
-    ensures { (result.refusal ≡ number_said (opened_says answer)) × (result.counters ≡ c) }
+fn of_open(answer: Result<usize, Refusal>, c: Counters) -> Taken
+    ensures { (result.refusal ≡ refusal_in answer) × (result.counters ≡ c) }
 {
     match answer {
-        Opened::Accepted(_) => Taken {
+        Ok(_) => Taken {
             refusal: 0,
             counters: c,
         },
-        Opened::Refused(n) => Taken {
-            refusal: n,
+        Err(r) => Taken {
+            refusal: r.number(),
             counters: c,
         },
+    }
+}
+
+// The number of a refusal, 0 for none.
+pub fn number(answer: Result<(), Refusal>) -> u8
+    ensures { result ≡ refusal_in answer }
+{
+    match answer {
+        Ok(()) => 0,
+        Err(r) => r.number(),
     }
 }
 
@@ -62,9 +72,8 @@ fn take_open(a: &[u8], run: &mut [u8], c: Counters, e: &[u8]) -> Taken
     requires { (Usable a.now run.old c) × (name_form e.now ≡ true) }
     ensures { Taking a.now run.old (file_open a.now (record { bytes = run.old; counters = c }) e.now) result.refusal run.new result.counters }
 {
-    let done = open_usable(a, run, c, e);
-    let answer = done.answer;
-    let counters = done.counters;
+    let mut counters = c;
+    let answer = open_usable(a, run, &mut counters, e);
     of_open(answer, counters)
 }
 
@@ -72,12 +81,9 @@ fn take_close(a: &[u8], run: &mut [u8], c: Counters, e: &[u8]) -> Taken
     requires { (Usable a.now run.old c) × (name_form e.now ≡ true) }
     ensures { Taking a.now run.old (file_close a.now (record { bytes = run.old; counters = c }) e.now) result.refusal run.new result.counters }
 {
-    let done = close_usable(a, run, c, e);
-    let counters = done.counters;
-    Taken {
-        refusal: done.refusal,
-        counters: counters,
-    }
+    let mut counters = c;
+    let refusal = number(close_usable(a, run, &mut counters, e));
+    Taken { refusal, counters }
 }
 
 // An empty-element tag: an open and a close.
@@ -300,11 +306,11 @@ fn file_fresh(a: &[u8], run: &mut [u8], s: &[u8]) -> Taken
 pub fn file_by(a: &[u8], run: &mut [u8], counters: Counters, report: &[u8]) -> Taken
     ensures { Files a.now run.old counters report.now result.refusal run.new result.counters }
 {
-    let started = start_by(a, run, counters);
-    if started.refusal != 0 {
-        let kept = started.counters;
+    let mut kept = counters;
+    let refusal = number(start(a, run, &mut kept));
+    if refusal != 0 {
         return Taken {
-            refusal: started.refusal,
+            refusal,
             counters: kept,
         };
     }

@@ -12,6 +12,7 @@ ghost use Rattle.sheets.specs.Code.Rows.{table_rows, InTables};
 use crate::limits::{BODY_LINES, SHEET_SIZE};
 use crate::lines::{emit_blank, emit_head, emit_row};
 use crate::rows;
+use filing::report::number;
 use machine::run::lent;
 use machine::set;
 use notation::PathPlace;
@@ -134,7 +135,7 @@ fn refusal(a: &[u8], run: &[u8], out: &[u8]) -> u8
     if out.len() < SHEET_SIZE {
         return SHORT_BUFFER;
     }
-    lent::pair_refusal(a, run)
+    number(lent::pair_refusal(a, run))
 }
 
 // Writes the sheet of a run to the first bytes of `out` and answers its length, or the number of the refusal. Bytes past it stay. It costs one

@@ -176,5 +176,5 @@ open_counters a run c e = after_open c (open_walk a run e).moves
 unfoldable pub close_run : List ℕ → List ℕ
 close_run run = sets (with_row run (depth_of run) (replicate row_size 0)) depth_at (le16 (pred (depth_of run)))
 
-unfoldable pub close_counters : Counters → Counters
+abbrev pub close_counters : Counters → Counters
 close_counters c = record { opens = c.opens; closes = c.closes + 1; moves = c.moves }

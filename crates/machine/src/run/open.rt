@@ -16,11 +16,10 @@ use crate::lookup::first_label;
 use crate::run::layout::{DEPTH_AT, ROW_SIZE};
 use crate::run::{candidates, lent, refusals, row, rows, steps};
 use crate::walk;
-use stored::answers::{Opened, OpenedBy};
 use stored::counters::Counters;
 use stored::walk::Walk;
 use text::names::name_form;
-use text::refusals::SYNTAX_ERROR;
+use text::refusals::Refusal;
 
 // The new element's row before its bits: a part from the middle of the run, lent to the function that writes it. d is the depth before.
 fn store(run: &mut [u8], d: usize, e: &[u8], state: usize)
@@ -59,50 +58,29 @@ fn open_on(a: &[u8], run: &mut [u8], e: &[u8]) -> Walk
 }
 
 // The open, for callers that know that automaton, run and counters pass the shape test, and that the name has name form.
-pub fn open_usable(a: &[u8], run: &mut [u8], counters: Counters, e: &[u8]) -> OpenedBy
-    requires { (Usable a.now run.old counters) × (name_form e.now ≡ true) }
-    ensures { Opens a.now run.old counters e.now result.answer run.new result.counters }
-{
-    let refused = refusals::open_others(run, counters, e);
-    if refused != 0 {
-        return OpenedBy {
-            answer: Opened::Refused(refused),
-            counters: counters,
-        };
-    }
-    let walked = open_on(a, run, e);
-    let moves = walked.moves;
-    OpenedBy {
-        answer: Opened::Accepted(moves),
-        counters: counters.after_open(moves),
-    }
-}
-
-// The open, with the counters by value.
-pub fn open_by(a: &[u8], run: &mut [u8], counters: Counters, e: &[u8]) -> OpenedBy
-    ensures { Opens a.now run.old counters e.now result.answer run.new result.counters }
-{
-    let refused = lent::refusal(a, run, counters);
-    if refused != 0 {
-        return OpenedBy {
-            answer: Opened::Refused(refused),
-            counters: counters,
-        };
-    }
-    if !name_form(e) {
-        return OpenedBy {
-            answer: Opened::Refused(SYNTAX_ERROR),
-            counters: counters,
-        };
-    }
-    open_usable(a, run, counters, e)
-}
-
-// The open, on counters that are lent.
-pub fn open(a: &[u8], run: &mut [u8], counters: &mut Counters, e: &[u8]) -> Opened
+pub fn open_usable(
+    a: &[u8],
+    run: &mut [u8],
+    counters: &mut Counters,
+    e: &[u8],
+) -> Result<usize, Refusal>
+    requires { (Usable a.now run.old counters.old) × (name_form e.now ≡ true) }
     ensures { Opens a.now run.old counters.old e.now result run.new counters.new }
 {
-    let done = open_by(a, run, *counters, e);
-    *counters = done.counters;
-    done.answer
+    refusals::open_others(run, *counters, e)?;
+    let walked = open_on(a, run, e);
+    let moves = walked.moves;
+    counters.count_open(moves);
+    Ok(moves)
+}
+
+// The open. It answers its own failure moves.
+pub fn open(a: &[u8], run: &mut [u8], counters: &mut Counters, e: &[u8]) -> Result<usize, Refusal>
+    ensures { Opens a.now run.old counters.old e.now result run.new counters.new }
+{
+    lent::refusal(a, run, *counters)?;
+    if !name_form(e) {
+        return Err(Refusal::SyntaxError);
+    }
+    open_usable(a, run, counters, e)
 }

@@ -16,11 +16,8 @@ pub fn clear_from(row: &mut [u8], at: usize, n: usize)
     requires { at + n ≤ length row.old }
     ensures { row.new ≡ sets row.old at (replicate n 0) }
 {
-    let mut i = 0;
-    while i < n {
-        row[at + i] = 0;
-        i += 1;
-    }
+    let end = at + n;
+    row[at..end].fill(0);
 }
 
 // The bytes of a slice from `at` on, where there is room for them.
@@ -28,11 +25,8 @@ pub fn put(part: &mut [u8], at: usize, bytes: &[u8])
     requires { at + length bytes.now ≤ length part.old }
     ensures { part.new ≡ sets part.old at bytes.now }
 {
-    let mut i = 0;
-    while i < bytes.len() {
-        part[at + i] = bytes[i];
-        i += 1;
-    }
+    let end = at + bytes.len();
+    part[at..end].copy_from_slice(bytes);
 }
 
 // A number of two bytes, the lower first, where there is room for it.

@@ -7,5 +7,6 @@ pub mod MaskRows
 pub mod Tabulate
 pub mod Stores
 pub mod AllBelow
+pub mod Ranges
 pub mod Finding
 pub mod Beside

@@ -1,12 +1,12 @@
 -- What a `Result` says, and the number that it refuses with: a refusal's at `Err`, 0 at `Ok`.
-use Prim.Native.Nat.{ℕ, zero}
+use Prim.Native.Nat.{ℕ}
 use mathlib.Core.Path.{◌≡◌, refl, sym, ◌∙◌, ap}
 use Rattle.std.specs.Prelude.{Result, Ok, Err}
 use Rattle.std.specs.Result.{IsErrAnd}
 use Rattle.std.proofs.lemmas.Result.{err_from_is_err_and}
 use Rattle.text.specs.declared.refusals.Refusal.{Refusal}
 use Rattle.text.specs.Refusals.{number_of}
-use Rattle.text.specs.Answers.{Answer, refused, value, said, number_said, says, refusal_in}
+use Rattle.text.specs.Answers.{value, said, number_said, says, refusal_in}
 use Rattle.text.proofs.Laws.Numbers.{some_number}
 use Rattle.text.proofs.Laws.Said.{said-value, said-refused, said-number}
 

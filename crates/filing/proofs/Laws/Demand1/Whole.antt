@@ -9,7 +9,7 @@ use borrow.Author.Tests.{ne_eqb}
 use Rattle.text.specs.declared.refusals.Refusal.{Refusal}
 use Rattle.text.specs.declared.refusals.Refusal.TheVariants.{ShortBuffer, BadShape, RepeatedAttribute}
 use Rattle.text.specs.Refusals.{number_of}
-use Rattle.text.specs.Answers.{value, number_said}
+use Rattle.text.specs.Answers.{value, number_said, says}
 use Rattle.notation.specs.Layout.{set_size}
 use Rattle.notation.specs.Reads.{text_of, path_at, folder_of}
 use Rattle.notation.specs.ReadSet.{read_into}
@@ -19,7 +19,6 @@ use Rattle.text.specs.Order.{gives, Unmet, given, AnswersBy}
 use Rattle.text.proofs.Laws.Tests.{cases}
 use Rattle.text.proofs.Laws.Order.{answers_by, given-none, given-cons}
 use Rattle.stored.specs.Automaton.{automaton_size}
-use Rattle.stored.specs.Answers.{opened_says}
 use Rattle.text.specs.Written.{written_says}
 use Rattle.stored.specs.Build.{built_into, write_conditions}
 use Rattle.stored.specs.RunCalls.{start_conditions, start_refusal, start_run, no_counters, open_conditions, open_refusal, open_walk, close_conditions, close_refusal}
@@ -121,8 +120,8 @@ demand1 = record {
     λ n. let h = some-given (start_refusal a run) answer s.answers n in (s.run_after ∙ kept (start_refusal a run) _ run h, s.counters_after ∙ kept (start_refusal a run) _ c h),
   );
   opens = λ a run c e answer run' c' o. (
-    answers_by (open_conditions a run c e) (open_walk a run e).moves (opened_says answer) o.answers,
-    λ n. let h = some-said (open_refusal a run c e) (open_walk a run e).moves (opened_says answer) o.answers n in
+    answers_by (open_conditions a run c e) (open_walk a run e).moves (says answer) o.answers,
+    λ n. let h = some-said (open_refusal a run c e) (open_walk a run e).moves (says answer) o.answers n in
         (o.run_after ∙ kept (open_refusal a run c e) _ run h, o.counters_after ∙ kept (open_refusal a run c e) _ c h),
   );
   closes = λ a run c e answer run' c' s. (

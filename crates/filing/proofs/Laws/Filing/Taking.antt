@@ -15,16 +15,16 @@ use Rattle.text.specs.declared.refusals.Refusal.TheVariants.{TooLarge, InvalidBy
 use Rattle.text.specs.Refusals.{number_of}
 use Rattle.text.proofs.Laws.Numbers.{some_number}
 use Rattle.text.specs.Lists.{every, any}
-use Rattle.text.specs.Answers.{number_said}
+use Rattle.std.specs.Prelude.{Result}
+use Rattle.text.specs.Answers.{refusal_in}
 use Rattle.text.proofs.Laws.Said.{said-number}
 use Rattle.text.specs.Order.{gives, first, number_in, given}
-use Rattle.stored.specs.Answers.{opened_says}
 use Rattle.stored.specs.RunCalls.{depth_of, start_conditions, start_refusal, start_run, open_others, open_refusal, open_walk, open_run, open_counters, close_others, close_run, close_counters, no_counters}
 use Rattle.stored.specs.RunContracts.{Starts, Opens, Closes}
 use Rattle.stored.specs.Usable.{Usable}
 use Rattle.stored.specs.Demand3.{Left, started}
 use Rattle.stored.specs.declared.counters.Counters.{Counters}
-use Rattle.stored.specs.declared.answers.Opened.{Opened}
+use Rattle.text.proofs.Laws.Results.{number_in_said}
 use Rattle.stored.proofs.Laws.Shapes.Given.{open-others, close-others}
 use Rattle.stored.proofs.Laws.Shapes.Kept.{start-usable, open-usable, close-usable}
 use Rattle.stored.proofs.Laws.Running.Restart.{start-restart, open-restart, close-restart}
@@ -74,10 +74,10 @@ module _ (a run : List ℕ) (c : Counters) (e : Name) (u : Usable a run c) (run'
   abbrev t : Left
   t = record { bytes = run; counters = c }
 
-  pub open-taken : (answer : Opened) → n ≡ number_said (opened_says answer) → Opens a run c e answer run' c' → Taking a run (file_open a t e) n run' c'
+  pub open-taken : (answer : Result ℕ Refusal) → n ≡ refusal_in answer → Opens a run c e answer run' c' → Taking a run (file_open a t e) n run' c'
   unfolding given
   open-taken answer is o =
-      let same : n ≡ open_refusal a run c e = is ∙ ap number_said o.answers ∙ said-number (open_refusal a run c e) (open_walk a run e).moves in
+      let same : n ≡ open_refusal a run c e = is ∙ number_in_said answer (open_refusal a run c e) (open_walk a run e).moves o.answers in
       let r = rw (← same) at o.run_after in
       record {
         answered = settled (first (open_others run c e)) n run' (open_run a run e) run c' (open_counters a run c e) c (same ∙ open-others a run c e u) r (rw (← same) at o.counters_after);

@@ -15,19 +15,19 @@ returns-then-size-lt-LISTING_SIZE c = let a = c.args in
 pub returns-then-refused-ne0 : goal.returns-then-refused-ne0
 unfolding listing_size max_set_bytes max_moves_line
 returns-then-refused-ne0 c = let a = c.args in
-    let e = c.refusal-refused.ensures in
+    let e = c.number-refused.ensures ∙ c.refusal.ensures in
     (e ∙ sym (lent-refused a.a.now a.run.now a.c a.out.now (omega (arith, c.if-size-lt-LISTING_SIZE.false)) (λ z. c.if-refused-ne0.true (e ∙ z))), refl)
 
 pub returns-then-cursor : goal.returns-then-cursor
 unfolding listing_size max_set_bytes max_moves_line
 returns-then-cursor c = let a = c.args in
     let x = c.compose-cursor.ensures in
-    let z = sym c.refusal-refused.ensures ∙ c.if-refused-ne0.false in
+    let z = sym (c.number-refused.ensures ∙ c.refusal.ensures) ∙ c.if-refused-ne0.false in
     (sym (dry-says a.a.now a.run.now a.c a.out.now (omega (arith, c.if-size-lt-LISTING_SIZE.false)) z x ∙ rw c.if-cursor.true), kept x refl)
 
 pub returns : goal.returns
 unfolding listing_size max_set_bytes max_moves_line
 returns c = let a = c.args in
     let x = c.compose-cursor.ensures in
-    let z = sym c.refusal-refused.ensures ∙ c.if-refused-ne0.false in
+    let z = sym (c.number-refused.ensures ∙ c.refusal.ensures) ∙ c.if-refused-ne0.false in
     (sym (dry-says a.a.now a.run.now a.c a.out.now (omega (arith, c.if-size-lt-LISTING_SIZE.false)) z x ∙ rw c.if-cursor.false), kept x refl)

@@ -10,4 +10,4 @@ returns-then-out-lt-SHEET_SIZE c = sym (sheet-short c.args.a.now c.args.run.now 
 
 pub returns : goal.returns
 unfolding sheet_size max_pages page_size body_lines line_width number_width path_width
-returns c = c.pair_refusal.ensures ∙ sym (pair-refused c.args.a.now c.args.run.now c.args.out.now c.if-out-lt-SHEET_SIZE.false)
+returns c = c.number.ensures ∙ c.pair_refusal.ensures ∙ sym (pair-refused c.args.a.now c.args.run.now c.args.out.now c.if-out-lt-SHEET_SIZE.false)
