@@ -5,6 +5,7 @@ use crate::stored;
 use cases::expand::{expand, times};
 use cases::{say, words};
 use text::names;
+use text::refusals::Refusal;
 
 pub fn line(s: &[u8], buffer: &mut [u8], size: usize) -> usize {
     if buffer.len() < size {
@@ -57,9 +58,10 @@ fn answered(s: &[u8], part: &mut [u8]) {
 fn read(s: &[u8], part: &mut [u8]) {
     let mut text = [0u8; 20000];
     let n = expand(&mut text, words::tail(words::after(s, b'=')));
+    let read = notation::read::read_set(words::part(&text, 0, n), part);
     say::case(
         words::trimmed(words::before(s, b'=')),
-        notation::read::read_set(words::part(&text, 0, n), part),
+        read.err().map_or(0, Refusal::number),
     );
 }
 
