@@ -6,7 +6,6 @@ pub mod Demand2
 pub mod Printed
 pub mod Filer
 pub mod Shown
-pub mod ShownShort
 pub mod Filing
 pub mod ReportRefusals
 pub mod Listing

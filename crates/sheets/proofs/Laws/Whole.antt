@@ -1,11 +1,12 @@
 -- All that is promised of the class sheet.
+use Rattle.std.specs.Prelude.{Result}
+use Rattle.text.specs.declared.refusals.Refusal.{Refusal}
 use Prim.Native.Nat.{ℕ, ◌≤◌}
 use native.Mathlib.Omega.{arith}
 use mathlib.Core.Path.{◌≡◌, refl, sym, ◌∙◌, ap}
 use mathlib.Core.Bool.{true, false}
 use mathlib.Core.List.{List, map}
 use lib.ListN.{length, drop}
-use Rattle.text.specs.declared.written.Written.{Written}
 use Rattle.notation.specs.Limits.{max_number, max_paths}
 use Rattle.notation.specs.Sets.{FolderSet}
 use Rattle.notation.specs.Accepted.{Accepted}
@@ -56,7 +57,7 @@ of-shaped a run h =
 -- of a filed report
 of-filed : (text before a : List ℕ) (s : FolderSet) → Accepted text s → Built text before 0 a
     → (report run : List ℕ) → run_size ≤ length run → (c : Counters) (run' : List ℕ) (c' : Counters) → Files a run c report 0 run' c'
-    → (out : List ℕ) → sheet_size ≤ length out → (answer : Written) (out' : List ℕ) → SheetWritten a run' out answer out'
+    → (out : List ℕ) → sheet_size ≤ length out → (answer : Result ℕ Refusal) (out' : List ℕ) → SheetWritten a run' out answer out'
     → (bytes : List ℕ) × SheetFor s report bytes × PrintsText sheet_size bytes out answer out'
 of-filed text before a s acc built report run long c run' c' files out room answer out' w =
     let means = built-means text s acc before a built in

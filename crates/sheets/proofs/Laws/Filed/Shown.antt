@@ -1,4 +1,6 @@
 -- What is written of what filing left: a refusal's line, or the sheet of the filed report.
+use Rattle.std.specs.Prelude.{Result}
+use Rattle.text.specs.declared.refusals.Refusal.{Refusal}
 use Prim.Native.Nat.{ℕ, zero, suc, ◌≤◌, ◌<◌}
 use native.Mathlib.Omega.{arith}
 use mathlib.Core.Path.{◌≡◌, refl}
@@ -11,7 +13,6 @@ use Rattle.text.specs.Refusals.{number_of}
 use Rattle.text.specs.Order.{first, given}
 use Rattle.text.specs.Output.{start, Adds}
 use Rattle.text.specs.declared.output.Cursor.{Cursor}
-use Rattle.text.specs.declared.written.Written.{Written}
 use Rattle.text.proofs.Laws.Numbers.{some_number}
 use Rattle.notation.specs.Sets.{FolderSet}
 use Rattle.model.specs.Calls.{State}
@@ -40,10 +41,10 @@ module _ (a run out after : List ℕ) (room : sheet_size ≤ length out) where
   refused-shown zero h some x = absurd (some refl)
   refused-shown (suc n) h some x = put-printed (omega (arith, refused-length (suc n) h)) room x
 
-  pub none-shown : (n : ℕ) (answer : Written) → n ≡ 0 → SheetWritten a run out answer after → OutcomeShown n a run out answer after
+  pub none-shown : (n : ℕ) (answer : Result ℕ Refusal) → n ≡ 0 → SheetWritten a run out answer after → OutcomeShown n a run out answer after
   none-shown n answer z w = rw z w
 
-line-shown : (n : ℕ) (a run out after : List ℕ) (answer : Written) → (n ≡ 0 → ⊥) → OutcomeShown n a run out answer after → PrintsText sheet_size (refused_line n) out answer after
+line-shown : (n : ℕ) (a run out after : List ℕ) (answer : Result ℕ Refusal) → (n ≡ 0 → ⊥) → OutcomeShown n a run out answer after → PrintsText sheet_size (refused_line n) out answer after
 line-shown zero a run out after answer h w = absurd (h refl)
 line-shown (suc n) a run out after answer h w = w
 
@@ -55,13 +56,13 @@ module _ (s : FolderSet) (a : List ℕ) (w : Means s a) (m : State) (few : Few s
       let e : ltb (length out) sheet_size ≡ false = le-ltb (length out) sheet_size room in
       rw (long-enough s a w m few rest, e, w.shaped, run-shaped s a w m few rest)
 
-  pub sheet-printed : (answer : Written) (after : List ℕ) → SheetWritten a (run_of s m ++ rest) out answer after
+  pub sheet-printed : (answer : Result ℕ Refusal) (after : List ℕ) → SheetWritten a (run_of s m ++ rest) out answer after
       → PrintsText sheet_size (sheet (rows_from m.matched 0 s)) out answer after
   sheet-printed answer after x =
       let same = sheet-same s a w m few rest in
       text-printed (rw same at (sheet-fits a (run_of s m ++ rest) w.shaped)) room (rw same at x) not-refused
 
-module _ (n : ℕ) (report a run : List ℕ) (c : Counters) (out after : List ℕ) (answer : Written) (room : sheet_size ≤ length out) (w : OutcomeShown n a run out answer after) where
+module _ (n : ℕ) (report a run : List ℕ) (c : Counters) (out after : List ℕ) (answer : Result ℕ Refusal) (room : sheet_size ≤ length out) (w : OutcomeShown n a run out answer after) where
   pub sheet-showing : Showing sheet_size SheetFor report a run n c out answer after
   sheet-showing = record {
     number = λ r e. line-shown (number_of r) a run out after answer (some_number r) (rw e at w);
