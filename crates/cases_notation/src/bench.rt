@@ -92,7 +92,7 @@ fn ask_name(rt: &impl Print, name: &str) -> Result<()> {
 }
 
 fn ask_byte(rt: &impl Print, byte: u8) -> Result<()> {
-    let class = names::class_of(byte);
+    let class = names::class_of(byte) as usize;
     let begins = YesNo(names::begins_name(byte));
     let inside = YesNo(names::in_name(byte));
     Ok(println!(rt; "byte {byte}: class {class}, begins {begins}, inside {inside}")?)
