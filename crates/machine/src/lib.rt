@@ -1,6 +1,7 @@
 // The shared machine of a folder set: its automaton, its run and the calls on them.
 #![tactic(auto)]
 
+mod automaton;
 mod bits;
 pub mod build;
 mod hash;

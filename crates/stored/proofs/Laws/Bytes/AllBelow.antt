@@ -1,11 +1,13 @@
 -- A test of every number below n, as a loop goes through them, and what it says of each.
 use Prim.Native.Nat.{ℕ, zero, suc, ◌+◌, ◌<◌}
-use mathlib.Core.Path.{◌≡◌, refl, sym, ◌∙◌}
-use mathlib.Core.Bool.{Bool, true, false, not, ◌&&◌}
+use mathlib.Core.Path.{◌≡◌, refl, sym, ap, ◌∙◌}
+use mathlib.Core.Bool.{Bool, true, false, not, ◌&&◌, and-true, and_assoc}
 use native.Mathlib.Numerals.{add-one}
+use native.Mathlib.Nat.{add-zero, zero-add}
 use native.Mathlib.Omega.{arith}
 use lib.Dec.{eqb}
 use borrow.Author.Tests.{eqb-true, eqb-false, not-true, not-false}
+use Rattle.std.specs.List.{range_with_len, list_all}
 use Rattle.stored.specs.Shape.{all_below}
 use Rattle.text.proofs.Laws.Tests.{cases, both, both_true}
 
@@ -19,6 +21,19 @@ all-next i f e p q = rw (add-one, e, p, q)
 
 pub all_end : (n : ℕ) (f : ℕ → Bool) {r : Bool} {i : ℕ} → r ≡ all_below i f → i ≡ n → r ≡ all_below n f
 all_end n f h e = rw (← e) h
+
+-- a chain of calls over these numbers
+all-last : (n i : ℕ) (f : ℕ → Bool) → list_all f (range_with_len i (suc n)) ≡ (list_all f (range_with_len i n) && f (i + n))
+all-last zero i f = rw add-zero (and-true (f i))
+all-last (suc n) i f =
+    let next : i + 1 + n ≡ i + suc n = omega arith in
+    ap (λ b. f i && b) (all-last n (i + 1) f ∙ ap (λ k. list_all f (range_with_len (i + 1) n) && f k) next)
+    ∙ sym (and_assoc (f i) (list_all f (range_with_len (i + 1) n)) (f (i + suc n)))
+
+pub all-listed : (n : ℕ) (f : ℕ → Bool) → list_all f (range_with_len 0 n) ≡ all_below n f
+unfolding all_below
+all-listed zero f = refl
+all-listed (suc n) f = all-last n 0 f ∙ rw (zero-add) (ap (λ b. b && f n) (all-listed n f))
 
 pub all-at : (n : ℕ) (f : ℕ → Bool) → all_below n f ≡ true → (i : ℕ) → i < n → f i ≡ true
 unfolding all_below
