@@ -1,4 +1,4 @@
--- The class sheet (paper 02, A.2) as one statement. Of each call the contract alone is used.
+-- The class sheet as one statement. Of each call the contract alone is used.
 use Rattle.std.specs.Prelude.{Result}
 use Rattle.text.specs.declared.refusals.Refusal.{Refusal}
 use Rattle.std.specs.Prelude.{ℕ, suc, ◌-◌, ◌*◌, ◌≤◌, ◌<◌, ◌≡◌, true, false, ◌↔◌, List, ◌∷◌, ◌++◌, map, length, get_or, take, drop, replicate, Some}

@@ -1,4 +1,4 @@
--- The measures of a class sheet (paper 02, A.2), once. A proof that needs the number says `unfolding` of its name.
+-- The measures of a class sheet, once. A proof that needs the number says `unfolding` of its name.
 use Rattle.std.specs.Prelude.{ℕ, suc, ◌+◌, ◌*◌, ◌≤◌}
 use Rattle.std.proofs.Common.{arith}
 use Rattle.filing.specs.Limits.{max_refused_line}
