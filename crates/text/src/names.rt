@@ -4,8 +4,6 @@ ghost use Rattle.text.specs.Read.{front};
 ghost use Rattle.text.specs.Classes.{class_of, can_begin, can_follow};
 ghost use Rattle.text.specs.Names.{begins_name, in_name, name_form, too_long, same_name};
 
-use crate::words::bytes_from;
-
 // Bytes of a name at most.
 pub const MAX_NAME: usize = 32;
 
@@ -43,13 +41,13 @@ pub enum Class {
 }
 
 impl Class {
-    pub fn begins_name(self) -> bool
+    fn begins_name(self) -> bool
         ensures { result ≡ can_begin self }
     {
         self == Class::Start
     }
 
-    pub fn in_name(self) -> bool
+    fn in_name(self) -> bool
         ensures { result ≡ can_follow self }
     {
         matches!(
@@ -69,14 +67,14 @@ pub fn class_of(b: u8) -> Class
         .unwrap_or(Class::Invalid)
 }
 
-// A letter or `_`.
+// A letter or `_`. Small letters, which most bytes of names are, are not looked up.
 pub fn begins_name(b: u8) -> bool
     ensures { result ≡ begins_name b }
 {
-    class_of(b).begins_name()
+    b.is_ascii_lowercase() || class_of(b).begins_name()
 }
 
-// A letter, a digit, `_`, `-` or `.`. Small letters, which most bytes of names are, are not looked up.
+// A letter, a digit, `_`, `-` or `.`.
 pub fn in_name(b: u8) -> bool
     ensures { result ≡ in_name b }
 {
@@ -87,16 +85,22 @@ pub fn in_name(b: u8) -> bool
 pub fn name_end(s: &[u8], at: usize) -> usize
     ensures { result ≡ at + length (front in_name (drop at s.now)) }
 {
-    let rest = bytes_from(s, at);
-    at + rest.iter().position(|b| !in_name(*b)).unwrap_or(rest.len())
+    for i in at..s.len() {
+        if !in_name(s[i]) {
+            return i;
+        }
+    }
+    at.max(s.len())
 }
 
-// Name form, length aside.
+// Name form, length aside, by the table.
 pub fn name_form(s: &[u8]) -> bool
     ensures { result ≡ name_form s.now }
 {
     match s.split_first() {
-        Some((first, rest)) => begins_name(*first) && rest.iter().all(|b| in_name(*b)),
+        Some((first, rest)) => {
+            class_of(*first).begins_name() && rest.iter().all(|b| class_of(*b).in_name())
+        }
         None => false,
     }
 }

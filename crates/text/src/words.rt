@@ -3,7 +3,7 @@ ghost use Rattle.std.specs.Prelude.{◌≡◌, drop};
 ghost use Rattle.text.specs.Read.{starts_with};
 
 // The bytes from an offset on; none where it lies past their end.
-pub fn bytes_from(s: &[u8], at: usize) -> &[u8]
+fn bytes_from(s: &[u8], at: usize) -> &[u8]
     ensures { result.now ≡ drop at s.now }
 {
     s.get(at..).unwrap_or(&[])

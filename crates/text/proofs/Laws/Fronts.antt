@@ -1,16 +1,10 @@
 -- The longest front of bytes that pass a test, and what is after it.
 use Prim.Native.Nat.{ℕ}
 use mathlib.Core.Path.{◌≡◌, refl, sym, ap, ◌∙◌}
-use mathlib.Core.Bool.{Bool, true, false, not, cond, true≢false}
+use mathlib.Core.Bool.{Bool, true, false, not, true≢false}
 use mathlib.Core.List.{List, [], ◌∷◌, ◌++◌}
 use lib.Dec.{eqb}
-use lib.Dec.{ltb}
-use lib.ListN.{length, length-append}
-use native.Mathlib.Omega.{arith}
-use Rattle.std.specs.Prelude.{Option, Some, None}
-use Rattle.std.specs.Option.{unwrap_or}
-use Rattle.std.specs.List.{position_or_len}
-use borrow.Author.Tests.{ne_eqb, not-true, ltb-false}
+use borrow.Author.Tests.{ne_eqb, not-true}
 use Rattle.text.specs.Lists.{every}
 use Rattle.text.specs.Read.{front, back}
 use Rattle.text.proofs.Laws.Tests.{cases}
@@ -29,21 +23,6 @@ pub front-every : (ok : ℕ → Bool) (l : List ℕ) → every ok (front ok l) �
 unfolding front every
 front-every ok [] = refl
 front-every ok (b ∷ l) = cases (ok b) (λ t. rw (t, t) (front-every ok l)) (λ f. rw f)
-
--- how long it is: it ends at the first byte that fails the test
-pub length-front : (ok : ℕ → Bool) (l : List ℕ) → length (front ok l) ≡ position_or_len (λ b. not (ok b)) l
-unfolding front
-length-front ok [] = refl
-length-front ok (b ∷ l) = cases (ok b) (λ t. rw t (omega (arith, length-front ok l))) (λ f. rw f)
-
-pub front-found : (ok : ℕ → Bool) (l : List ℕ) (r : Option ℕ) → (let p = position_or_len (λ b. not (ok b)) l in r ≡ cond (ltb p (length l)) (Some p) None)
-    → unwrap_or r (length l) ≡ length (front ok l)
-front-found ok l r e =
-    let p = position_or_len (λ b. not (ok b)) l in
-    cases (ltb p (length l))
-    (λ t. rw (e, t) (sym (length-front ok l)))
-    (λ f.
-    rw (e, f) (omega (arith, ltb-false p (length l) f, length-front ok l, length-append (front ok l) (back ok l), ap length (front-back ok l))))
 
 -- the bytes are at their end, or begin with one that fails the test
 abbrev pub stops : (ℕ → Bool) → List ℕ → Bool

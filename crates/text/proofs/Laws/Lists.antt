@@ -7,7 +7,6 @@ use mathlib.Core.List.Memᴰ
 use mathlib.Core.List.{List, [], ◌∷◌, ◌++◌, Memᴰ}
 use native.Mathlib.Omega.{arith}
 use lib.ListN.{length, length-append}
-use Rattle.std.specs.List.{list_all}
 use Rattle.text.specs.Lists.{every, any}
 use Rattle.text.proofs.Laws.Tests.{and_left, and_right, both_true, either, either_left, either-right}
 
@@ -23,12 +22,6 @@ pub every_append : {A : Type 0} (ok : A → Bool) (k l : List A) → every ok k 
 unfolding every
 every_append ok [] l g h = h
 every_append ok (a ∷ k) l g h = both_true (every-head ok a k g) (every_append ok k l (every_rest ok a k g) h)
-
--- `every` is what std says of `all`
-pub every-is : {A : Type 0} (ok : A → Bool) (l : List A) → every ok l ≡ list_all ok l
-unfolding every
-every-is ok [] = refl
-every-is ok (a ∷ l) = rw (every-is ok l)
 
 -- a test that follows from another
 pub every-weaker : {A : Type 0} (ok weak : A → Bool) → ((a : A) → ok a ≡ true → weak a ≡ true) → (l : List A) → every ok l ≡ true → every weak l ≡ true

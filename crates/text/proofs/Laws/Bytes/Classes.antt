@@ -8,10 +8,11 @@ use lib.Dec.{leb, ltb}
 use borrow.Author.Tests.{lt-leb, ltb-true, ltb-false, ne_eqb}
 use lib.ListN.{length, get_or}
 use Rattle.std.specs.Char.{is_ascii_lowercase}
-use Rattle.std.specs.List.{range_with_len}
+use Rattle.std.specs.List.{list_all, range_with_len}
 use Rattle.std.proofs.lemmas.List.{get_or_past}
 use Rattle.std.proofs.lemmas.List.FromFn.{get_or-map-range_with_len, length-map-range_with_len}
 use Rattle.std.proofs.lemmas.Bool.{agree_below, agree_below_at}
+use Rattle.text.specs.Lists.{every}
 use Rattle.text.specs.Names.{within, letter, digit, begins_name, in_name}
 use Rattle.text.specs.declared.names.Class.TheVariants.{Invalid}
 use Rattle.text.specs.Classes.{Range, range, look_up, ranges, class_of, can_begin, can_follow}
@@ -71,7 +72,17 @@ pub in-class : (b : ℕ) → in_name b ≡ can_follow (class_of b)
 unfolding class_of look_up ranges in_name begins_name letter digit
 in-class = by-entries in_name (λ b. can_follow (class_of b)) refl (λ b h. in-past b h ∙ ap can_follow (sym (class-past b h)))
 
+-- what the code's `all` says, of each byte's class
+pub all-in-class : (l : List ℕ) → every in_name l ≡ list_all (λ b. can_follow (class_of b)) l
+unfolding every
+all-in-class [] = refl
+all-in-class (b ∷ l) = rw (in-class b, all-in-class l)
+
 -- small letters by a test of their own
 pub in-small : (b : ℕ) → is_ascii_lowercase b ≡ true → in_name b ≡ true
 unfolding in_name begins_name letter
 in-small b h = rw h
+
+pub begins-small : (b : ℕ) → is_ascii_lowercase b ≡ true → begins_name b ≡ true
+unfolding begins_name letter
+begins-small b h = rw h

@@ -1,13 +1,20 @@
--- `text::names::name_end` meets its contract: the first byte of no name is where std's search finds it, or the end.
-use Rattle.std.proofs.Common.{not, rules, tests}
-use Rattle.std.proofs.lemmas.Iterator.{YieldsList-from_slice}
-use Rattle.std.proofs.lemmas.Iterator.Search.{position_from_yields_List}
+-- `text::names::name_end` meets its contract. The loop's invariant: the end is as far from here as the name bytes go.
+use Rattle.std.proofs.Common.{length, sym, ◌∙◌, arith, inl, inr}
+use Rattle.std.proofs.lemmas.Bool.{cases_lt}
 use Rattle.text.specs.Names.{in_name}
-use Rattle.text.proofs.Laws.Fronts.{front-found}
+use Rattle.text.proofs.Laws.Scans.{span-no, span-yes, span-end}
 use Rattle.text.proofs.names.name_end.Goals as goal
+
+pub returns-then-not-in_name : goal.returns-then-not-in_name
+returns-then-not-in_name c = sym (c.loop-i.invariant ∙ span-no in_name _ _ c.loop-i-test.true (sym c.in_name.ensures ∙ c.if-not-in_name.true))
+
+pub loop-i-preserved : goal.loop-i-preserved
+loop-i-preserved c = c.loop-i.invariant ∙ span-yes in_name _ _ c.loop-i-test.true (sym c.in_name.ensures ∙ c.if-not-in_name.false)
 
 pub returns : goal.returns
 returns c =
-    let rest = c.bytes_from-rest.result.now in
-    let found = position_from_yields_List (λ b. not (in_name b)) _ _ c.position.result c.position.ensures.ran (YieldsList-from_slice rest cc) (λ x b q k. search (rules, tests)) in
-    rw (c.unwrap_or.ensures, front-found in_name rest _ found, c.bytes_from-rest.ensures)
+    let end = span-end in_name c.args.s.now c.loop-i.i c.loop-i-test.false in
+    elim (cases_lt (length c.args.s.now) c.args.at) [
+      | inl h ↦ let past = span-end in_name c.args.s.now c.args.at (omega arith) in omega (arith, c.max.ensures, c.loop-i.invariant, end, past)
+      | inr h ↦ omega (arith, c.max.ensures, c.loop-i.invariant, end)
+    ]

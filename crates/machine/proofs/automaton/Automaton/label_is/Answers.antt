@@ -1,9 +1,9 @@
 -- `Automaton::label_is`: what the label's entry says of the text.
-use mathlib.Core.Path.{◌≡◌, sym, subst}
+use mathlib.Core.Path.{◌≡◌, subst}
 use Prim.Native.Nat.{◌+◌, ◌-◌, ◌≤◌, ◌<◌}
 use native.Mathlib.Omega.{arith}
 use lib.ListN.{length}
-use Rattle.notation.specs.Limits.{max_set_bytes, max_labels}
+use Rattle.notation.specs.Limits.{max_set_bytes}
 use Rattle.notation.specs.Layout.{set_size, text_at, labels_at, label_size}
 use Rattle.notation.specs.Reads.{label_begin, label_length}
 use Rattle.stored.specs.Automaton.{automaton_size}
