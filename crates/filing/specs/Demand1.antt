@@ -1,4 +1,4 @@
--- Demand 1 of the letter, as one statement: whatever a public call is lent, it brings its answer or one of fifteen numbered refusals, each
+-- Every public call, as one statement: whatever it is lent, it brings its answer or one of fifteen numbered refusals, each
 -- exactly where its condition holds and no earlier one of the call's order does; and what a refused call leaves. Of each call the contract
 -- alone is used.
 use Rattle.std.specs.Prelude.{ℕ, ◌≤◌, ◌<◌, ◌≡◌, Bool, true, Result, ◌↔◌, ◌⊎◌, List, [], ◌∷◌, length}

@@ -1,4 +1,4 @@
--- Demand 2 of the letter, as one statement, from the bytes of a set's text on. Of each call the contract alone is used.
+-- Filing as it is by XPath 1.0, as one statement, from the bytes of a set's text on. Of each call the contract alone is used.
 use Rattle.std.specs.Prelude.{Result}
 use Rattle.text.specs.declared.refusals.Refusal.{Refusal}
 use Rattle.std.specs.Prelude.{ℕ, ◌≤◌, ◌≡◌, List, ◌++◌, length, take, drop}

@@ -1,4 +1,4 @@
--- What the filing program prints of a set's text and a report (paper 01: The filing program). Whether a report is filed or refused is the
+-- What the filing program prints of a set's text and a report. Whether a report is filed or refused is the
 -- machine's word (Filing); what a filed one prints is by printing and XPath 1.0 alone: no run, no matches and no counters.
 use Rattle.std.specs.Prelude.{ℕ, ◌+◌, ◌≤◌, ◌≡◌, List, [], ◌∷◌, ◌++◌}
 use Rattle.text.specs.Names.{Name}

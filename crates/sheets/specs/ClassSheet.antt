@@ -1,4 +1,4 @@
--- The class sheet (paper 02, A.2) as one statement. Of each call the contract alone is used.
+-- The class sheet as one statement. Of each call the contract alone is used.
 use Rattle.std.specs.Prelude.{Result}
 use Rattle.text.specs.declared.refusals.Refusal.{Refusal}
 use Rattle.std.specs.Prelude.{ℕ, suc, ◌-◌, ◌*◌, ◌≤◌, ◌<◌, ◌≡◌, true, false, ◌↔◌, List, ◌∷◌, ◌++◌, map, length, get_or, take, drop, replicate, Some}
@@ -20,8 +20,7 @@ use Rattle.documents.specs.Document.{document_in}
 use Rattle.filing.specs.Demand1.{WrittenBy}
 use Rattle.filing.specs.Demand2.{SelectsElement}
 use Rattle.filing.specs.ReportRefusals.{Files}
-use Rattle.filing.specs.Shown.{ShownText, PrintsText}
-use Rattle.filing.specs.ShownShort.{RefusesShort}
+use Rattle.filing.specs.Shown.{ShownText, PrintsText, RefusesShort}
 use Rattle.sheets.specs.Limits.{line_width, body_lines, page_size, sheet_size}
 use Rattle.sheets.specs.Sheet.{Row, spaces, head_line, body_line, ended, Pages, sheet}
 use Rattle.sheets.specs.Lines.{InLines, PlainLines}

@@ -1,4 +1,4 @@
--- Demand 1.
+-- Every public call, of any bytes.
 use Rattle.std.specs.Prelude.{Result}
 use Prim.Native.Nat.{ℕ}
 use mathlib.Core.Path.{◌≡◌, refl, sym, ap, ◌∙◌, subst}

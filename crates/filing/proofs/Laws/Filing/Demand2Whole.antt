@@ -1,4 +1,4 @@
--- Demand 2, from the bytes of a set's text on.
+-- Filing by XPath 1.0, from the bytes of a set's text on.
 use Rattle.std.specs.Prelude.{Result}
 use Rattle.text.specs.declared.refusals.Refusal.{Refusal}
 use mathlib.Core.Path.{◌≡◌, sym, ap₂, ◌∙◌, subst}

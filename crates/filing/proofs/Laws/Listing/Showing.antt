@@ -195,7 +195,7 @@ module _ (size : ℕ) (For : FolderSet → List ℕ → List ℕ → Type 0) (te
     pub some-printed : Total For → (shown : List ℕ) × PrintsText size shown out answer out'
     some-printed shows = let (bytes, x) = shown-some For shows text report in (bytes, p.printed h bytes x)
 
-    -- an accepted set's printed call is demand 2's filing
+    -- an accepted set's printed call files as `Demand2Bytes` says
     pub demand2-printed : (s : FolderSet) → Accepted text s → (n : ℕ) × (c' : Counters) × Demand2Bytes s a' report run n run' c'
     demand2-printed s acc =
         let (n, c', files) = p.filed h s acc in

@@ -8,7 +8,7 @@ use native.Mathlib.Omega.{arith}
 use lib.Bits.{bit_and, bit_or, and_lt, or_lt}
 use lib.Seq.{sets, sets-eq}
 use lib.Lanes.{zip2, chunk, put_chunk}
-use lib.ListN.{length, get_or, set, take, drop, replicate, length-set, get_or-replicate, length-replicate}
+use lib.ListN.{length, get_or, set, take, drop, replicate, length-set, get_or-replicate}
 use mir.Syntax.{w8}
 use mir.Val.{Fits}
 use Rattle.std.proofs.lemmas.Grind.{same_number_lists}

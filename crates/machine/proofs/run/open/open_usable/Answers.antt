@@ -7,7 +7,6 @@ use Rattle.stored.proofs.Laws.Running.CallAnswers.{open-not-next, open-accepted}
 use Rattle.machine.proofs.run.open.open_usable.Goals as goal
 use Rattle.machine.proofs.run.open.open_usable.Goals.{In_ok-open_others}
 
-
 pub returns-in_err-open_others : goal.returns-in_err-open_others
 returns-in_err-open_others c = open-not-next _ _ _ _ c.from_residual.result c.in_err-open_others.field-0.0 c.from_residual.ensures.1 c.in_err-open_others.ensures c.requires.0
 

@@ -1,9 +1,9 @@
-use Rattle.std.proofs.Common.{◌≡◌, ◌+◌, ◌&&◌, Bool, leb, true, suc, refl, sym, ap, ◌∙◌, rules, tests, arith, add-one}
+use Rattle.std.proofs.Common.{◌≡◌, ◌+◌, refl, ◌∙◌, rules, tests, arith, add-one}
 use Rattle.std.proofs.lemmas.Iterator.{YieldsList-from_range}
 use Rattle.std.proofs.lemmas.Iterator.Search.{all_from_yields_List}
 use borrow.Author.Tests.{le-leb}
 use Rattle.stored.specs.Shape.{all_below}
-use Rattle.stored.specs.RunCalls.{depth_of, row_shaped, run_shaped}
+use Rattle.stored.specs.RunCalls.{row_shaped, run_shaped}
 use Rattle.model.specs.Limits.{max_depth}
 use Rattle.stored.proofs.Laws.Bytes.Ranges.{all-in_range}
 use Rattle.machine.proofs.run.shape.run_shaped.Goals as goal

@@ -1,5 +1,4 @@
 use Rattle.std.proofs.Common.{◌∙◌, arith}
-use Rattle.stored.specs.Automaton.{mask_size}
 use Rattle.stored.specs.Code.OpenSteps.{taken_active, taken_seen, taken_matched}
 use Rattle.stored.proofs.Laws.Running.Blocks.{none-stored, next-stored}
 use Rattle.machine.proofs.run.steps.store_bits.Goals as goal

@@ -1,7 +1,6 @@
-use Rattle.std.proofs.Common.{◌*◌, ◌+◌, arith}
+use Rattle.std.proofs.Common.{◌*◌, arith}
 use Rattle.stored.specs.Run.{row_size, run_size, seen_in, matches_at, active_in}
 use Rattle.stored.specs.RunCalls.{permitted}
-use Rattle.stored.specs.Code.OpenSteps.{Block, taken_active}
 use Rattle.stored.proofs.Laws.Bytes.Vectors.{block-and, block-or, block-from_start}
 use Rattle.stored.proofs.Laws.Running.Blocks.{blocks-put}
 use Rattle.machine.proofs.run.steps.store_block.Goals as goal
