@@ -1,14 +1,14 @@
 // What reading a set's text counts.
 ghost use Rattle.std.specs.Prelude.{◌≡◌, ◌≤◌, ◌+◌};
-ghost use Rattle.notation.specs.Code.Taking.{nothing, moved_tally, found_counted, path_first, path_counted, number_counted, tally_refusal, answered};
+ghost use Rattle.notation.specs.Code.Taking.{moved_tally, found_counted, path_first, path_counted, number_counted, tally_refusal, answered};
 
 use crate::limits::{MAX_LABELS, MAX_PATHS, MAX_STEPS};
 use crate::steps::StepFound;
 use text::names::MAX_NAME;
 use text::refusals::Refusal;
 
-// What has been counted so far.
-#[derive(Clone, Copy)]
+// What has been counted so far; at first nothing.
+#[derive(Clone, Copy, Default)]
 pub struct Tally {
     // Bytes read.
     pub at: usize,
@@ -25,21 +25,6 @@ pub struct Tally {
 }
 
 impl Tally {
-    pub fn begin() -> Tally
-        ensures { result ≡ nothing }
-    {
-        Tally {
-            at: 0,
-            last: 0,
-            first: 0,
-            folders: 0,
-            paths: 0,
-            steps: 0,
-            labels: 0,
-            fault: None,
-        }
-    }
-
     // So many bytes on.
     pub fn moved(self, n: usize) -> Tally
         requires { self.at + n ≤ 65536 }
