@@ -24,6 +24,8 @@ pub struct Tally {
     pub fault: Option<Refusal>,
 }
 
+// No count is above the number of bytes read: `Reading` knows it, and each method asks for it of the counts it raises. Without the text a
+// tally could not tell it of itself.
 impl Tally {
     // So many bytes on.
     pub fn moved(self, n: usize) -> Tally
