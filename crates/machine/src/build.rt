@@ -55,9 +55,8 @@ pub fn build(text: &[u8], automaton: &mut [u8]) -> u8
     if automaton.len() < AUTOMATON_SIZE {
         return SHORT_BUFFER;
     }
-    let refused = read_set(text, automaton);
-    if refused != 0 {
-        return refused;
+    if let Err(refusal) = read_set(text, automaton) {
+        return refusal.number();
     }
     make(automaton);
     0

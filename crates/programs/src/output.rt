@@ -1,21 +1,15 @@
 // What a program prints.
-ghost use Rattle.std.specs.Prelude.{◌≡◌};
+ghost use Rattle.std.specs.Prelude.{◌≡◌, take};
 ghost use Rattle.programs.specs.Shows.{size_of};
 
-use std::io;
 use text::written::Written;
 
-// In buffers of their sizes nothing is refused.
-pub fn size_of(answer: Written) -> usize
-    ensures { result ≡ size_of answer }
+// What was written at the start of a page. In buffers of their sizes nothing is refused.
+pub fn written(answer: Written, page: &[u8]) -> &[u8]
+    ensures { result.now ≡ take (size_of answer) page.now }
 {
     match answer {
-        Written::Bytes(n) => n,
-        Written::Refused(_) => 0,
+        Written::Bytes(n) => &page[..n.min(page.len())],
+        Written::Refused(_) => &page[..0],
     }
-}
-
-// Writes to standard output.
-pub fn print(rt: &impl Print, text: &[u8]) -> io::Result<()> {
-    rt.write_all(text)
 }

@@ -14,7 +14,7 @@ ghost use Rattle.machine.specs.Places.{place_of};
 use crate::automaton::{Automaton, Label};
 use crate::layout::MASK_SIZE;
 use crate::run::layout::{DEPTH_AT, ROW_SIZE};
-use crate::run::{candidates, lent, refusals, row, rows, steps};
+use crate::run::{candidates, lent, refusals, row, rows, shape, steps};
 use stored::counters::Counters;
 use stored::walk::Walk;
 use text::names::name_form;
@@ -51,8 +51,8 @@ fn open_on(a: &[u8], run: &mut [u8], e: &[u8]) -> Walk
 {
     let automaton = Automaton { bytes: a };
     let first = automaton.first_label(e);
-    let d = rows::depth_in(run);
-    let walked = automaton.walk_from(rows::state_in(run, d), first);
+    let d = shape::depth(run);
+    let walked = automaton.walk_from(rows::state_at(run, d), first);
     write(a, run, e, first, d, walked.state);
     walked
 }

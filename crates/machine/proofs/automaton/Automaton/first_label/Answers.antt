@@ -1,11 +1,9 @@
 -- `Automaton::first_label`: none where the name is not found, else what its last label says.
 use mathlib.Core.Path.{◌≡◌, sym, ap, ◌∙◌}
-use Prim.Native.Nat.{suc, ◌≤◌}
 use native.Mathlib.Omega.{arith}
-use Rattle.notation.specs.Reads.{label_count}
 use Rattle.stored.proofs.Laws.Tables.LookTurns.{first-none, first-at, first-within}
 use Rattle.machine.specs.Places.{place_of}
-use Rattle.stored.specs.Tables.{look_up, first_of}
+use Rattle.stored.specs.Tables.{first_of}
 use Rattle.machine.proofs.automaton.Automaton.first_label.Goals as goal
 
 pub returns-in_err-last-clause-found : goal.returns-in_err-last-clause-found

@@ -1,6 +1,6 @@
 -- `Automaton::look_up`: the search from the head is the search from the label that the loop has come to.
-use mathlib.Core.Path.{◌≡◌, sym, ap, ◌∙◌, subst}
-use Prim.Native.Nat.{suc, ◌≤◌, ◌<◌}
+use mathlib.Core.Path.{◌≡◌, sym, ap, ◌∙◌}
+use Prim.Native.Nat.{suc, ◌<◌}
 use native.Mathlib.Omega.{arith}
 use Rattle.notation.specs.Limits.{max_labels}
 use Rattle.notation.specs.Reads.{label_count}

@@ -1,5 +1,4 @@
 -- `build::fails::fail_to`: no parent, or the walk from the parent's failure state.
-use Prim.Native.Nat.{◌<◌}
 use mathlib.Core.Path.{◌≡◌, sym, ◌∙◌, ap}
 use borrow.Author.Tests.{eq-eqb, ne_eqb}
 use Rattle.notation.specs.Reads.{label_name}

@@ -1,5 +1,4 @@
 use mathlib.Core.Path.{sym, ◌∙◌}
-use native.Mathlib.Omega.{arith}
 use lib.Dec.{eqb}
 use Rattle.stored.proofs.Laws.Building.Flagging.{steps-start, steps-turn, steps-end}
 use Rattle.machine.proofs.build.masks.flag_steps.Goals as goal

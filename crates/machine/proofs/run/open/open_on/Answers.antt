@@ -16,9 +16,9 @@ first_label-first-requires c =
 
 pub walk_from-walked-requires : goal.walk_from-walked-requires
 walk_from-walked-requires c =
-    let d = c.depth_in-d in
+    let d = c.depth-d in
     let s = run-shape c.args.a.now c.args.run.now c.requires.0.run_is_shaped in
-    let q : c.state_in.result ≤ suc (label_count c.args.a.now) = rw c.state_in.ensures.0 (s.state d.result (omega (arith, d.ensures.0))) in
+    let q : c.state_at.result ≤ suc (label_count c.args.a.now) = rw c.state_at.ensures.0 (s.state d.result (omega (arith, d.ensures.0))) in
     record { walkable = (openable c.args.a.now c.requires.0.shaped c.requires.0.size).walkable; state = q; within = c.first_label-first.ensures.within }
 
 pub write-requires : goal.write-requires
@@ -26,8 +26,8 @@ write-requires c =
     let A = c.args.a.now in
     let R = c.args.run.now in
     let E = c.args.e.now in
-    let d = c.depth_in-d in
-    let q = c.state_in in
+    let d = c.depth-d in
+    let q = c.state_at in
     let f = c.first_label-first in
     let at : q.result ≡ state_at R (depth_of R) = q.ensures.0 ∙ ap (λ (n : ℕ). state_at R n) d.ensures.0 in
     let w : c.walk_from-walked.result ≡ open_walk A R E = c.walk_from-walked.ensures.walked ∙ ap₂ (walk_by A) at f.ensures.found in record {
@@ -40,8 +40,8 @@ returns c =
     let A = c.args.a.now in
     let R = c.args.run.now in
     let E = c.args.e.now in
-    let d = c.depth_in-d in
-    let q = c.state_in in
+    let d = c.depth-d in
+    let q = c.state_at in
     let w = c.walk_from-walked in
     let f = c.first_label-first in
     let at : q.result ≡ state_at R (depth_of R) = q.ensures.0 ∙ ap (λ (n : ℕ). state_at R n) d.ensures.0 in
