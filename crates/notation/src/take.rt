@@ -154,7 +154,7 @@ pub fn take_set(text: &[u8], part: &mut [u8]) -> Option<Tally>
     let mut reading = Reading {
         text,
         part,
-        tally: Tally::begin(),
+        tally: Tally::default(),
     };
     reading.set()?;
     Some(reading.tally)

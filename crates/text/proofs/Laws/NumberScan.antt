@@ -2,9 +2,9 @@
 use Prim.Native.Nat.{ℕ, ◌+◌, ◌*◌, ◌-◌, ◌≤◌, ◌<◌}
 use native.Mathlib.Omega.{arith}
 use native.Mathlib.Numerals.{add-one}
-use mathlib.Core.Path.{◌≡◌, refl, ap, ◌∙◌}
-use mathlib.Core.Bool.{true, false, false≢true, and-false}
-use mathlib.Core.List.{List, [], ◌∷◌}
+use mathlib.Core.Path.{◌≡◌, ap, ◌∙◌}
+use mathlib.Core.Bool.{true, false, and-false}
+use mathlib.Core.List.{List}
 use borrow.Author.Tests.{le-leb, lt-leb}
 use lib.ListN.{length, get_or, drop, length-drop, drop_of_length-le}
 use lib.Seq.{drop-cons}
@@ -15,10 +15,6 @@ use Rattle.text.specs.Numbers.{number_found}
 use Rattle.text.specs.declared.numbers.Number.{Number}
 use Rattle.text.proofs.Laws.Fronts.{stops, front-stop, back-stop}
 use Rattle.text.proofs.Laws.ReadNumber.{value_grows}
-
-some_byte : (l : List ℕ) → number_ahead l ≡ true → 1 ≤ length l
-some_byte [] t = absurd (false≢true t)
-some_byte (b ∷ l) t = omega arith
 
 module _ (s : List ℕ) (at most : ℕ) where
   abbrev pub Found : Option Number → Type 0
@@ -35,10 +31,6 @@ module _ (s : List ℕ) (at most : ℕ) where
     pub small : value ≤ most
     pub values : value_of 0 (front digit (drop at s)) ≡ value_of value (front digit (drop i s))
     pub backs : back digit (drop at s) ≡ back digit (drop i s)
-
-  pub nothing_yet : number_ahead (drop at s) ≡ true → Scanned at 0
-  nothing_yet t =
-      record { ahead = t; on = omega (arith, some_byte (drop at s) t, length-drop at s); small = omega arith; values = refl; backs = refl }
 
   module _ (i value : ℕ) (k : Scanned i value) where
     pub stopped : stops digit (drop i s) ≡ true → Found (Some (record { value = value; end = i }))

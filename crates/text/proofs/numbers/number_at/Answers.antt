@@ -2,16 +2,13 @@
 use native.Mathlib.Omega.{arith}
 use Rattle.std.proofs.Common.{sym, ◌∙◌}
 use Rattle.text.specs.Names.{digit}
-use Rattle.text.proofs.Laws.NumberScan.{no_number, nothing_yet, ended, foreign, over, onwards}
+use Rattle.text.proofs.Laws.NumberScan.{no_number, ended, foreign, over, onwards}
 use Rattle.text.proofs.numbers.number_at.Goals as goal
 
 pub returns-then-not-number_ahead : goal.returns-then-not-number_ahead
 returns-then-not-number_ahead c =
     let a = c.args in
     no_number a.s.now a.at a.most (sym c.number_ahead.ensures ∙ c.if-not-number_ahead.true)
-
-pub loop-i-init : goal.loop-i-init
-loop-i-init c = nothing_yet _ _ _ (sym c.number_ahead.ensures ∙ c.if-not-number_ahead.false)
 
 pub returns-then-not-is_ascii_digit : goal.returns-then-not-is_ascii_digit
 unfolding digit
