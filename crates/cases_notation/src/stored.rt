@@ -24,11 +24,13 @@ pub fn counts(rt: &impl Print, part: &[u8]) -> Result<()> {
 
 pub fn folder(rt: &impl Print, part: &[u8], i: usize) -> Result<()> {
     match reads::folder_at(part, i) {
-        Some(StoredFolder {
-            number: FolderNumber(number),
-            first: PathPlace(first),
-            paths,
-        }) => println!(rt; "folder at {i}: number {number}, first path {first}, paths {paths}")?,
+        Some(
+            StoredFolder {
+                number: FolderNumber(number),
+                first: PathPlace(first),
+                paths,
+            },
+        ) => println!(rt; "folder at {i}: number {number}, first path {first}, paths {paths}")?,
         None => println!(rt; "folder at {i}: missing")?,
     }
     Ok(())
@@ -45,12 +47,16 @@ pub fn numbered(rt: &impl Print, part: &[u8], number: usize) -> Result<()> {
 pub fn path(rt: &impl Print, part: &[u8], i: usize) -> Result<()> {
     let text = Shown(reads::path_text(part, PathPlace(i)));
     match reads::path_at(part, PathPlace(i)) {
-        Some(StoredPath {
-            first,
-            steps,
-            at,
-            size,
-        }) => println!(rt; "path {i}: first step {first}, steps {steps}, at {at}, bytes {size}, {text}")?,
+        Some(
+            StoredPath {
+                first,
+                steps,
+                at,
+                size,
+            },
+        ) => println!(rt;
+            "path {i}: first step {first}, steps {steps}, at {at}, bytes {size}, {text}"
+        )?,
         None => println!(rt; "path {i}: missing{text}")?,
     }
     Ok(())
@@ -59,7 +65,11 @@ pub fn path(rt: &impl Print, part: &[u8], i: usize) -> Result<()> {
 pub fn step(rt: &impl Print, part: &[u8], i: usize) -> Result<()> {
     match reads::step_at(part, i) {
         Some(StoredStep { descendant, star }) => {
-            println!(rt; "step {i}: descendant {}, star {}", YesNo(descendant), YesNo(star))?
+            println!(rt;
+                "step {i}: descendant {}, star {}",
+                YesNo(descendant),
+                YesNo(star)
+            )?
         }
         None => println!(rt; "step {i}: missing")?,
     }

@@ -1,4 +1,5 @@
-// The entries of a read set's tables, written at their places.
+// The entries of a read set's tables, written at their places, where there is room: a text is judged with no buffer for them. An index is a
+// count of `Tally`, so it asks here for what `Reading` knows of each; a type of an index would only be unwrapped.
 ghost use Rattle.std.specs.Prelude.{◌≡◌, [], ◌∷◌, ◌+◌, ◌*◌, ◌≤◌};
 ghost use Rattle.std.proofs.lemmas.List.Edits.{sets};
 ghost use Rattle.notation.specs.Layout.{folder_size, path_size, label_size, folders_at, paths_at, steps_at, labels_at, folder_entry, path_entry, label_entry};

@@ -69,11 +69,7 @@ pub struct StoredLabel {
 pub fn byte_at(part: &[u8], i: usize) -> usize
     ensures { (result ≡ get_or part.now i 0) × (result < 256) }
 {
-    if i < part.len() {
-        usize::from(part[i])
-    } else {
-        0
-    }
+    part.get(i).map_or(0, |byte| usize::from(*byte))
 }
 
 // A number of two bytes, the lower first.

@@ -120,10 +120,7 @@ impl<'a> Reading<'a> {
         ensures { Takes (read_number max_number) number_taken self.old result self.new }
     {
         let t = self.tally;
-        let found = number_at(self.text, t.at, MAX_NUMBER);
-        if found.end == 0 {
-            return None;
-        }
+        let found = number_at(self.text, t.at, MAX_NUMBER)?;
         put_folder(self.part, t.folders, found.value, t.paths);
         self.tally = t.with_number(found.value, found.end);
         Some(())
@@ -157,7 +154,7 @@ pub fn take_set(text: &[u8], part: &mut [u8]) -> Option<Tally>
     let mut reading = Reading {
         text,
         part,
-        tally: Tally::begin(),
+        tally: Tally::default(),
     };
     reading.set()?;
     Some(reading.tally)

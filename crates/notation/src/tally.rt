@@ -1,14 +1,14 @@
 // What reading a set's text counts.
 ghost use Rattle.std.specs.Prelude.{◌≡◌, ◌≤◌, ◌+◌};
-ghost use Rattle.notation.specs.Code.Taking.{nothing, moved_tally, found_counted, path_first, path_counted, number_counted, tally_refusal, answered};
+ghost use Rattle.notation.specs.Code.Taking.{moved_tally, found_counted, path_first, path_counted, number_counted, tally_refusal, answered};
 
 use crate::limits::{MAX_LABELS, MAX_PATHS, MAX_STEPS};
 use crate::steps::StepFound;
 use text::names::MAX_NAME;
 use text::refusals::Refusal;
 
-// What has been counted so far.
-#[derive(Clone, Copy)]
+// What has been counted so far; at first nothing.
+#[derive(Clone, Copy, Default)]
 pub struct Tally {
     // Bytes read.
     pub at: usize,
@@ -24,30 +24,18 @@ pub struct Tally {
     pub fault: Option<Refusal>,
 }
 
+// No count is above the number of bytes read: `Reading` knows it, and each method asks for it of the counts it raises. Without the text a
+// tally could not tell it of itself.
 impl Tally {
-    pub fn begin() -> Tally
-        ensures { result ≡ nothing }
-    {
-        Tally {
-            at: 0,
-            last: 0,
-            first: 0,
-            folders: 0,
-            paths: 0,
-            steps: 0,
-            labels: 0,
-            fault: None,
-        }
-    }
-
     // So many bytes on.
     pub fn moved(self, n: usize) -> Tally
         requires { self.at + n ≤ 65536 }
         ensures { result ≡ moved_tally n self }
     {
-        let mut then = self;
-        then.at += n;
-        then
+        Tally {
+            at: self.at + n,
+            ..self
+        }
     }
 
     // A step, and its label.
@@ -58,23 +46,25 @@ impl Tally {
         let long = !found.step.star && MAX_NAME < found.size();
         let many = MAX_STEPS <= self.steps.saturating_sub(self.first);
         let fault = long.then_some(Refusal::NameTooLong);
-        let mut then = self;
-        then.fault = self
-            .fault
-            .or(fault.or(many.then_some(Refusal::PathTooLong)));
-        then.at = found.end;
-        then.steps += 1;
-        then.labels += usize::from(!found.step.star);
-        then
+        Tally {
+            fault: self
+                .fault
+                .or(fault.or(many.then_some(Refusal::PathTooLong))),
+            at: found.end,
+            steps: self.steps + 1,
+            labels: self.labels + usize::from(!found.step.star),
+            ..self
+        }
     }
 
     // A path begins.
     pub fn path_first(self) -> Tally
         ensures { result ≡ path_first self }
     {
-        let mut then = self;
-        then.first = self.steps;
-        then
+        Tally {
+            first: self.steps,
+            ..self
+        }
     }
 
     // A path has ended.
@@ -82,9 +72,10 @@ impl Tally {
         requires { self.paths ≤ 65536 }
         ensures { result ≡ path_counted self }
     {
-        let mut then = self;
-        then.paths += 1;
-        then
+        Tally {
+            paths: self.paths + 1,
+            ..self
+        }
     }
 
     // A folder's number, which ends there.
@@ -93,12 +84,13 @@ impl Tally {
         ensures { result ≡ number_counted number end self }
     {
         let falls = number <= self.last;
-        let mut then = self;
-        then.fault = self.fault.or(falls.then_some(Refusal::OutOfOrder));
-        then.at = end;
-        then.last = number;
-        then.folders += 1;
-        then
+        Tally {
+            fault: self.fault.or(falls.then_some(Refusal::OutOfOrder)),
+            at: end,
+            last: number,
+            folders: self.folders + 1,
+            ..self
+        }
     }
 
     // The first fault met, or that the tables have no room for all.
