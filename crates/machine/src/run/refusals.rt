@@ -72,7 +72,7 @@ pub fn close_others(a: &[u8], run: &[u8], e: &[u8]) -> Result<(), Refusal>
     if d == 0 {
         return Err(Refusal::NotOneRoot);
     }
-    if !names::same_name(stored_name(a, run, d), e) {
+    if stored_name(a, run, d) != e {
         return Err(Refusal::MismatchedClose);
     }
     Ok(())

@@ -3,7 +3,7 @@ use Rattle.stored.specs.Run.{row_size, run_size, seen_in, matches_at, active_in}
 use Rattle.stored.specs.RunCalls.{permitted}
 use Rattle.stored.proofs.Laws.Bytes.Vectors.{block-and, block-or, block-from_start}
 use Rattle.stored.proofs.Laws.Running.Blocks.{blocks-put}
-use Rattle.machine.proofs.run.steps.store_block.Goals as goal
+use Rattle.machine.proofs.automaton.Automaton.store_block.Goals as goal
 
 pub returns : goal.returns
 unfolding active_in seen_in matches_at row_size run_size permitted
