@@ -24,7 +24,14 @@ use text::refusals::Refusal;
 
 // What an open writes: the new row, the matches, the depth, which was d. `first` is the first label with the name, `state` the state that the
 // walk ends in.
-fn write(automaton: &Automaton, run: &mut [u8], e: &[u8], first: Option<Label>, d: usize, state: usize)
+fn write(
+    automaton: &Automaton,
+    run: &mut [u8],
+    e: &[u8],
+    first: Option<Label>,
+    d: usize,
+    state: usize,
+)
     requires openable { (Openable automaton.now) × ((run_size ≤ length run.old) × ((d < max_depth) × (length e.now ≤ max_name))) }
     requires first_value { (place_of first ≡ first_of automaton.now e.now) × ((d ≡ depth_of run.old) × (state ≡ (open_walk automaton.now run.old e.now).state)) }
     ensures { run.new ≡ open_run automaton.now run.old e.now }

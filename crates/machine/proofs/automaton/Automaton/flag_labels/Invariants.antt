@@ -1,7 +1,6 @@
 use mathlib.Core.Path.{◌≡◌}
 use mathlib.Core.Bool.{◌||◌}
 use Prim.Native.Nat.{ℕ, ◌≤◌}
-use lib.ListN.{length}
 use Rattle.notation.specs.Limits.{max_labels}
 use Rattle.notation.specs.Reads.{label_count}
 use Rattle.stored.specs.Bits.{bit_at}

@@ -1,5 +1,5 @@
 use mathlib.Core.Path.{◌≡◌, ◌∙◌}
-use Prim.Native.Nat.{◌*◌, ◌^◌, ◌%◌, ◌<◌}
+use Prim.Native.Nat.{◌*◌, ◌^◌, ◌%◌}
 use native.Mathlib.Nat.{add-zero}
 use native.Mathlib.Omega.{arith}
 use Rattle.stored.proofs.Laws.Bytes.ByteBits.{power_small}
