@@ -3,7 +3,7 @@
 // `;`: a remark.
 use crate::stored;
 use anyhow::{Context, Result, bail};
-use cases::answers::{Number, YesNo, done, written};
+use cases::answers::{Number, YesNo};
 use cases::lent::Lent;
 use cases::script::{byte, number, split_word};
 use cases::texts::{expand, split_name};
@@ -40,7 +40,7 @@ impl Bench {
     fn read(&mut self, rt: &(impl Print + AllocGlobal), line: &str) -> Result<()> {
         let (name, text) = split_name(line)?;
         let set = expand(rt.alloc(), text)?;
-        let answer = done(read_set(set.as_slice(), self.part.get_mut()));
+        let answer = read_set(set.as_slice(), self.part.get_mut());
         Ok(println!(rt; "{name}: {}", Number(answer))?)
     }
 
@@ -49,7 +49,7 @@ impl Bench {
         let (size, name) = split_word(rest);
         let mut page = [b'.'; 78];
         let out = page.get_mut(..number(size)?).context("past the page")?;
-        match written(write_text(self.part.get(), out)) {
+        match write_text(self.part.get(), out) {
             Ok(length) => println!(rt; "{name}: {length}")?,
             Err(_) => println!(rt; "{name}: short")?,
         }
@@ -92,7 +92,7 @@ fn ask_name(rt: &impl Print, name: &str) -> Result<()> {
 }
 
 fn ask_byte(rt: &impl Print, byte: u8) -> Result<()> {
-    let class = names::class_of(byte);
+    let class = names::class_of(byte) as u8;
     let begins = YesNo(names::begins_name(byte));
     let inside = YesNo(names::in_name(byte));
     Ok(println!(rt; "byte {byte}: class {class}, begins {begins}, inside {inside}")?)

@@ -6,7 +6,9 @@ pub const HASHES: usize = 256;
 
 // Of a label's links: the next label of its name, the parent, the failure link, the length of its word, the next name of its hash, the first
 // label of its name, the next label of its name in a later byte of a mask, and the bits of the steps in its own byte.
-pub const PARENT_IN: usize = WORD_SIZE;
+pub const NEXT_IN: usize = 0;
+
+pub const PARENT_IN: usize = NEXT_IN + WORD_SIZE;
 
 pub const FAIL_IN: usize = PARENT_IN + WORD_SIZE;
 

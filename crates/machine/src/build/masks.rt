@@ -1,10 +1,11 @@
 // The masks: for each step in set order a bit in each of them. And the initial state.
+#![tactic(auto, unfolding(stored::specs::Automaton::automaton_size, stored::specs::Automaton::mask_size, stored::specs::Automaton::masks_at, stored::specs::Automaton::start_at))]
+
 ghost use Rattle.std.specs.Prelude.{◌≡◌, true, ◌+◌, ◌*◌, ◌≤◌, ◌<◌, length};
 ghost use Rattle.stored.specs.Automaton.{mask_size, mask_count, automaton_size, bit};
 ghost use Rattle.stored.specs.Code.Masks.{flagged, axis_mask, flag_role, flag_step, flag_steps, flag_path, with_masks, child_at, rooted, any_rooted, with_start};
 ghost use Rattle.notation.specs.Reads.{step_at, path_count};
 
-use crate::bits::{wide, with_bit};
 use crate::layout::{
     ANYWHERE_MASK, CHILD_MASK, DESCENDANT_MASK, LAST_MASK, MASK_SIZE, MASKS_AT, ROOT_MASK,
     STAR_MASK, START_AT,
@@ -22,7 +23,7 @@ fn flag(part: &mut [u8], on: bool, m: usize, i: usize)
     if on {
         let j = STEP_BITS * m + i;
         let at = MASKS_AT + j / 8;
-        part[at] = with_bit(wide(part[at]), j % 8) as u8;
+        part[at] |= 1 << (j % 8);
     }
 }
 
@@ -30,10 +31,11 @@ fn flag(part: &mut [u8], on: bool, m: usize, i: usize)
 fn axis_mask(first: bool, deep: bool) -> usize
     ensures { (result ≡ axis_mask first deep) × (result < mask_count) }
 {
-    if first {
-        if deep { ANYWHERE_MASK } else { ROOT_MASK }
-    } else {
-        if deep { DESCENDANT_MASK } else { CHILD_MASK }
+    match (first, deep) {
+        (true, true) => ANYWHERE_MASK,
+        (true, false) => ROOT_MASK,
+        (false, true) => DESCENDANT_MASK,
+        (false, false) => CHILD_MASK,
     }
 }
 
@@ -65,10 +67,8 @@ fn flag_steps(part: &mut [u8], from: usize, steps: usize)
     requires { (from < 65536) × (steps < 65536) × (automaton_size ≤ length part.old) }
     ensures { part.new ≡ flag_steps steps from true part.old }
 {
-    let mut k = 0;
-    while k < steps {
+    for k in 0..steps {
         flag_step(part, from + k, k == 0, k + 1 == steps);
-        k += 1;
     }
 }
 
@@ -86,11 +86,8 @@ pub fn write_masks(part: &mut [u8])
     requires { automaton_size ≤ length part.old }
     ensures { part.new ≡ with_masks part.old }
 {
-    let n = reads::paths(part);
-    let mut place = 0;
-    while place < n {
+    for place in 0..reads::paths(part) {
         flag_path(part, place);
-        place += 1;
     }
 }
 
@@ -110,15 +107,8 @@ fn is_rooted(part: &[u8], place: usize) -> bool
 fn start_state(part: &[u8]) -> usize
     ensures { result ≡ bit (any_rooted (path_count part.now) 0 part.now) }
 {
-    let n = reads::paths(part);
-    let mut place = 0;
-    while place < n {
-        if is_rooted(part, place) {
-            return 1;
-        }
-        place += 1;
-    }
-    0
+    let rooted = (0..reads::paths(part)).any(|place| is_rooted(part, place));
+    usize::from(rooted)
 }
 
 // The state of a fresh run.

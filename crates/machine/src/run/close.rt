@@ -10,6 +10,7 @@ ghost use Rattle.stored.specs.RunCalls.{depth_of, close_run};
 
 use crate::layout::MASK_SIZE;
 use crate::run::layout::{ACTIVE_IN, DEPTH_AT, SEEN_IN};
+use crate::run::rows::Run;
 use crate::run::{lent, refusals, row, rows};
 use stored::counters::Counters;
 use text::names::name_form;
@@ -21,7 +22,7 @@ fn close_on(run: &mut [u8])
     requires { (run_size ≤ length run.old) × ((0 < depth_of run.old) × (depth_of run.old ≤ max_depth)) }
     ensures { run.new ≡ close_run run.old }
 {
-    let d = rows::depth_in(run);
+    let d = Run { bytes: run }.depth();
     let at = rows::row_at(d);
     row::clear_from(run, at + SEEN_IN, MASK_SIZE);
     row::clear_from(run, at, ACTIVE_IN);

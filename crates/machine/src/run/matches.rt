@@ -18,11 +18,7 @@ pub fn last_matched(run: &[u8], path: StoredPath) -> bool
     requires { path_top (Some path) < 65536 }
     ensures { result ≡ last_matched run.now (Some path) }
 {
-    bit_in(
-        run,
-        MATCHES_AT,
-        (path.first + path.steps).saturating_sub(1),
-    )
+    bit_in(run, MATCHES_AT, (path.first + path.steps).saturating_sub(1))
 }
 
 pub fn place_matched(a: &[u8], run: &[u8], place: PathPlace) -> bool

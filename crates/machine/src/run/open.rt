@@ -9,13 +9,13 @@ ghost use Rattle.stored.specs.Usable.{Openable, Ready, Usable};
 ghost use Rattle.stored.specs.Run.{run_size};
 ghost use Rattle.stored.specs.RunCalls.{depth_of, with_row, open_run, open_walk};
 ghost use Rattle.stored.specs.Code.OpenSteps.{blank_row};
+ghost use Rattle.machine.specs.Places.{place_of};
 
-use crate::hash::hash_of;
+use crate::automaton::{Automaton, Label};
 use crate::layout::MASK_SIZE;
-use crate::lookup::first_label;
 use crate::run::layout::{DEPTH_AT, ROW_SIZE};
+use crate::run::rows::Run;
 use crate::run::{candidates, lent, refusals, row, rows, steps};
-use crate::walk;
 use stored::counters::Counters;
 use stored::walk::Walk;
 use text::names::name_form;
@@ -31,11 +31,11 @@ fn store(run: &mut [u8], d: usize, e: &[u8], state: usize)
     row::write_row(&mut run[at..end], e, state);
 }
 
-// What an open writes: the new row, the matches, the depth, which was d. `first` is the place of the first label with the name, `state`
+// What an open writes: the new row, the matches, the depth, which was d. `first` is the first label with the name, `state`
 // the state that the walk ends in.
-fn write(a: &[u8], run: &mut [u8], e: &[u8], first: usize, d: usize, state: usize)
+fn write(a: &[u8], run: &mut [u8], e: &[u8], first: Option<Label>, d: usize, state: usize)
     requires openable { (Openable a.now) × ((run_size ≤ length run.old) × ((d < max_depth) × (length e.now ≤ max_name))) }
-    requires first_value { (first ≡ first_of a.now e.now) × ((d ≡ depth_of run.old) × (state ≡ (open_walk a.now run.old e.now).state)) }
+    requires first_value { (place_of first ≡ first_of a.now e.now) × ((d ≡ depth_of run.old) × (state ≡ (open_walk a.now run.old e.now).state)) }
     ensures { run.new ≡ open_run a.now run.old e.now }
 {
     let mut taken = [0; MASK_SIZE];
@@ -50,9 +50,11 @@ fn open_on(a: &[u8], run: &mut [u8], e: &[u8]) -> Walk
     requires { (Ready a.now run.old) × ((depth_of run.old < max_depth) × (length e.now ≤ max_name)) }
     ensures { (result ≡ open_walk a.now run.old e.now) × ((result.moves ≤ suc max_steps) × (run.new ≡ open_run a.now run.old e.now)) }
 {
-    let first = first_label(a, e, hash_of(e));
-    let d = rows::depth_in(run);
-    let walked = walk::walk_from(a, rows::state_in(run, d), first);
+    let automaton = Automaton { bytes: a };
+    let first = automaton.first_label(e);
+    let before = Run { bytes: run };
+    let d = before.depth();
+    let walked = automaton.walk_from(before.state(d), first);
     write(a, run, e, first, d, walked.state);
     walked
 }
@@ -67,7 +69,7 @@ pub fn open_usable(
     requires { (Usable a.now run.old counters.old) × (name_form e.now ≡ true) }
     ensures { Opens a.now run.old counters.old e.now result run.new counters.new }
 {
-    refusals::open_others(run, *counters, e)?;
+    refusals::open_others(&Run { bytes: run }, *counters, e)?;
     let walked = open_on(a, run, e);
     let moves = walked.moves;
     counters.count_open(moves);

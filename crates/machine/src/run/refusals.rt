@@ -1,17 +1,17 @@
 // The refusals of an open and of a close, each in its order.
 #![tactic(auto, unfolding(text::specs::Order::given, text::specs::Order::first, model::specs::Limits::max_depth, model::specs::Limits::max_opens))]
 
-ghost use Rattle.std.specs.Prelude.{◌≡◌, true, ◌≤◌, length};
+ghost use Rattle.std.specs.Prelude.{◌≡◌, true, ◌≤◌};
 ghost use Rattle.text.specs.Answers.{refusal_in};
 ghost use Rattle.text.specs.Names.{name_form};
 ghost use Rattle.text.specs.Order.{given};
-ghost use Rattle.stored.specs.Run.{run_size};
 ghost use Rattle.stored.specs.RunCalls.{depth_of, root_closed, name_conditions, open_others, close_others};
 ghost use Rattle.stored.specs.Asking.{RowName};
 ghost use Rattle.stored.specs.Usable.{Ready};
 
 use crate::run::layout::{MAX_DEPTH, MAX_OPENS, NAME_IN};
 use crate::run::rows;
+use crate::run::rows::Run;
 use stored::counters::Counters;
 use text::names;
 use text::refusals::Refusal;
@@ -38,23 +38,22 @@ fn length_refusal(e: &[u8]) -> Result<(), Refusal>
 }
 
 // The root is closed.
-fn root_closed(run: &[u8], c: Counters) -> bool
-    requires { run_size ≤ length run.now }
+fn root_closed(run: &Run, c: Counters) -> bool
     ensures { result ≡ root_closed run.now c }
 {
-    c.opens != 0 && rows::depth_in(run) == 0
+    c.opens != 0 && run.depth() == 0
 }
 
 // An open's others, of a name of name form: 5, 10, 11, 7.
-pub fn open_others(run: &[u8], c: Counters, e: &[u8]) -> Result<(), Refusal>
-    requires { (run_size ≤ length run.now) × (name_form e.now ≡ true) }
+pub fn open_others(run: &Run, c: Counters, e: &[u8]) -> Result<(), Refusal>
+    requires { name_form e.now ≡ true }
     ensures { refusal_in result ≡ given (open_others run.now c e.now) }
 {
     length_refusal(e)?;
     if root_closed(run, c) {
         return Err(Refusal::NotOneRoot);
     }
-    if MAX_DEPTH <= rows::depth_in(run) {
+    if MAX_DEPTH <= run.depth() {
         return Err(Refusal::TooDeep);
     }
     if MAX_OPENS <= c.opens {
@@ -69,7 +68,7 @@ pub fn close_others(a: &[u8], run: &[u8], e: &[u8]) -> Result<(), Refusal>
     ensures { refusal_in result ≡ given (close_others run.now e.now) }
 {
     length_refusal(e)?;
-    let d = rows::depth_in(run);
+    let d = Run { bytes: run }.depth();
     if d == 0 {
         return Err(Refusal::NotOneRoot);
     }

@@ -10,26 +10,19 @@ ghost use Rattle.stored.specs.RunContracts.{Starts};
 use crate::layout::START_AT;
 use crate::run::layout::{ROWS_AT, RUN_SIZE, STATE_IN};
 use crate::run::lent::too_short;
+use crate::run::row::put_word;
 use crate::shape::automaton_shaped;
 use notation::reads;
 use stored::counters::Counters;
 use text::refusals::Refusal;
-use text::store::{clear, put16};
-
-fn clear_run(run: &mut [u8])
-    requires { run_size ≤ length run.old }
-    ensures { run.new ≡ replicate run_size 0 ++ drop run_size run.old }
-{
-    clear(run, RUN_SIZE);
-}
 
 // A fresh run.
 pub fn start_on(a: &[u8], run: &mut [u8])
     requires { run_size ≤ length run.old }
     ensures { run.new ≡ start_run a.now run.old }
 {
-    clear_run(run);
-    put16(run, ROWS_AT + STATE_IN, reads::word_at(a, START_AT));
+    run[..RUN_SIZE].fill(0);
+    put_word(run, ROWS_AT + STATE_IN, reads::word_at(a, START_AT));
 }
 
 fn start_refusal(a: &[u8], run: &[u8]) -> Result<(), Refusal>

@@ -10,3 +10,4 @@ pub mod AllBelow
 pub mod Ranges
 pub mod Finding
 pub mod Beside
+pub mod Vectors

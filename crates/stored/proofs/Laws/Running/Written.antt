@@ -9,6 +9,7 @@ use Rattle.text.specs.Names.{max_name}
 use Rattle.text.specs.Bytes.{le16, padded}
 use Rattle.notation.proofs.Laws.Fill.Padded.{sets-front, sets-padded, padded-none, length-padded}
 use Rattle.stored.specs.Automaton.{mask_size}
+use Rattle.stored.proofs.Laws.Bytes.Stores.{past}
 use Rattle.stored.specs.Code.OpenSteps.{blank_row}
 use Rattle.stored.specs.Run.{row_size, name_in, state_in, active_in, seen_in}
 
@@ -29,6 +30,12 @@ sets-apart l i j [] y h = refl
 sets-apart l i j (v ∷ x) y h =
     sets-apart (set l i v) (suc i) j x y (omega arith)
     ∙ ap (λ (z : List ℕ). sets z (suc i) x) (set_apart l i v j y (omega arith))
+
+-- what is stored into zeros behind a front is filled up with zeros
+pub fill : (front rest vs : List ℕ) (at n : ℕ) → length front ≡ at → length vs ≤ n → sets (front ++ (replicate n 0 ++ rest)) at vs ≡ front ++ (padded n vs ++ rest)
+fill front rest vs at n e h =
+    past front (replicate n 0 ++ rest) at at 0 vs e (omega arith)
+    ∙ ap (λ (l : List ℕ). front ++ l) (ap (λ (l : List ℕ). sets (l ++ rest) 0 vs) (sym (padded-none n)) ∙ sets-padded n [] vs rest (omega arith))
 
 -- stored into zeros, bytes are filled up with zeros
 filled : (n : ℕ) (vs : List ℕ) → length vs ≤ n → sets (replicate n 0) 0 vs ≡ padded n vs

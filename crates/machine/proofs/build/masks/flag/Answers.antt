@@ -1,27 +1,18 @@
-use Rattle.stored.specs.Code.Masks.{flagged}
-use Rattle.stored.specs.Automaton.{mask_size, masks_at, automaton_size}
+use mathlib.Core.Path.{◌≡◌}
+use Prim.Native.Nat.{◌*◌, ◌^◌, ◌%◌, ◌+◌}
 use native.Mathlib.Omega.{arith}
+use Rattle.stored.proofs.Laws.Bytes.ByteBits.{power_small}
+use Rattle.stored.specs.Automaton.{mask_size, masks_at}
+use Rattle.stored.specs.Bits.{with_bit}
+use Rattle.stored.specs.Code.Masks.{flagged}
 use Rattle.machine.proofs.build.masks.flag.Goals as goal
 
-pub overflow_add-j : goal.overflow_add-j
-unfolding mask_size
-overflow_add-j c = omega arith
-
-pub overflow_add-at : goal.overflow_add-at
-unfolding mask_size
-overflow_add-at c = omega arith
-
-pub bounds-part-at : goal.bounds-part-at
-unfolding mask_size automaton_size
-bounds-part-at c = omega arith
-
-pub bounds-part-at-then-on : goal.bounds-part-at-then-on
-unfolding mask_size automaton_size
-bounds-part-at-then-on c = omega arith
-
 pub returns-then-on : goal.returns-then-on
-unfolding flagged mask_size masks_at
-returns-then-on c = rw (c.if-on.true, c.with_bit.ensures.0, c.wide.ensures.0)
+unfolding flagged with_bit mask_size masks_at
+returns-then-on c =
+    let k = (2048 * c.args.m + c.args.i) % 8 in
+    let e : 1 * 2 ^ k % 256 ≡ 2 ^ k = omega (arith, power_small k (omega arith)) in
+    rw (c.if-on.true, e)
 
 pub returns-else-on : goal.returns-else-on
 unfolding flagged

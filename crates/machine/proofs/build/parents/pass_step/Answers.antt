@@ -42,18 +42,19 @@ entered-state false false at h = h
 
 pub returns-then-step : goal.returns-then-step
 returns-then-step c =
-    let args = c.args in
-    let i = args.i in
-    let at = args.at in
-    let a = args.part.now in
+    let i = c.args.i in
+    let at = c.args.at in
+    let a = c.args.part.now in
+    let step = c.in-Some.step in
     let first = c.starts_path-first.result in
     let on = c.enter-on.result in
-    let h : step_at a i ≡ Some c.in-Some.step = sym c.step_at.ensures ∙ c.in-Some.is in
-    let low : on.paths ≤ at.paths + 1 = rw c.enter-on.ensures (entered-paths first c.in-Some.step.descendant at) in
-    let e = by-star i at a first c.starts_path-first.ensures c.in-Some.step h on c.enter-on.ensures c.if-step.true in (
-      sym (ap (λ (r : Passed). r.bytes) e),
-      (sym (ap (λ (r : Passed). r.place) e), record { searchable = c.requires.0.searchable; paths = omega (arith, low, c.requires.0.paths); state = omega arith }),
-    )
+    let low : on.paths ≤ at.paths + 1 = rw c.enter-on.ensures (entered-paths first step.descendant at) in
+    let e = by-star i at a first c.starts_path-first.ensures step (sym c.in-Some.ensures) on c.enter-on.ensures c.if-step.true in
+    record {
+      bytes = sym (ap (λ (r : Passed). r.bytes) e);
+      place = c.emptied.ensures ∙ sym (ap (λ (r : Passed). r.place) e);
+      sound = rw c.emptied.ensures (record { searchable = c.requires.0.searchable; paths = omega (arith, low, c.requires.0.paths); state = omega arith });
+    }
 
 pub put_word-requires : goal.put_word-requires
 put_word-requires c = (
@@ -61,33 +62,32 @@ put_word-requires c = (
   (rw c.enter-on.ensures (entered-state c.starts_path-first.result c.in-Some.step.descendant c.args.at c.requires.0.state), c.requires.1.1),
 )
 
-pub returns : goal.returns
-returns c =
-    let args = c.args in
-    let i = args.i in
-    let at = args.at in
-    let a = args.part.now in
+pub returns-else-step : goal.returns-else-step
+returns-else-step c =
+    let i = c.args.i in
+    let at = c.args.at in
+    let a = c.args.part.now in
+    let step = c.in-Some.step in
     let first = c.starts_path-first.result in
     let on = c.enter-on.result in
-    let h : step_at a i ≡ Some c.in-Some.step = sym c.step_at.ensures ∙ c.in-Some.is in
-    let low : on.paths ≤ at.paths + 1 = rw c.enter-on.ensures (entered-paths first c.in-Some.step.descendant at) in
-    let e = by-label i at a first c.starts_path-first.ensures c.in-Some.step h on c.enter-on.ensures c.if-step.false in
-    let s = c.put_word.ensures.1.1 in (
-      c.put_word.ensures.0 ∙ sym (ap (λ (r : Passed). r.bytes) e),
-      (
-        c.put_word.ensures.1.0 ∙ sym (ap (λ (r : Passed). r.place) e),
-        record { searchable = s.searchable; paths = omega (arith, low, s.paths, c.requires.0.paths); state = s.state },
-      ),
-    )
+    let low : on.paths ≤ at.paths + 1 = rw c.enter-on.ensures (entered-paths first step.descendant at) in
+    let e = by-label i at a first c.starts_path-first.ensures step (sym c.in-Some.ensures) on c.enter-on.ensures c.if-step.false in
+    let s = c.put_word.ensures.sound in
+    record {
+      bytes = c.put_word.ensures.bytes ∙ sym (ap (λ (r : Passed). r.bytes) e);
+      place = c.put_word.ensures.place ∙ sym (ap (λ (r : Passed). r.place) e);
+      sound = record { searchable = s.searchable; paths = omega (arith, low, s.paths, c.requires.0.paths); state = s.state };
+    }
 
 pub returns-in_default : goal.returns-in_default
 returns-in_default c =
-    let args = c.args in
-    let i = args.i in
-    let at = args.at in
-    let a = args.part.now in
-    let e = missing i at a c.starts_path-first.result c.starts_path-first.ensures (sym c.step_at.ensures ∙ c.in_default.is) in
-    let s = c.requires.0 in (
-      sym (ap (λ (r : Passed). r.bytes) e),
-      (sym (ap (λ (r : Passed). r.place) e), record { searchable = s.searchable; paths = omega (arith, s.paths); state = s.state }),
-    )
+    let i = c.args.i in
+    let at = c.args.at in
+    let a = c.args.part.now in
+    let e = missing i at a c.starts_path-first.result c.starts_path-first.ensures (sym c.in_default.ensures) in
+    let s = c.requires.0 in
+    record {
+      bytes = sym (ap (λ (r : Passed). r.bytes) e);
+      place = sym (ap (λ (r : Passed). r.place) e);
+      sound = record { searchable = s.searchable; paths = omega (arith, s.paths); state = s.state };
+    }

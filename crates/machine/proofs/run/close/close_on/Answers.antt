@@ -26,7 +26,7 @@ pub returns : goal.returns
 unfolding mask_size active_in seen_in
 returns c =
     let R = c.args.run.now in
-    let d = c.depth_in-d in
+    let d = c.depth-d in
     let r = c.row_at-at in
     let fits : r.result + row_size ≤ length c.args.run.now = omega (arith, c.requires.0, r.ensures.1) in
-    closed R c.clear_from.new.row c.clear_from-2.new.row c.put_word.new.part c.clear_from-3.new.row d.result r.result d.ensures.0 r.ensures.0 fits c.clear_from.ensures c.clear_from-2.ensures c.put_word.ensures c.clear_from-3.ensures
+    closed R c.clear_from.new.row c.clear_from-2.new.row c.put_word.new.part c.clear_from-3.new.row d.result r.result d.ensures r.ensures.0 fits c.clear_from.ensures c.clear_from-2.ensures c.put_word.ensures c.clear_from-3.ensures

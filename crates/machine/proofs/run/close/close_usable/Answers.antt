@@ -1,6 +1,6 @@
-use Rattle.std.proofs.Common.{◌≡◌, sym, ◌∙◌, arith}
+use Rattle.std.proofs.Common.{sym, ◌∙◌, arith}
 use borrow.Author.Tests.{eqb-false}
-use Rattle.stored.specs.RunCalls.{close_refusal, depth_of}
+use Rattle.stored.specs.RunCalls.{depth_of}
 use Rattle.stored.proofs.Laws.Shapes.Given.{may-close, close-others}
 use Rattle.stored.proofs.Laws.Shapes.RunShape.{run-shape}
 use Rattle.stored.proofs.Laws.Shapes.CounterShape.{closes-fit}

@@ -7,9 +7,6 @@ use Rattle.stored.proofs.Laws.Running.CallAnswers.{open-not-next, open-accepted}
 use Rattle.machine.proofs.run.open.open_usable.Goals as goal
 use Rattle.machine.proofs.run.open.open_usable.Goals.{In_ok-open_others}
 
-pub open_others-requires : goal.open_others-requires
-open_others-requires c = (c.requires.0.ready.run_length, c.requires.1)
-
 pub returns-in_err-open_others : goal.returns-in_err-open_others
 returns-in_err-open_others c = open-not-next _ _ _ _ c.from_residual.result c.in_err-open_others.field-0.0 c.from_residual.ensures.1 c.in_err-open_others.ensures c.requires.0
 
