@@ -1,7 +1,7 @@
--- Demand 1 of the letter, as one statement: whatever a public call is lent, it brings its answer or one of fifteen numbered refusals, each
+-- Every public call, as one statement: whatever it is lent, it brings its answer or one of fifteen numbered refusals, each
 -- exactly where its condition holds and no earlier one of the call's order does; and what a refused call leaves. Of each call the contract
 -- alone is used.
-use Rattle.std.specs.Prelude.{ℕ, ◌≤◌, ◌<◌, ◌≡◌, Bool, true, Result, ◌↔◌, ◌⊎◌, List, [], ◌∷◌, length}
+use Rattle.std.specs.Prelude.{ℕ, ◌≤◌, ◌<◌, ◌≡◌, Bool, true, Result, ◌↔◌, ◌⊎◌, List, [], length}
 use Rattle.std.specs.Borrow.{Bor}
 use Rattle.text.specs.Names.{Name}
 use Rattle.notation.specs.Sets.{FolderSet}
@@ -9,7 +9,6 @@ use Rattle.text.specs.declared.refusals.Refusal.{Refusal}
 use Rattle.text.specs.declared.refusals.Refusal.TheVariants.{ShortBuffer, BadShape, RepeatedAttribute}
 use Rattle.text.specs.Refusals.{number_of}
 use Rattle.text.specs.Answers.{number_said, says}
-use Rattle.text.specs.Written.{written_says}
 use Rattle.notation.specs.Judged.{RefusedText}
 use Rattle.notation.specs.Accepted.{Accepted}
 use Rattle.notation.specs.Layout.{set_size}
@@ -18,8 +17,7 @@ use Rattle.notation.specs.ReadSet.{ReadSet}
 use Rattle.notation.specs.WriteText.{text_conditions, WriteText}
 use Rattle.notation.specs.declared.PathPlace.{PathPlace}
 use Rattle.notation.specs.declared.FolderNumber.{FolderNumber}
-use Rattle.text.specs.declared.written.Written.{Written}
-use Rattle.text.specs.Order.{Condition, gives, Unmet, GivenBy, AnswersBy}
+use Rattle.text.specs.Order.{Condition, Unmet, GivenBy, AnswersBy}
 use Rattle.stored.specs.Automaton.{automaton_size}
 use Rattle.stored.specs.Build.{Built, SetWritten, write_conditions}
 use Rattle.stored.specs.RunCalls.{start_conditions, open_conditions, close_conditions, start_run, no_counters}
@@ -31,15 +29,13 @@ use Rattle.filing.specs.Filing.{refused, filed}
 use Rattle.filing.specs.ReportRefusals.{ReportGives, Files}
 use Rattle.filing.specs.FiledReport.{RepeatsAttribute}
 use Rattle.filing.specs.Listed.{listing_conditions, refused_conditions, ListingWritten, RefusedWritten}
-use Rattle.filing.specs.Filer.{too_small, Prints}
-
--- with any number but 0 this is so
-abbrev pub IfRefused : ℕ → Type 0 → Type 0
-IfRefused number left = (number ≡ 0 → ⊥) → left
+use Rattle.filing.specs.Limits.{listing_size}
+use Rattle.filing.specs.Shown.{IfRefused, RefusesShort}
+use Rattle.filing.specs.Filer.{Prints}
 
 -- what a call that writes a text answers by its order, and that a refusal changes nothing
-abbrev pub WrittenBy : List Condition → List ℕ → Written → List ℕ → Type 0
-WrittenBy order before answer after = AnswersBy order (written_says answer) × IfRefused (number_said (written_says answer)) (after ≡ before)
+abbrev pub WrittenBy : List Condition → List ℕ → Result ℕ Refusal → List ℕ → Type 0
+WrittenBy order before answer after = AnswersBy order (says answer) × IfRefused (number_said (says answer)) (after ≡ before)
 
 -- a set's text is refused: 1 for a buffer below this size, then for the text's own fault
 pub data SetRefused (size : ℕ) (text before : List ℕ) (r : Refusal) : Type 0 where
@@ -70,9 +66,9 @@ pub record Demand1 : Type 0 where
   -- a set is read, built, and written back
   pub reads : (text before : List ℕ) (answer : ℕ) (after : List ℕ) → ReadSet text before answer after → SetJudged set_size text before answer after
   pub builds : (text before : List ℕ) (answer : ℕ) (after : List ℕ) → Built text before answer after → SetJudged automaton_size text before answer after
-  pub writes_text : (part before : List ℕ) (answer : Written) (after : List ℕ) → WriteText part before answer after
+  pub writes_text : (part before : List ℕ) (answer : Result ℕ Refusal) (after : List ℕ) → WriteText part before answer after
       → WrittenBy (text_conditions part before) before answer after
-  pub writes_set : (a before : List ℕ) (answer : Written) (after : List ℕ) → SetWritten a before answer after
+  pub writes_set : (a before : List ℕ) (answer : Result ℕ Refusal) (after : List ℕ) → SetWritten a before answer after
       → WrittenBy (write_conditions a before) before answer after
   -- a run is started; elements are opened and closed
   pub starts : (a run : List ℕ) (c : Counters) (answer : ℕ) (run' : List ℕ) (c' : Counters) → Starts a run c answer run' c'
@@ -94,9 +90,9 @@ pub record Demand1 : Type 0 where
   -- a report is filed, listed, and both as one call
   pub files : (a run : List ℕ) (c : Counters) (report : List ℕ) (answer : ℕ) (run' : List ℕ) (c' : Counters) → Files a run c report answer run' c'
       → ReportJudged a run c report answer run' c'
-  pub lists : (a run : List ℕ) (c : Counters) (before : List ℕ) (answer : Written) (after : List ℕ) → ListingWritten a run c before answer after
+  pub lists : (a run : List ℕ) (c : Counters) (before : List ℕ) (answer : Result ℕ Refusal) (after : List ℕ) → ListingWritten a run c before answer after
       → WrittenBy (listing_conditions a run c before) before answer after
-  pub lists_refusal : (n : ℕ) (before : List ℕ) (answer : Written) (after : List ℕ) → RefusedWritten n before answer after
+  pub lists_refusal : (n : ℕ) (before : List ℕ) (answer : Result ℕ Refusal) (after : List ℕ) → RefusedWritten n before answer after
       → WrittenBy (refused_conditions before) before answer after
-  pub prints : (text report a run out : List ℕ) (answer : Written) (a' run' out' : List ℕ) → Prints text report a run out answer a' run' out'
-      → AnswersBy (gives (too_small a run out) ShortBuffer ∷ []) (written_says answer) × IfRefused (number_said (written_says answer)) ((a' ≡ a) × ((run' ≡ run) × (out' ≡ out)))
+  pub prints : (text report a run out : List ℕ) (answer : Result ℕ Refusal) (a' run' out' : List ℕ) → Prints text report a run out answer a' run' out'
+      → RefusesShort listing_size a run out answer a' run' out'

@@ -1,4 +1,4 @@
--- Demand 2 of the call itself: what filing a report's bytes with the automaton of an accepted set answers and leaves, and what the asking
+-- Filing by XPath 1.0, of the call itself: what filing a report's bytes with the automaton of an accepted set answers and leaves, and what the asking
 -- calls then answer, says of the report's document.
 use Rattle.std.specs.Prelude.{ℕ, ◌≤◌, ◌<◌, ◌≡◌, true, ◌↔◌, length, drop}
 use mathlib.Core.List.{List, [], ◌∷◌, ◌++◌, map, Memᴰ}
@@ -56,11 +56,11 @@ pub record SameFolders (s : FolderSet) (answer : ℕ) (a run' : List ℕ) (other
 abbrev pub report_numbers : List ℕ
 report_numbers = 0 ∷ map number_of (TooLarge ∷ NameTooLong ∷ InvalidByte ∷ SyntaxError ∷ NotOneRoot ∷ TooDeep ∷ MismatchedClose ∷ RepeatedAttribute ∷ [])
 
--- some tag of the report repeats an attribute's name, and it is neither too large nor has a byte that is not listed (paper 02: doubled)
+-- some tag of the report repeats an attribute's name, and it is neither too large nor has a byte that is not listed
 abbrev pub RepeatsAttribute : List ℕ → Type 0
 RepeatsAttribute report = (length report ≤ max_report_bytes) × (every listed report ≡ true) × ((run : RunOfTokens report) × Repeats run.tokens)
 
--- all of demand 2, of a set, its automaton, the bytes lent, and what the call answers and leaves
+-- all of it, of a set, its automaton, the bytes lent, and what the call answers and leaves
 pub record Demand2Bytes (s : FolderSet) (a report run : List ℕ) (answer : ℕ) (run' : List ℕ) (c' : Counters) : Type 0 where
   -- refused with a number exactly when its condition holds and no earlier one does, filed exactly when none does
   pub refusals : (r : Refusal) → (answer ≡ number_of r) ↔ Refused s report r

@@ -1,4 +1,4 @@
--- Filing a report (paper 01: Reports, Service codes): its tokens in order, on a machine over any kind of state. The shared machine is one
+-- Filing a report: its tokens in order, on a machine over any kind of state. The shared machine is one
 -- such, and what is stored of it is another (ReportRefusals).
 use Rattle.std.specs.Prelude.{ℕ, ◌<◌, ◌≡◌, Bool, true, false, not, ◌&&◌, ◌||◌, ◌⊎◌, List, [], ◌∷◌, ◌++◌, eqb, length}
 use Rattle.std.proofs.Math.Option.{Option, none, some}
@@ -100,7 +100,7 @@ Decided (reason holds r ∷ later) rest o = (holds × (o ≡ refused r)) ⊎ ((h
 abbrev pub OutcomeOf : {S : Type 0} → Machine S → S → List Reason → List ℕ → Outcome S → Type 0
 OutcomeOf k s before report = Decided (before ++ report_order report) (λ o. (run : RunOfTokens report) × (file_tokens k s run.tokens ≡ o))
 
--- the shared machine of a set (paper 01: The shared machine)
+-- the shared machine of a set
 abbrev pub shared_machine : FolderSet → Machine State
 shared_machine set = record {
   open_order = calls.open_order;

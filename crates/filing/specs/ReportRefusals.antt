@@ -1,4 +1,4 @@
--- What filing a report answers and leaves, with any automaton, run and counters, by what is stored (paper 01: Service codes). Every report
+-- What filing a report answers and leaves, with any automaton, run and counters, by what is stored. Every report
 -- has exactly one outcome.
 use Rattle.std.specs.Prelude.{ℕ, ◌≡◌, Bool, true, ◌||◌, cond, List, map, eqb}
 use Rattle.text.specs.declared.refusals.Refusal.{Refusal}

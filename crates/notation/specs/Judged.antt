@@ -1,4 +1,4 @@
--- How a set's text is judged (paper 01: service codes). Every text has exactly one verdict.
+-- How a set's text is judged. Every text has exactly one verdict.
 use Rattle.std.specs.Prelude.{ℕ, ◌≡◌, true, false, List, [], ◌∷◌}
 use Rattle.text.specs.declared.refusals.Refusal.{Refusal}
 use Rattle.text.specs.declared.refusals.Refusal.TheVariants.{TooLarge, MalformedSet, OverCapacity}

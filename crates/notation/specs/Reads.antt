@@ -98,12 +98,15 @@ abbrev pub stored_step : Step → StoredStep
 stored_step x = record { descendant = is_descendant (axis_of x); star = is_star (test_of x) }
 
 -- the lowest bit is 1 for `//`, the next for `*`
+abbrev pub kind_of : StoredStep → ℕ
+kind_of x = cond x.descendant 1 0 + star_kind * cond x.star 1 0
+
+abbrev pub step_of : ℕ → StoredStep
+step_of kind = record { descendant = eqb (kind % 2) 1; star = eqb (kind / star_kind % 2) 1 }
+
 unfoldable pub step_at : List ℕ → ℕ → Option StoredStep
 step_at part i =
-    let kind = get_or part (steps_at + i) 0 in
-    cond (present part (step_count part) (max_paths * max_steps) i)
-    (Some (record { descendant = eqb (kind % 2) 1; star = eqb (kind / star_kind % 2) 1 }))
-    None
+    cond (present part (step_count part) (max_paths * max_steps) i) (Some (step_of (get_or part (steps_at + i) 0))) None
 
 -- of label i: where in the text it begins, how long it is, and its step
 abbrev pub label_begin : List ℕ → ℕ → ℕ

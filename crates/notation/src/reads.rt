@@ -1,7 +1,8 @@
 // What is stored of a read set: cheap calls on any part of a buffer that keeps one. They answer by what is stored.
-ghost use Rattle.std.specs.Prelude.{◌≡◌, true, ◌-◌, ◌<◌, get_or};
+ghost use Rattle.std.specs.Prelude.{◌≡◌, true, ◌-◌, ◌<◌, ◌≤◌, length, get_or};
 ghost use Rattle.notation.specs.Limits.{max_paths};
-ghost use Rattle.notation.specs.Reads.{word16, text_len, folder_count, path_count, step_count, label_count, present, paths_end, folder_at, path_at, step_at, label_at, text_slice, text_of, path_text, label_name, folder_of, folder_top, path_top, label_top};
+ghost use Rattle.notation.specs.Layout.{set_size};
+ghost use Rattle.notation.specs.Reads.{word16, text_len, folder_count, path_count, step_count, label_count, present, paths_end, folder_at, path_at, kind_of, step_of, step_at, label_at, text_slice, text_of, path_text, label_name, folder_of, folder_top, path_top, label_top};
 
 use crate::layout::{
     FOLDER_COUNT_AT, FOLDER_FIRST_IN, FOLDER_SIZE, FOLDERS_AT, LABEL_COUNT_AT, LABEL_LENGTH_IN,
@@ -38,6 +39,24 @@ pub struct StoredStep {
     pub star: bool,
 }
 
+impl StoredStep {
+    // The byte of a step in its table, and back.
+    pub fn kind(self) -> u8
+        ensures { result ≡ kind_of self }
+    {
+        u8::from(self.descendant) + STAR_KIND * u8::from(self.star)
+    }
+
+    pub fn of_kind(kind: u8) -> StoredStep
+        ensures { result ≡ step_of kind }
+    {
+        StoredStep {
+            descendant: kind % 2 == 1,
+            star: kind / STAR_KIND % 2 == 1,
+        }
+    }
+}
+
 #[derive(Clone, Copy)]
 pub struct StoredLabel {
     // Where in the set's text it stands.
@@ -50,11 +69,7 @@ pub struct StoredLabel {
 pub fn byte_at(part: &[u8], i: usize) -> usize
     ensures { (result ≡ get_or part.now i 0) × (result < 256) }
 {
-    if i < part.len() {
-        usize::from(part[i])
-    } else {
-        0
-    }
+    part.get(i).map_or(0, |byte| usize::from(*byte))
 }
 
 // A number of two bytes, the lower first.
@@ -101,7 +116,8 @@ pub fn labels(part: &[u8]) -> usize
 
 // The part is whole, and entry `i` is there.
 fn has(part: &[u8], count: usize, capacity: usize, i: usize) -> bool
-    ensures { (result ≡ present part.now count capacity i) × (result ≡ true → i < capacity) }
+    ensures value { result ≡ present part.now count capacity i }
+    ensures within { result ≡ true → (i < capacity) × (set_size ≤ length part.now) }
 {
     SET_SIZE <= part.len() && i < count && i < capacity
 }
@@ -156,11 +172,7 @@ pub fn step_at(part: &[u8], i: usize) -> Option<StoredStep>
     if !has(part, steps(part), MAX_ALL_STEPS, i) {
         return None;
     }
-    let kind = byte_at(part, STEPS_AT + i);
-    Some(StoredStep {
-        descendant: kind % 2 == 1,
-        star: kind / STAR_KIND % 2 == 1,
-    })
+    Some(StoredStep::of_kind(part[STEPS_AT + i]))
 }
 
 pub fn label_at(part: &[u8], i: usize) -> Option<StoredLabel>

@@ -1,11 +1,12 @@
 -- The class sheet of any automaton and run, by what is stored, and what the call that writes it promises. Rows go by path place: each matched
 -- place once, with the number of the last folder whose first path is not after it.
+use Rattle.std.specs.Prelude.{Result}
+use Rattle.text.specs.declared.refusals.Refusal.{Refusal}
 use Rattle.std.specs.Prelude.{ℕ, zero, suc, not, ◌&&◌, ◌||◌, cond, List, [], ◌∷◌, map, leb, ltb, length, Option, Some, None}
 use Rattle.text.specs.Bytes.{joined}
 use Rattle.text.specs.declared.refusals.Refusal.TheVariants.{ShortBuffer, BadShape}
 use Rattle.text.specs.Order.{Condition, gives}
 use Rattle.text.specs.Written.{TextWritten}
-use Rattle.text.specs.declared.written.Written.{Written}
 use Rattle.notation.specs.Limits.{max_paths}
 use Rattle.notation.specs.declared.reads.StoredFolder.{StoredFolder}
 use Rattle.model.specs.Folders.{count_from}
@@ -53,5 +54,5 @@ sheet_conditions a run out =
     gives (too_short a run || ltb (length out) sheet_size) ShortBuffer ∷ gives (not (automaton_shaped a && run_shaped a run)) BadShape ∷ []
 
 -- the sheet is written and its length answered, and bytes past it stay; or it is refused, and nothing is changed
-abbrev pub SheetWritten : List ℕ → List ℕ → List ℕ → Written → List ℕ → Type 0
+abbrev pub SheetWritten : List ℕ → List ℕ → List ℕ → Result ℕ Refusal → List ℕ → Type 0
 SheetWritten a run before answer after = TextWritten (sheet_conditions a run before) (sheet_in a run) before answer after

@@ -1,5 +1,5 @@
 -- What the calls that build an automaton and write its set back promise.
-use Rattle.std.specs.Prelude.{ℕ, ◌≤◌, ◌<◌, ◌≡◌, not, ◌||◌, List, [], ◌∷◌, ◌++◌, ltb, length, drop}
+use Rattle.std.specs.Prelude.{ℕ, ◌≤◌, ◌<◌, ◌≡◌, not, ◌||◌, List, [], ◌∷◌, ◌++◌, Result, ltb, length, drop}
 use Rattle.notation.specs.Limits.{max_set_bytes}
 use Rattle.notation.specs.Judged.{Verdict, refuses, accepts, Judged, verdict_number}
 use Rattle.notation.specs.Reads.{text_of}
@@ -9,7 +9,7 @@ use Rattle.text.specs.Written.{TextWritten}
 use Rattle.text.specs.Order.{Condition, gives}
 use Rattle.stored.specs.Automaton.{automaton_of, automaton_size}
 use Rattle.stored.specs.Shape.{automaton_shaped}
-use Rattle.text.specs.declared.written.Written.{Written}
+use Rattle.text.specs.declared.refusals.Refusal.{Refusal}
 
 -- an accepted text fills the buffer with the automaton of its set; a refusal changes nothing
 abbrev pub built_into : Verdict → List ℕ → List ℕ
@@ -27,5 +27,5 @@ write_conditions a out =
     gives (ltb (length a) automaton_size || ltb (length out) max_set_bytes) ShortBuffer ∷ gives (not (automaton_shaped a)) BadShape ∷ []
 
 -- the stored set's text is written
-abbrev pub SetWritten : List ℕ → List ℕ → Written → List ℕ → Type 0
+abbrev pub SetWritten : List ℕ → List ℕ → Result ℕ Refusal → List ℕ → Type 0
 SetWritten a before answer after = TextWritten (write_conditions a before) (text_of a) before answer after

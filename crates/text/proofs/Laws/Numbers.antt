@@ -5,7 +5,10 @@ use mathlib.Core.Path.{◌≡◌, refl, sym, ap, ◌∙◌}
 use mathlib.Core.Logic.{◌↔◌}
 use mathlib.Core.List.{List, [], ◌∷◌}
 use lib.ListN.{get_or}
-use Rattle.text.proofs.Laws.Bytes.Table.{values, same_entries}
+use lib.Dec.{eqb}
+use borrow.Author.Tests.{eqb-true}
+use mathlib.Core.Bool.{true}
+use Rattle.std.proofs.lemmas.Bool.{agree_below_at}
 use Rattle.text.specs.declared.refusals.Refusal.{Refusal}
 use Rattle.text.specs.declared.refusals.Refusal.TheVariants.{ShortBuffer, TooLarge, MalformedSet, OutOfOrder, NameTooLong, PathTooLong, OverCapacity, InvalidByte, SyntaxError, NotOneRoot, TooDeep, MismatchedClose, NotFound, BadShape, RepeatedAttribute}
 use Rattle.text.specs.Refusals.{number_of}
@@ -53,8 +56,8 @@ number-within BadShape = (omega arith, omega arith)
 number-within RepeatedAttribute = (omega arith, omega arith)
 
 number_at : (k : ℕ) → k < 15 → number_of (get_or by_number (suc k) ShortBuffer) ≡ suc k
-unfolding by_number values
-number_at k h = same_entries (λ (n : ℕ). number_of (get_or by_number (suc n) ShortBuffer)) suc 15 refl k h
+unfolding by_number
+number_at k h = eqb-true _ (suc k) (agree_below_at (λ n. eqb (number_of (get_or by_number (suc n) ShortBuffer)) (suc n)) (λ n. true) 15 k refl h)
 
 refusal-of : (n : ℕ) → (1 ≤ n) × (n ≤ 15) → (r : Refusal) × (number_of r ≡ n)
 refusal-of zero h = absurd (omega arith)

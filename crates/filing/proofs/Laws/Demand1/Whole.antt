@@ -1,49 +1,43 @@
--- Demand 1.
+-- Every public call, of any bytes.
 use Prim.Native.Nat.{ℕ}
 use mathlib.Core.Path.{◌≡◌, refl, sym, ap, ◌∙◌, subst}
-use mathlib.Core.Bool.{Bool, true, false, cond}
+use mathlib.Core.Bool.{true, cond}
 use mathlib.Core.Logic.{◌↔◌, ◌⊎◌, inl, inr}
-use mathlib.Core.List.{List, [], ◌∷◌}
-use lib.ListN.{length}
+use mathlib.Core.List.{List}
 use borrow.Author.Tests.{ne_eqb}
 use Rattle.text.specs.declared.refusals.Refusal.{Refusal}
 use Rattle.text.specs.declared.refusals.Refusal.TheVariants.{ShortBuffer, BadShape, RepeatedAttribute}
 use Rattle.text.specs.Refusals.{number_of}
-use Rattle.text.specs.Answers.{value, number_said, says}
+use Rattle.text.specs.Answers.{says}
 use Rattle.notation.specs.Layout.{set_size}
 use Rattle.notation.specs.Reads.{text_of, path_at, folder_of}
 use Rattle.notation.specs.ReadSet.{read_into}
 use Rattle.notation.specs.WriteText.{text_conditions}
 use Rattle.text.proofs.Laws.Numbers.{one-refusal, fifteen-numbers}
-use Rattle.text.specs.Order.{gives, Unmet, given, AnswersBy}
-use Rattle.text.proofs.Laws.Tests.{cases}
-use Rattle.text.proofs.Laws.Order.{answers_by, given-none, given-cons}
+use Rattle.text.specs.Order.{Unmet}
+use Rattle.text.proofs.Laws.Order.{answers_by}
 use Rattle.stored.specs.Automaton.{automaton_size}
-use Rattle.text.specs.Written.{written_says}
 use Rattle.stored.specs.Build.{built_into, write_conditions}
 use Rattle.stored.specs.RunCalls.{start_conditions, start_refusal, start_run, no_counters, open_conditions, open_refusal, open_walk, close_conditions, close_refusal}
 use Rattle.stored.specs.Asking.{ask_conditions, ask_refusal, has_path, has_folder, has_step, has_depth, ask_path, ask_folder, ask_step, ask_prefix, name_refusal}
 use Rattle.stored.specs.Demand3.{Left, started}
 use Rattle.stored.proofs.Laws.Running.OpenName.{no_name}
 use Rattle.stored.specs.declared.counters.Counters.{Counters}
-use Rattle.text.specs.declared.written.Written.{Written}
 use Rattle.filing.specs.Filing.{Outcome, refused, filed, number_given}
 use Rattle.filing.specs.ReportRefusals.{ReportGives, of_lent, left_by, Files}
 use Rattle.filing.specs.FiledReport.{RepeatsAttribute}
 use Rattle.filing.specs.Listing.{refused_line}
 use Rattle.filing.specs.Listed.{listing_conditions, listing_in, refused_conditions}
-use Rattle.filing.specs.Filer.{too_small, Prints}
+use Rattle.filing.specs.Limits.{listing_size}
+use Rattle.filing.specs.Printed.{PrintedFor}
 use Rattle.filing.specs.Demand1.{ReportJudged, Demand1}
 use Rattle.filing.proofs.Laws.Filing.FilingParts.{given-refused, given-filed}
 use Rattle.filing.proofs.Laws.Filing.FilingOrder.{report-only}
 use Rattle.filing.proofs.Laws.Filing.FilingRepeats.{repeats-given}
-use Rattle.filing.proofs.Laws.Listing.PrintedText.{printed-text-some}
+use Rattle.filing.proofs.Laws.Listing.PrintedText.{listing-total}
+use Rattle.filing.proofs.Laws.Demand1.Shown.{printed-by}
 use Rattle.filing.proofs.Laws.Demand1.Sets.{set-judged}
 use Rattle.filing.proofs.Laws.Demand1.Calls.{given_is, kept, some-given, some-said, written-by}
-
--- one condition alone
-alone : (b : Bool) (r : Refusal) → given (gives b r ∷ []) ≡ cond b (number_of r) 0
-alone b r = given-cons b r [] ∙ rw given-none
 
 -- a report
 module _ (a run : List ℕ) (c : Counters) (report : List ℕ) (answer : ℕ) (run' : List ℕ) (c' : Counters) (f : Files a run c report answer run' c') where
@@ -92,20 +86,6 @@ module _ (a run : List ℕ) (c : Counters) (report : List ℕ) (answer : ℕ) (r
     fresh = left-fresh;
   }
 
--- the program's one call
-module _ (text report a run out : List ℕ) (answer : Written) (a' run' out' : List ℕ) (p : Prints text report a run out answer a' run' out') where
-  printed-says : too_small a run out ≡ false → (n : ℕ) × (written_says answer ≡ value n)
-  printed-says h = let (bytes, t) = printed-text-some text report in (length bytes, (p.printed h bytes t).answers)
-
-  print-answers : AnswersBy (gives (too_small a run out) ShortBuffer ∷ []) (written_says answer)
-  print-answers =
-      cases (too_small a run out)
-      (λ y. answers_by (gives (too_small a run out) ShortBuffer ∷ []) 0 (written_says answer) ((p.short y).0 ∙ rw (alone (too_small a run out) ShortBuffer, y)))
-      (λ n. let (k, e) = printed-says n in answers_by (gives (too_small a run out) ShortBuffer ∷ []) k (written_says answer) (e ∙ rw (alone (too_small a run out) ShortBuffer, n)))
-
-  print-left : (number_said (written_says answer) ≡ 0 → ⊥) → (a' ≡ a) × ((run' ≡ run) × (out' ≡ out))
-  print-left h = cases (too_small a run out) (λ y. (p.short y).1) (λ n. absurd (h (ap number_said (printed-says n).1)))
-
 pub demand1 : Demand1
 unfolding start_refusal open_refusal close_refusal ask_refusal ask_path ask_folder ask_step ask_prefix name_refusal
 demand1 = record {
@@ -136,5 +116,5 @@ demand1 = record {
   files = report-judged;
   lists = λ a run c before answer after w. written-by (listing_conditions a run c before) (listing_in a run c) before answer after w;
   lists_refusal = λ n before answer after w. written-by (refused_conditions before) (refused_line n) before answer after w;
-  prints = λ text report a run out answer a' run' out' p. (print-answers text report a run out answer a' run' out' p, print-left text report a run out answer a' run' out' p);
+  prints = printed-by listing_size PrintedFor listing-total;
 }

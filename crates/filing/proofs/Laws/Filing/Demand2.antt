@@ -1,4 +1,4 @@
--- Demand 2, whole: of every set, an accepted one too, and of all bytes.
+-- Filing by XPath 1.0, whole: of every set, an accepted one too, and of all bytes.
 use Prim.Native.Nat.{ℕ, ◌≤◌}
 use mathlib.Core.Path.{◌≡◌, refl, sym, ap, ◌∙◌, subst}
 use mathlib.Core.Logic.{◌↔◌}

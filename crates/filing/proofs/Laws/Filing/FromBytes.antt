@@ -1,4 +1,4 @@
--- Demand 2 of the call itself: what it answers and leaves, and what is then asked, by the report's document.
+-- Filing by XPath 1.0, of the call itself: what it answers and leaves, and what is then asked, by the report's document.
 use Prim.Native.Nat.{ℕ, ◌≤◌, ◌<◌}
 use mathlib.Core.Path.{◌≡◌, refl, sym, ap, ◌∙◌, subst}
 use mathlib.Core.Bool.{Bool, true}

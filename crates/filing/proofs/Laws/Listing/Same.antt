@@ -9,6 +9,7 @@ use mathlib.Core.List.{List, [], ◌∷◌, ◌++◌, append_assoc}
 use lib.ListN.{length, get_or, take, length-append, get_or-append}
 use lib.Seq.{get_or-append-add}
 use Rattle.notation.specs.Sets.{Path, folder, FolderSet, folder_number, folder_paths}
+use Rattle.text.specs.Bytes.{joined}
 use Rattle.text.specs.Lists.{non_empty, any}
 use Rattle.notation.specs.Form.{paths_of}
 use Rattle.notation.specs.Print.{print_path, print_paths, print_folder}
@@ -48,7 +49,7 @@ module _ (a run : List ℕ) (matched : ℕ → Bool) where
 
   paths-same : (first : ℕ) (ps : List Path) → PlacesSame a run matched first ps
       → paths_listed a run (count_from first (length ps)) ≡ print_paths (matched_paths matched first ps)
-  unfolding paths_listed count_from matched_paths print_paths
+  unfolding joined count_from matched_paths print_paths
   paths-same first [] h = refl
   paths-same first (p ∷ ps) h =
       let x = here first p ps h in
@@ -75,7 +76,7 @@ module _ (a run : List ℕ) (matched : ℕ → Bool) where
   folders-same : (i first : ℕ) (fs : FolderSet)
       → ((j : ℕ) → j < length fs → folder_listed a run (i + j) ≡ line_of (folder_number (get_or fs j no_folder)) (matched_paths matched (first + paths_before fs j) (folder_paths (get_or fs j no_folder))))
       → folders_listed a run (count_from i (length fs)) ≡ lines_from matched first fs
-  unfolding folders_listed count_from lines_from paths_of
+  unfolding joined count_from lines_from paths_of
   folders-same i first [] h = refl
   folders-same i first (folder n ps ∷ fs) h =
       let x : folder_listed a run i ≡ line_of n (matched_paths matched first ps) = rw (add-zero i, add-zero first) at (h 0 (omega arith)) in

@@ -8,15 +8,15 @@ use Rattle.notation.proofs.reads.folder_at.Goals as goal
 
 pub returns-then-not-has : goal.returns-then-not-has
 unfolding folder_at max_paths
-returns-then-not-has c = (rw (← c.folders.ensures.0, ← c.has.ensures.0, c.if-not-has.true), lit< tt)
+returns-then-not-has c = (rw (← c.folders.ensures.0, ← c.has.ensures.value, c.if-not-has.true), lit< tt)
 
 pub paths_end-requires : goal.paths_end-requires
 unfolding max_paths
-paths_end-requires c = c.has.ensures.1 c.if-not-has.false
+paths_end-requires c = (c.has.ensures.within c.if-not-has.false).0
 
 pub returns : goal.returns
 unfolding folder_at max_paths folders_at folder_size
 returns c = (
-  rw (← c.folders.ensures.0, ← c.has.ensures.0, c.if-not-has.false) (rw (c.saturating_sub.ensures, c.paths_end.ensures.0, c.word_at.ensures.0, c.word_at-first.ensures.0)),
+  rw (← c.folders.ensures.0, ← c.has.ensures.value, c.if-not-has.false) (rw (c.saturating_sub.ensures, c.paths_end.ensures.0, c.word_at.ensures.0, c.word_at-first.ensures.0)),
   omega arith,
 )

@@ -8,11 +8,11 @@ use Rattle.notation.proofs.reads.path_at.Goals as goal
 
 pub returns-then-not-has : goal.returns-then-not-has
 unfolding path_at max_paths
-returns-then-not-has c = (rw (← c.paths.ensures.0, ← c.has.ensures.0, c.if-not-has.true), lit< tt)
+returns-then-not-has c = (rw (← c.paths.ensures.0, ← c.has.ensures.value, c.if-not-has.true), lit< tt)
 
 pub returns : goal.returns
 unfolding path_at max_paths paths_at path_size
 returns c = (
-  rw (← c.paths.ensures.0, ← c.has.ensures.0, c.if-not-has.false) (rw (c.word_at-4.ensures.0, c.word_at-3.ensures.0, c.word_at-2.ensures.0, c.word_at.ensures.0)),
+  rw (← c.paths.ensures.0, ← c.has.ensures.value, c.if-not-has.false) (rw (c.word_at-4.ensures.0, c.word_at-3.ensures.0, c.word_at-2.ensures.0, c.word_at.ensures.0)),
   omega arith,
 )
