@@ -6,8 +6,8 @@ ghost use Rattle.model.specs.Limits.{max_depth};
 ghost use Rattle.stored.specs.Run.{row_at, row_size, run_size};
 ghost use Rattle.stored.specs.RunCalls.{depth_of, name_length, state_at};
 
-use crate::labels::word;
 use crate::run::layout::{DEPTH_AT, ROW_SIZE, ROWS_AT, STATE_IN};
+use crate::words::word;
 use notation::reads;
 use std::marker::Model;
 
