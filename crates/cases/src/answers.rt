@@ -75,7 +75,11 @@ fn refusal_of(number: u8) -> Refusal {
 }
 
 pub fn done(refusal: u8) -> Result<(), Refusal> {
-    if refusal == 0 { Ok(()) } else { Err(refusal_of(refusal)) }
+    if refusal == 0 {
+        Ok(())
+    } else {
+        Err(refusal_of(refusal))
+    }
 }
 
 pub fn written(answer: Written) -> Result<usize, Refusal> {

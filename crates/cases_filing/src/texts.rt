@@ -79,6 +79,17 @@ pub const JUDGED: [&[u8]; 27] = [
     b"<a>]]><b>",
 ];
 
+// So many elements in one another, what stands in them, and end tags.
+pub const CROSSED: [(&str, usize, &str, usize); 2] = [
+    ("65 nested, then a crossed close", 65, "</b>", 0),
+    (
+        "64 nested, a crossed close, then one more",
+        64,
+        "</b><a>",
+        0,
+    ),
+];
+
 pub const REPEATS: [&[u8]; 19] = [
     // 15: a tag has two attributes of the same name. In a start tag, an empty tag, the last tag, a tag after the root closed.
     b"<a b='1' b='2'></a>",
@@ -87,7 +98,7 @@ pub const REPEATS: [&[u8]; 19] = [
     b"<a b=''><c b=''/><d c='' d='' c=''/></a>",
     b"<a/><c b='' b=''/>",
     b"<a abcdefghijklmnopqrstuvwxyz0123456='' b='' abcdefghijklmnopqrstuvwxyz0123456=''/>",
-    // It comes after 8 and 9, wherever these are; after 1 and 14: left().
+    // It comes after 8 and 9, wherever these are; after 1 and 14: `short`, `strange`.
     b"<a b='' b=''>\x7f</a>",
     b"<a>\x7f<c b='' b=''/></a>",
     b"<a b='' b=''>]]></a>",
@@ -102,6 +113,16 @@ pub const REPEATS: [&[u8]; 19] = [
     b"x<a b='' b=''/>",
     b"</a><c b='' b=''/>",
     b"<a></c><d b='' b=''/>",
+];
+
+pub const NESTED_REPEATS: [(&str, usize, &str, usize); 2] = [
+    ("65 nested, then a repeat", 65, "<c b='' b=''/>", 65),
+    (
+        "64 nested, then one more with a repeat",
+        64,
+        "<c b='' b=''/>",
+        64,
+    ),
 ];
 
 // Names differ by case, by their ends, by one byte at any length; equal ones may stand in two tags, and in values.
@@ -131,3 +152,5 @@ pub const MANY: [(&str, usize, &str); 14] = [
     ("6000 names and the last again", 6000, "n5999"),
     ("6000 names and another", 6000, "n6000"),
 ];
+
+pub const DEEP: [(&str, usize); 2] = [("64 nested", 64), ("65 nested", 65)];

@@ -4,7 +4,7 @@ ghost use Rattle.std.specs.Prelude.{◌≡◌};
 ghost use Rattle.filing.specs.Shown.{too_small, FilesText, PrintsWith};
 
 use crate::listing::write_line;
-use crate::report::file_by;
+use crate::report::file_report;
 use machine::build::build;
 use machine::run::lent;
 use stored::counters::Counters;
@@ -53,11 +53,11 @@ fn file_text(
     if refused != 0 {
         return Err(refused);
     }
-    let done = file_by(automaton, run, Counters::none(), report);
-    if done.refusal != 0 {
-        return Err(done.refusal);
+    let mut counters = Counters::none();
+    match file_report(automaton, run, &mut counters, report) {
+        Ok(()) => Ok(counters),
+        Err(refusal) => Err(refusal.number()),
     }
-    Ok(done.counters)
 }
 
 // Writes what is shown of a set's text and a report to the first bytes of `out` and answers its length, or 1 where a buffer is short. Bytes past

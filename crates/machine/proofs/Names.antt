@@ -7,19 +7,17 @@ use native.Mathlib.Omega.{arith}
 use lib.Dec.{eqb}
 use lib.ListN.{length, take, drop}
 use borrow.Author.Tests.{le-leb, lt-leb, lt-ltb, ne_eqb}
-use Rattle.std.specs.Cmp.Lexicographic.{pointwise}
+use Rattle.std.specs.Bool.{Decides}
+use Rattle.std.proofs.lemmas.Bool.Decides.{same_from_decides}
+use Rattle.text.proofs.Laws.Bytes.SameName.{same_name-is}
 use Rattle.text.specs.Names.{same_name}
 use Rattle.notation.specs.Limits.{max_set_bytes, max_labels}
 use Rattle.notation.specs.Layout.{set_size, text_at}
 use Rattle.notation.specs.Reads.{text_slice, present, label_at, label_name, label_begin, label_length, label_count}
 
--- `==` on slices compares names
-pub same_name-pointwise : (xs ys : List ℕ) → pointwise eqb xs ys ≡ same_name xs ys
-unfolding same_name
-same_name-pointwise [] [] = refl
-same_name-pointwise [] (y ∷ ys) = refl
-same_name-pointwise (x ∷ xs) [] = refl
-same_name-pointwise (x ∷ xs) (y ∷ ys) = ap (λ b. eqb x y && b) (same_name-pointwise xs ys)
+-- what decides equality of names compares them
+pub decided : (r : Bool) (xs ys : List ℕ) → Decides r (xs ≡ ys) → r ≡ same_name xs ys
+decided r xs ys d = same_from_decides r (same_name xs ys) d (same_name-is xs ys)
 
 none : (e : List ℕ) {r : Bool} → r ≡ eqb (length e) 0 → r ≡ same_name [] e
 unfolding same_name
@@ -38,10 +36,9 @@ module _ (a : List ℕ) (l : ℕ) (room : set_size ≤ length a) (few : l < max_
       none e h
       ∙ ap (λ n. same_name n e) (sym (by-entry ∙ simp (le-leb set_size _ room, lt-leb (label_begin a l + label_length a l) max_set_bytes out)))
 
-  pub within-room : {r : Bool} → label_begin a l + label_length a l ≤ max_set_bytes → r ≡ pointwise eqb (take (label_length a l) (drop (text_at + label_begin a l) a)) e
+  pub within-room : {r : Bool} → label_begin a l + label_length a l ≤ max_set_bytes → r ≡ same_name (take (label_length a l) (drop (text_at + label_begin a l) a)) e
       → r ≡ same_name (label_name a l) e
   unfolding text_slice
   within-room in-room h =
       h
-      ∙ (same_name-pointwise (take (label_length a l) (drop (text_at + label_begin a l) a)) e
-      ∙ ap (λ n. same_name n e) (sym (by-entry ∙ simp (le-leb set_size _ room, le-leb (label_begin a l + label_length a l) max_set_bytes in-room))))
+      ∙ ap (λ n. same_name n e) (sym (by-entry ∙ simp (le-leb set_size _ room, le-leb (label_begin a l + label_length a l) max_set_bytes in-room)))

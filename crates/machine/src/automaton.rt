@@ -1,17 +1,17 @@
 // The bytes of an automaton, at least as many as it has: its numbers are read without a range test, and what is asked of more than bytes
 // stands with the function that asks it.
-#![tactic(auto, unfolding(notation::specs::Limits::max_labels, stored::specs::Automaton::automaton_size, stored::specs::Automaton::hashes, stored::specs::Automaton::heads_at, stored::specs::Automaton::links_at, stored::specs::Automaton::link_size))]
+#![tactic(auto, unfolding(notation::specs::Limits::max_paths, notation::specs::Limits::max_steps, notation::specs::Limits::max_labels, notation::specs::Layout::steps_at, stored::specs::Automaton::automaton_size, stored::specs::Automaton::hashes, stored::specs::Automaton::heads_at, stored::specs::Automaton::links_at, stored::specs::Automaton::link_size))]
 
-ghost use Rattle.std.specs.Prelude.{◌≡◌, suc, ◌+◌, ◌≤◌, ◌<◌, length};
-ghost use Rattle.notation.specs.Layout.{word_size};
-ghost use Rattle.notation.specs.Limits.{max_labels};
+ghost use Rattle.std.specs.Prelude.{◌≡◌, suc, ◌+◌, ◌*◌, ◌≤◌, ◌<◌, length, take, drop};
+ghost use Rattle.notation.specs.Layout.{word_size, steps_at};
+ghost use Rattle.notation.specs.Limits.{max_paths, max_steps, max_labels};
 ghost use Rattle.notation.specs.Reads.{word16, label_count};
 ghost use Rattle.stored.specs.Automaton.{automaton_size, hashes, bits_in, link_entry_at};
 ghost use Rattle.stored.specs.Tables.{head_at};
 
-use crate::labels::word;
 use crate::layout::{HEADS_AT, LINK_SIZE, LINKS_AT};
-use notation::layout::{LABEL_COUNT_AT, WORD_SIZE};
+use crate::words::word;
+use notation::layout::{LABEL_COUNT_AT, STEPS_AT, WORD_SIZE};
 use std::marker::Model;
 
 #[derive(Drop)]
@@ -73,6 +73,15 @@ impl<'a> Automaton<'a> {
         ensures { result ≡ label_count self.now }
     {
         self.word(LABEL_COUNT_AT)
+    }
+
+    // The kinds of so many steps.
+    pub fn kinds(&self, steps: usize) -> &'a [u8]
+        requires { steps ≤ max_paths * max_steps }
+        ensures value { result.now ≡ take steps (drop steps_at self.now) }
+        ensures size { length result.now ≡ steps }
+    {
+        &self.bytes[STEPS_AT..STEPS_AT + steps]
     }
 
     // A field of the links of a label.

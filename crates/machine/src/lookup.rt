@@ -30,7 +30,8 @@ impl<'a> Automaton<'a> {
         if TEXT_AT + MAX_SET_BYTES < to {
             return e.is_empty();
         }
-        &bytes[from..to] == e
+        let name = &bytes[from..to];
+        name.len() == e.len() && name.iter().zip(e).all(|(x, y)| x == y)
     }
 
     // The last label with the name. `h` is the hash of `e`.

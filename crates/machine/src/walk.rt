@@ -35,6 +35,14 @@ pub fn size_of(a: &[u8], q: usize) -> usize
 }
 
 impl<'a> Automaton<'a> {
+    // The length of the word of state `q`: of a label's, of `#` or of the empty word.
+    pub fn size_of(&self, q: usize) -> usize
+        requires { q ≤ suc max_labels }
+        ensures { result ≡ size_of self.now q }
+    {
+        if q < 2 { q } else { self.link(q - 2, SIZE_IN) }
+    }
+
     // The state of the word of state `q` followed by a name. `first` is the name's first label.
     pub fn goto_state(&self, q: usize, first: Option<Label>) -> Option<usize>
         requires searchable { Searchable self.now }

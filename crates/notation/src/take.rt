@@ -120,10 +120,7 @@ impl<'a> Reading<'a> {
         ensures { Takes (read_number max_number) number_taken self.old result self.new }
     {
         let t = self.tally;
-        let found = number_at(self.text, t.at, MAX_NUMBER);
-        if found.end == 0 {
-            return None;
-        }
+        let found = number_at(self.text, t.at, MAX_NUMBER)?;
         put_folder(self.part, t.folders, found.value, t.paths);
         self.tally = t.with_number(found.value, found.end);
         Some(())

@@ -18,7 +18,7 @@ pub fn copy(part: &mut [u8], at: usize, bytes: &[u8])
     if part.len() <= at {
         return;
     }
-    let n = bytes.len().min(part.len() - at);
+    let n = (part.len() - at).min(bytes.len());
     part[at..at + n].copy_from_slice(&bytes[..n]);
 }
 

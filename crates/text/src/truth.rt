@@ -1,5 +1,5 @@
 // Truth values, and whether a number lies in a range. Both sides are computed before they are joined.
-ghost use Rattle.std.specs.Prelude.{◌≡◌, not, ◌&&◌, ◌||◌};
+ghost use Rattle.std.specs.Prelude.{◌≡◌, ◌&&◌, ◌||◌};
 ghost use Rattle.text.specs.Names.{within};
 
 pub fn both(a: bool, b: bool) -> bool
@@ -12,12 +12,6 @@ pub fn either(a: bool, b: bool) -> bool
     ensures { result ≡ (a || b) }
 {
     a | b
-}
-
-pub fn negated(a: bool) -> bool
-    ensures { result ≡ not a }
-{
-    !a
 }
 
 pub fn between(low: usize, high: usize, x: usize) -> bool

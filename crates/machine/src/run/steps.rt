@@ -12,13 +12,13 @@ ghost use Rattle.stored.specs.Run.{row_at, active_in, seen_in, matches_at, run_s
 ghost use Rattle.stored.specs.RunCalls.{mask_bit, shifted, permitted, used_bytes};
 ghost use Rattle.stored.specs.Code.OpenSteps.{Block, taken_active, taken_seen, taken_matched, stored_bits};
 
-use crate::labels::word;
 use crate::layout::{
     ANYWHERE_MASK, CHILD_MASK, DESCENDANT_MASK, LAST_MASK, MASK_SIZE, MASKS_AT, ROOT_MASK,
     STAR_MASK,
 };
 use crate::run::layout::{ACTIVE_IN, MATCHES_AT, SEEN_IN};
 use crate::run::rows;
+use crate::words::word;
 use notation::layout::STEP_COUNT_AT;
 use std::simd::prelude::*;
 

@@ -13,7 +13,7 @@ use denote.Ref.{MutBor}
 use Rattle.text.specs.Answers.{said}
 use Rattle.text.specs.Order.{Condition, given}
 use Rattle.text.specs.Written.{written_into, TextWritten}
-use Rattle.std.specs.Prelude.{Result, Ok, Err, Option, None, Some}
+use Rattle.std.specs.Prelude.{Result, Ok, Err, None, Some}
 use Rattle.std.specs.Option.{ok_or}
 use Rattle.std.specs.Result.{IsErrAnd}
 use Rattle.text.specs.declared.refusals.Refusal.{Refusal}

@@ -9,7 +9,7 @@ use lib.Dec.{eqb, ltb}
 use lib.ListN.{length, drop, length-append, length-drop, drop_of_length-le}
 use lib.Seq.{sets}
 use borrow.Author.Tests.{eqb-true, eqb-false}
-use Rattle.std.specs.Prelude.{Option, None, MatchOption}
+use Rattle.std.specs.Prelude.{Option, None, Some, MatchOption}
 use Rattle.std.specs.Bool.{then_some}
 use Rattle.text.specs.Decimal.{decimal, digits}
 use Rattle.text.specs.Lists.{non_empty}
@@ -74,33 +74,33 @@ unfolding decimal digits
 digit-some n =
     cases (ltb n 10) (λ t. rw (t, length) (omega arith)) (λ f. rw (f, length) (omega (arith, length-append (digits n (n / 10)) ((48 + n % 10) ∷ []))))
 
--- a number that was found at an offset
-module _ (text : List ℕ) (at : ℕ) (on : at ≤ length text) (n : Number) (e : n ≡ number_found (length text) (read_number max_number (drop at text))) where
-  pub number-none : n.end ≡ 0 → read_number max_number (drop at text) ≡ fail
-  number-none z = go (read_number max_number (drop at text)) (number-sound max_number (drop at text)) e
+-- a number that was found at an offset, or none
+module _ (text : List ℕ) (at : ℕ) where
+  pub number-none : None ≡ number_found (length text) (read_number max_number (drop at text)) → read_number max_number (drop at text) ≡ fail
+  number-none e = go (read_number max_number (drop at text)) e
     where
-      go : (m : Read ℕ) → WhenRead (λ k r. (1 ≤ k) × (k ≤ max_number) × (decimal k ++ r ≡ drop at text)) m → n ≡ number_found (length text) m → m ≡ fail
-      go fail s is = refl
-      go (got k r) s is =
-          let (low, high, front) = holds-got s in
-          absurd (omega (arith, ap Number.end is, ap length front, length-append (decimal k) r, length-drop at text, digit-some k))
+      go : (m : Read ℕ) → None ≡ number_found (length text) m → m ≡ fail
+      go fail is = refl
+      go (got k r) is = cc
 
-  pub number-stands : (n.end ≡ 0 → ⊥) → (read_number max_number (drop at text) ≡ got n.value (drop n.end text)) × (n.end ≡ at + length (decimal n.value)) × (n.end ≤ length text)
-  number-stands some = go (read_number max_number (drop at text)) (number-sound max_number (drop at text)) e
+  pub number-stands : (n : Number) → at ≤ length text → Some n ≡ number_found (length text) (read_number max_number (drop at text))
+      → (read_number max_number (drop at text) ≡ got n.value (drop n.end text)) × (n.end ≡ at + length (decimal n.value)) × (n.end ≤ length text)
+  number-stands n on e = go (read_number max_number (drop at text)) (number-sound max_number (drop at text)) e
     where
-      go : (m : Read ℕ) → WhenRead (λ k r. (1 ≤ k) × (k ≤ max_number) × (decimal k ++ r ≡ drop at text)) m → n ≡ number_found (length text) m
+      go : (m : Read ℕ) → WhenRead (λ k r. (1 ≤ k) × (k ≤ max_number) × (decimal k ++ r ≡ drop at text)) m → Some n ≡ number_found (length text) m
           → (m ≡ got n.value (drop n.end text)) × (n.end ≡ at + length (decimal n.value)) × (n.end ≤ length text)
-      go fail s is = absurd (some (ap Number.end is))
+      go fail s is = cc
       go (got k r) s is =
           let (low, high, front) = holds-got s in
           let end : length text - length r ≡ at + length (decimal k) = omega (arith, ap length front, length-append (decimal k) r, length-drop at text) in
-          rw (is, end) (ap (got k) (sym (behind text (decimal k) r at front)), refl, omega (arith, end))
+          let same : n ≡ record { value = k; end = length text - length r } = cc in
+          rw (same, end) (ap (got k) (sym (behind text (decimal k) r at front)), refl, omega (arith, end))
 
 -- it is counted, and is no more than its bytes
-module _ (text : List ℕ) (t : Tally) (k : Small text t) (n : Number) (e : n ≡ number_found (length text) (read_number max_number (drop t.at text))) (some : n.end ≡ 0 → ⊥) where
+module _ (text : List ℕ) (t : Tally) (k : Small text t) (n : Number) (e : Some n ≡ number_found (length text) (read_number max_number (drop t.at text))) where
   pub number-small : Small text (number_counted n.value n.end t)
   number-small =
-      let s = number-stands text t.at k.at n e some in
+      let s = number-stands text t.at n k.at e in
       let long = digit-some n.value in
       record {
         short = k.short;
@@ -112,7 +112,7 @@ module _ (text : List ℕ) (t : Tally) (k : Small text t) (n : Number) (e : n �
       }
 
   pub number-counted : (part : List ℕ) → state (number_counted n.value n.end t) (sets part (folders_at + folder_size * t.folders) (folder_entry n.value t.paths)) ≡ number_taken n.value (state t part)
-  number-counted part = let s = number-stands text t.at k.at n e some in rw s.1
+  number-counted part = let s = number-stands text t.at n k.at e in rw s.1
 
 -- the word before a number, the number, and its line
 module _ (r r₁ r₂ : Reading) (w : Got (read_word folder_word) (λ _. moved (length folder_word)) r r₁) where

@@ -5,7 +5,9 @@ use mathlib.Core.Bool.{Bool, true, false, not, ◌&&◌, and-true, and_assoc}
 use native.Mathlib.Numerals.{add-one}
 use native.Mathlib.Nat.{add-zero, zero-add}
 use native.Mathlib.Omega.{arith}
+use mathlib.Core.List.{List, [], ◌∷◌}
 use lib.Dec.{eqb}
+use lib.ListN.{length, get_or}
 use borrow.Author.Tests.{eqb-true, eqb-false, not-true, not-false}
 use Rattle.std.specs.List.{range_with_len, list_all}
 use Rattle.stored.specs.Shape.{all_below}
@@ -34,6 +36,24 @@ pub all-listed : (n : ℕ) (f : ℕ → Bool) → list_all f (range_with_len 0 n
 unfolding all_below
 all-listed zero f = refl
 all-listed (suc n) f = all-last n 0 f ∙ rw (zero-add) (ap (λ b. b && f n) (all-listed n f))
+
+-- by the first number, and over a list
+all-first : (n : ℕ) (f : ℕ → Bool) → all_below (suc n) f ≡ (f 0 && all_below n (λ i. f (suc i)))
+unfolding all_below
+all-first zero f = sym (and-true (f 0))
+all-first (suc n) f =
+    ap (λ b. b && f (suc n)) (all-first n f) ∙ and_assoc (f 0) (all_below n (λ i. f (suc i))) (f (suc n))
+
+pub all-same : (n : ℕ) (f g : ℕ → Bool) → ((i : ℕ) → i < n → f i ≡ g i) → all_below n f ≡ all_below n g
+unfolding all_below
+all-same zero f g h = refl
+all-same (suc n) f g h = rw (all-same n f g (λ i l. h i (omega arith)), h n (omega arith))
+
+pub all-elements : (test : ℕ → Bool) (xs : List ℕ) → list_all test xs ≡ all_below (length xs) (λ i. test (get_or xs i 0))
+unfolding all_below
+all-elements test [] = refl
+all-elements test (x ∷ xs) =
+    ap (λ b. test x && b) (all-elements test xs) ∙ sym (all-first (length xs) (λ i. test (get_or (x ∷ xs) i 0)))
 
 pub all-at : (n : ℕ) (f : ℕ → Bool) → all_below n f ≡ true → (i : ℕ) → i < n → f i ≡ true
 unfolding all_below

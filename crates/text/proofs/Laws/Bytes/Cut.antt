@@ -4,7 +4,7 @@ use native.Mathlib.Omega.{arith}
 use mathlib.Core.Path.{◌≡◌, refl, sym, ap, ◌∙◌}
 use mathlib.Core.List.{List, [], ◌∷◌, append_assoc}
 use lib.ListN.{length, take, set, length-set}
-use native.Mathlib.Nat.{zero-min, min-zero, suc-min-suc}
+use Rattle.std.proofs.lemmas.List.{take_min}
 use borrow.Rule.Slice.PartMut.{put_mid}
 use lib.Seq.{sets, sets-eq, set_out, length-take-le, drop-drop}
 
@@ -18,16 +18,10 @@ sets-cut zero vs l at e = sym (sets-out vs l at (omega arith))
 sets-cut (suc n) [] l at e = refl
 sets-cut (suc n) (v ∷ vs) l at e = sets-cut n vs (set l at v) (suc at) (omega (arith, length-set l at v))
 
-take-least : (m : ℕ) (vs : List ℕ) → take (min (length vs) m) vs ≡ take m vs
-take-least zero [] = refl
-take-least zero (v ∷ vs) = rw (min-zero (length (v ∷ vs)))
-take-least (suc m) [] = rw (zero-min (suc m))
-take-least (suc m) (v ∷ vs) = rw (suc-min-suc (length vs) m) (ap (λ (l : List ℕ). v ∷ l) (take-least m vs))
-
 -- a copy of as many bytes as there is room for
-pub part-cut : (vs l : List ℕ) (at n : ℕ) → at ≤ length l → n ≡ min (length vs) (length l - at) → put_mid at n l (take n vs) ≡ sets l at vs
+pub part-cut : (vs l : List ℕ) (at n : ℕ) → at ≤ length l → n ≡ min (length l - at) (length vs) → put_mid at n l (take n vs) ≡ sets l at vs
 part-cut vs l at n h e =
     let size : length (take n vs) ≡ n = length-take-le n vs (omega arith) in
     let same : at + length (take n vs) ≡ at + n = omega arith in
     let whole : put_mid at n l (take n vs) ≡ sets l at (take n vs) = rw (drop-drop n at l, sets-eq (take n vs) l at (omega arith), append_assoc, same) in
-    whole ∙ ap (λ (k : ℕ). sets l at (take k vs)) e ∙ ap (sets l at) (take-least (length l - at) vs) ∙ sets-cut (length l - at) vs l at refl
+    whole ∙ ap (λ (k : ℕ). sets l at (take k vs)) e ∙ ap (sets l at) (take_min (length l - at) vs) ∙ sets-cut (length l - at) vs l at refl

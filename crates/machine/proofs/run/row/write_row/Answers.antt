@@ -1,21 +1,24 @@
-use Rattle.std.proofs.Common.{◌≡◌, ◌+◌, ◌-◌, ℕ, replicate, length, set, length-set, ◌∙◌, ap, List, arith, rules}
-use Rattle.std.proofs.lemmas.List.Edits.{sets}
-use Rattle.text.specs.Names.{max_name}
-use Rattle.text.specs.Bytes.{le16}
-use Rattle.stored.specs.Run.{row_size, name_in, state_in}
-use Rattle.stored.proofs.Laws.Bytes.Stores.{part-written}
+use native.Mathlib.Omega.{arith}
+use mathlib.Core.Path.{◌∙◌}
+use Rattle.stored.specs.Automaton.{mask_size}
+use Rattle.stored.specs.Run.{state_in, active_in, seen_in, row_size}
 use Rattle.stored.proofs.Laws.Running.Written.{row_written}
-use borrow.Rule.Slice.PartMut.{put_mid}
 use Rattle.machine.proofs.run.row.write_row.Goals as goal
 
+pub clear_from-requires : goal.clear_from-requires
+unfolding row_size
+clear_from-requires c = omega (arith, c.requires.0, c.write_name.auto)
+
+pub put_word-requires : goal.put_word-requires
+unfolding row_size
+put_word-requires c = omega (arith, c.requires.0, c.write_name.auto, c.clear_from.auto)
+
+pub clear_from-requires-2 : goal.clear_from-requires-2
+unfolding row_size
+clear_from-requires-2 c = omega (arith, c.requires.0, c.write_name.auto, c.clear_from.auto, c.put_word.auto)
+
 pub returns : goal.returns
-unfolding name_in state_in row_size max_name
+unfolding state_in active_in seen_in mask_size
 returns c =
-    let b = c.args in
-    let e = b.e.now in
-    let zeros : c.fill.new.self ≡ replicate row_size 0 = c.fill.ensures.after (search rules) ∙ ap (λ (n : ℕ). replicate n 0) c.requires.0 in
-    let named = set c.fill.new.self 0 (length e) in
-    let name : put_mid 1 (1 + length e - 1) named c.copy_from_slice.new.self ≡ sets named 1 e = part-written named _ e 1 (1 + length e - 1) c.copy_from_slice.ensures.after (omega arith) (omega (arith, length-set c.fill.new.self 0 (length e), c.fill.auto)) in
-    c.put_word.ensures
-    ∙ ap (λ (l : List ℕ). sets l state_in (le16 b.state)) (name ∙ ap (λ (l : List ℕ). sets (set l 0 (length e)) name_in e) zeros)
-    ∙ row_written e b.state c.requires.1
+    let a = c.args in
+    c.clear_from-2.ensures ∙ rw (c.put_word.ensures, c.clear_from.ensures, c.write_name.ensures) (row_written a.row.now a.e.now a.state c.requires.0 c.requires.1)
