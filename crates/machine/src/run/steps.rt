@@ -4,19 +4,17 @@
 ghost use Rattle.std.specs.Prelude.{◌≡◌, ◌&&◌, ◌||◌, suc, ◌+◌, ◌*◌, ◌≤◌, ◌<◌, eqb, length};
 ghost use Rattle.std.proofs.lemmas.List.Edits.{sets};
 ghost use Rattle.model.specs.Limits.{max_depth};
-ghost use Rattle.stored.specs.Automaton.{mask_size, anywhere_mask, root_mask, mask_count, bit_bytes};
+ghost use Rattle.stored.specs.Automaton.{mask_size, anywhere_mask, root_mask, bit_bytes};
 ghost use Rattle.stored.specs.Bits.{bit_in};
 ghost use Rattle.notation.specs.Limits.{max_paths, max_steps};
 ghost use Rattle.notation.specs.Reads.{step_count};
 ghost use Rattle.stored.specs.Run.{row_at, active_in, seen_in, matches_at, run_size};
 ghost use Rattle.stored.specs.RunCalls.{mask_bit, shifted, used_bytes};
 ghost use Rattle.stored.specs.Code.OpenSteps.{Block, taken_active, taken_seen, taken_matched, stored_bits};
+ghost use Rattle.machine.specs.Masks.{mask_number};
 
 use crate::automaton::Automaton;
-use crate::layout::{
-    ANYWHERE_MASK, CHILD_MASK, DESCENDANT_MASK, LAST_MASK, MASK_SIZE, MASKS_AT, ROOT_MASK,
-    STAR_MASK,
-};
+use crate::layout::{MASK_SIZE, MASKS_AT, Mask};
 use crate::run::layout::{ACTIVE_IN, MATCHES_AT, SEEN_IN};
 use crate::run::rows;
 use notation::layout::STEP_COUNT_AT;
@@ -43,12 +41,12 @@ fn one_on(bytes: &[u8], base: usize, from: usize) -> u8x16
 }
 
 impl<'a> Automaton<'a> {
-    // A block of mask m.
-    fn mask(&self, m: usize, from: usize) -> u8x16
-        requires { (m < mask_count) × (from + 16 ≤ mask_size) }
-        ensures { Block (λ i. mask_bit self.now m (8 * from + i)) result }
+    // A block of a mask.
+    fn mask(&self, mask: Mask, from: usize) -> u8x16
+        requires { from + 16 ≤ mask_size }
+        ensures { Block (λ i. mask_bit self.now (mask_number mask) (8 * from + i)) result }
     {
-        bits(self.bytes, MASKS_AT + MASK_SIZE * m, from)
+        bits(self.bytes, MASKS_AT + MASK_SIZE * mask as usize, from)
     }
 
     // A block of the first steps that an element may take: those by `//`, and at depth 1 those by `/`.
@@ -56,9 +54,9 @@ impl<'a> Automaton<'a> {
         requires { from + 16 ≤ mask_size }
         ensures { Block (λ i. mask_bit self.now anywhere_mask (8 * from + i) || (eqb d 0 && mask_bit self.now root_mask (8 * from + i))) result }
     {
-        let anywhere = self.mask(ANYWHERE_MASK, from);
+        let anywhere = self.mask(Mask::Anywhere, from);
         if d == 0 {
-            return anywhere | self.mask(ROOT_MASK, from);
+            return anywhere | self.mask(Mask::Root, from);
         }
         anywhere
     }
@@ -69,14 +67,14 @@ impl<'a> Automaton<'a> {
         ensures { run.new ≡ sets (sets (sets run.old (row_at (suc d) + active_in + from) (bit_bytes (λ i. taken_active self.now run.old taken.now d (8 * from + i)) 16)) (row_at (suc d) + seen_in + from) (bit_bytes (λ i. taken_seen self.now run.old taken.now d (8 * from + i)) 16)) (matches_at + from) (bit_bytes (λ i. taken_matched self.now run.old taken.now d (8 * from + i)) 16) }
     {
         let around = rows::row_at(d);
-        let child = self.mask(CHILD_MASK, from) & one_on(run, around + ACTIVE_IN, from);
-        let descendant = self.mask(DESCENDANT_MASK, from) & one_on(run, around + SEEN_IN, from);
+        let child = self.mask(Mask::Child, from) & one_on(run, around + ACTIVE_IN, from);
+        let descendant = self.mask(Mask::Descendant, from) & one_on(run, around + SEEN_IN, from);
         let permitted = child | (descendant | self.first(d, from));
         // `*`, and the labels taken.
-        let candidates = self.mask(STAR_MASK, from) | bits(taken, 0, from);
+        let candidates = self.mask(Mask::Star, from) | bits(taken, 0, from);
         let active = candidates & permitted;
         let seen = bits(run, around + SEEN_IN, from) | active;
-        let ended = active & self.mask(LAST_MASK, from);
+        let ended = active & self.mask(Mask::Last, from);
         let matched = bits(run, MATCHES_AT, from) | ended;
         let at = rows::row_at(d + 1);
         active.copy_to_slice(&mut run[at + ACTIVE_IN + from..]);
