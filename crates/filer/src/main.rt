@@ -2,6 +2,7 @@
 // that is there and cannot be read it tells on standard error, and prints nothing. A failed write ends it with an error.
 #![tactic(auto)]
 
+ghost use Rattle.std.specs.Prelude.{IfOk};
 ghost use Rattle.filing.specs.Printed.{PrintedText};
 ghost use Rattle.programs.specs.Shows.{Shows};
 
@@ -9,24 +10,21 @@ use filing::limits::LISTING_SIZE;
 use filing::printing::print_filing;
 use machine::layout::AUTOMATON_SIZE;
 use machine::run::layout::RUN_SIZE;
-use programs::files::read_both;
-use programs::output::written;
+use programs::output::{print_page, written};
+use std::alloc::{AllocError, Global};
 use std::io;
 
-// What a set and a report print, at the start of a page.
-fn filed<'a>(set: &[u8], report: &[u8], page: &'a mut [u8; LISTING_SIZE]) -> &'a [u8]
-    ensures { Shows PrintedText set.now report.now result.now }
+// What a set and a report print.
+fn filed(alloc: Global, set: &[u8], report: &[u8]) -> Result<Vec<u8>, AllocError>
+    ensures { IfOk result (λ page. Shows PrintedText set.now report.now page.items) }
 {
     let mut automaton = [0; AUTOMATON_SIZE];
     let mut run = [0; RUN_SIZE];
-    let answer = print_filing(set, report, &mut automaton, &mut run, page);
-    written(answer, page)
+    let mut out = [0; LISTING_SIZE];
+    let answer = print_filing(set, report, &mut automaton, &mut run, &mut out);
+    Vec::from_slice(alloc, written(answer, &out))
 }
 
 fn main(rt: HostRuntime) -> io::Result<()> {
-    let Some(inputs) = read_both(&rt) else {
-        return Ok(());
-    };
-    let mut page = [0; LISTING_SIZE];
-    rt.write_all(filed(inputs.set.as_slice(), inputs.report.as_slice(), &mut page))
+    print_page(&rt, filed)
 }

@@ -1,7 +1,7 @@
 -- Every public call, as one statement: whatever it is lent, it brings its answer or one of fifteen numbered refusals, each
 -- exactly where its condition holds and no earlier one of the call's order does; and what a refused call leaves. Of each call the contract
 -- alone is used.
-use Rattle.std.specs.Prelude.{ℕ, ◌≤◌, ◌<◌, ◌≡◌, Bool, true, Result, ◌↔◌, ◌⊎◌, List, [], ◌∷◌, length}
+use Rattle.std.specs.Prelude.{ℕ, ◌≤◌, ◌<◌, ◌≡◌, Bool, true, Result, ◌↔◌, ◌⊎◌, List, [], length}
 use Rattle.std.specs.Borrow.{Bor}
 use Rattle.text.specs.Names.{Name}
 use Rattle.notation.specs.Sets.{FolderSet}
@@ -17,7 +17,7 @@ use Rattle.notation.specs.ReadSet.{ReadSet}
 use Rattle.notation.specs.WriteText.{text_conditions, WriteText}
 use Rattle.notation.specs.declared.PathPlace.{PathPlace}
 use Rattle.notation.specs.declared.FolderNumber.{FolderNumber}
-use Rattle.text.specs.Order.{Condition, gives, Unmet, GivenBy, AnswersBy}
+use Rattle.text.specs.Order.{Condition, Unmet, GivenBy, AnswersBy}
 use Rattle.stored.specs.Automaton.{automaton_size}
 use Rattle.stored.specs.Build.{Built, SetWritten, write_conditions}
 use Rattle.stored.specs.RunCalls.{start_conditions, open_conditions, close_conditions, start_run, no_counters}

@@ -9,8 +9,8 @@ ghost use Rattle.notation.specs.Reads.{word16, label_count};
 ghost use Rattle.stored.specs.Automaton.{automaton_size, hashes, bits_in, link_entry_at};
 ghost use Rattle.stored.specs.Tables.{head_at};
 
-use crate::labels::word;
 use crate::layout::{HEADS_AT, LINK_SIZE, LINKS_AT};
+use crate::words::word;
 use notation::layout::{LABEL_COUNT_AT, STEPS_AT, WORD_SIZE};
 use std::marker::Model;
 

@@ -2,14 +2,32 @@
 ghost use Rattle.std.specs.Prelude.{◌≡◌, take};
 ghost use Rattle.programs.specs.Shows.{size_of};
 
+use crate::files::read_both;
+use std::alloc::{AllocError, Global};
+use std::io;
+use std::rt::Files;
 use text::written::Written;
 
-// What was written at the start of a page. In buffers of their sizes nothing is refused.
-pub fn written(answer: Written, page: &[u8]) -> &[u8]
-    ensures { result.now ≡ take (size_of answer) page.now }
+// What was written at the start of a buffer. In buffers of their sizes nothing is refused.
+pub fn written(answer: Written, buffer: &[u8]) -> &[u8]
+    ensures { result.now ≡ take (size_of answer) buffer.now }
 {
     match answer {
-        Written::Bytes(n) => &page[..n.min(page.len())],
-        Written::Refused(_) => &page[..0],
+        Written::Bytes(n) => &buffer[..n.min(buffer.len())],
+        Written::Refused(_) => &buffer[..0],
     }
+}
+
+// Reads the two files, and prints the page that is made of them. Where one cannot be read nothing is printed.
+pub fn print_page<F: FnOnce(Global, &[u8], &[u8]) -> Result<Vec<u8>, AllocError>>(
+    rt: &(impl Files + Eprint + Print + AllocGlobal),
+    make: F,
+) -> io::Result<()>
+    requires { F.IsAlwaysCallable make }
+{
+    let Some(inputs) = read_both(rt) else {
+        return Ok(());
+    };
+    let page = make(rt.alloc(), inputs.set.as_slice(), inputs.report.as_slice())?;
+    rt.write_all(page.as_slice())
 }

@@ -2,32 +2,30 @@
 // file that is there and cannot be read it tells on standard error, and prints nothing. A failed write ends it with an error.
 #![tactic(auto)]
 
+ghost use Rattle.std.specs.Prelude.{IfOk};
 ghost use Rattle.filing.specs.Shown.{ShownText};
 ghost use Rattle.sheets.specs.SheetOf.{SheetFor};
 ghost use Rattle.programs.specs.Shows.{Shows};
 
 use machine::layout::AUTOMATON_SIZE;
 use machine::run::layout::RUN_SIZE;
-use programs::files::read_both;
-use programs::output::written;
+use programs::output::{print_page, written};
 use sheets::limits::SHEET_SIZE;
 use sheets::printing::print_sheet;
+use std::alloc::{AllocError, Global};
 use std::io;
 
-// The class sheet of a set and a report, or the line of a refusal, at the start of a page.
-fn shown<'a>(set: &[u8], report: &[u8], page: &'a mut [u8; SHEET_SIZE]) -> &'a [u8]
-    ensures { Shows (ShownText SheetFor) set.now report.now result.now }
+// The class sheet of a set and a report, or the line of a refusal.
+fn shown(alloc: Global, set: &[u8], report: &[u8]) -> Result<Vec<u8>, AllocError>
+    ensures { IfOk result (λ page. Shows (ShownText SheetFor) set.now report.now page.items) }
 {
     let mut automaton = [0; AUTOMATON_SIZE];
     let mut run = [0; RUN_SIZE];
-    let answer = print_sheet(set, report, &mut automaton, &mut run, page);
-    written(answer, page)
+    let mut out = [0; SHEET_SIZE];
+    let answer = print_sheet(set, report, &mut automaton, &mut run, &mut out);
+    Vec::from_slice(alloc, written(answer, &out))
 }
 
 fn main(rt: HostRuntime) -> io::Result<()> {
-    let Some(inputs) = read_both(&rt) else {
-        return Ok(());
-    };
-    let mut page = [0; SHEET_SIZE];
-    rt.write_all(shown(inputs.set.as_slice(), inputs.report.as_slice(), &mut page))
+    print_page(&rt, shown)
 }

@@ -10,8 +10,8 @@ ghost use Rattle.stored.specs.Code.Chains.{entered, preceded, linked, chained, L
 
 use crate::automaton::Automaton;
 use crate::hash::hash_of;
-use crate::labels::word;
 use crate::layout::{FIRST_IN, HEADS_AT, LINK_SIZE, LINKS_AT, OTHER_IN};
+use crate::words::word;
 use notation::layout::WORD_SIZE;
 use notation::limits::MAX_LABELS;
 use notation::reads;

@@ -9,7 +9,6 @@ ghost use Rattle.stored.specs.Code.Groups.{joins, far_over, bits_over, group_sto
 ghost use Rattle.machine.specs.Places.{place_of};
 
 use crate::automaton::{Automaton, Label};
-use crate::bits::with_bit;
 use crate::build::chains::label_count;
 use crate::layout::{BITS_IN, FAR_IN, LINK_SIZE, LINKS_AT, NEXT_IN};
 use crate::walk::link_field;
@@ -74,7 +73,7 @@ fn group_label(part: &mut [u8], l: usize)
     let next = Automaton { bytes: part }.linked(l, NEXT_IN);
     let on = joins_byte(part, byte, next);
     let far = far_over(part, on, next);
-    let bits = with_bit(bits_over(part, on, next), step % 8);
+    let bits = bits_over(part, on, next) | 1 << (step % 8);
     store_group(part, l, far, bits + 256 * byte);
 }
 

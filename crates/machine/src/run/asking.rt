@@ -11,7 +11,8 @@ use crate::bits::bit_in;
 use crate::run::layout::ACTIVE_IN;
 use crate::run::lent::pair_refusal;
 use crate::run::refusals::stored_name;
-use crate::run::{matches, rows, shape};
+use crate::run::rows::Run;
+use crate::run::{matches, rows};
 use crate::walk::size_of;
 use notation::{FolderNumber, PathPlace, reads};
 use text::refusals::Refusal;
@@ -39,7 +40,7 @@ fn bit_active(a: &[u8], run: &[u8], first: usize, s: usize) -> bool
     requires { (Ready a.now run.now) × ((first ≤ 65536) × (s ≤ 65536)) }
     ensures { result ≡ active_at run.now (depth_of run.now) (first + s - 1) }
 {
-    let at = rows::row_at(shape::depth(run));
+    let at = rows::row_at(Run { bytes: run }.depth());
     bit_in(run, at + ACTIVE_IN, (first + s).saturating_sub(1))
 }
 
@@ -60,7 +61,8 @@ pub fn prefix_length(a: &[u8], run: &[u8]) -> Result<usize, Refusal>
     ensures { says result ≡ ask_prefix a.now run.now }
 {
     pair_refusal(a, run)?;
-    Ok(size_of(a, rows::state_at(run, shape::depth(run))))
+    let run = Run { bytes: run };
+    Ok(size_of(a, run.state(run.depth())))
 }
 
 // The refusal of the open name at a depth.
@@ -68,7 +70,7 @@ pub fn name_refusal(a: &[u8], run: &[u8], d: usize) -> Result<(), Refusal>
     ensures { refusal_in result ≡ name_refusal a.now run.now d }
 {
     pair_refusal(a, run)?;
-    if d < 1 || shape::depth(run) < d {
+    if d < 1 || (Run { bytes: run }).depth() < d {
         return Err(Refusal::NotFound);
     }
     Ok(())

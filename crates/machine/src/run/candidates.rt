@@ -9,8 +9,8 @@ ghost use Rattle.stored.specs.Usable.{Openable};
 ghost use Rattle.machine.specs.Places.{place_of};
 
 use crate::automaton::{Automaton, Label};
-use crate::labels::word;
 use crate::layout::{BITS_IN, FAR_IN, LINK_SIZE, LINKS_AT};
+use crate::words::word;
 
 // The bits of a label, joined to those that are there.
 fn flag_label(out: &mut [u8], a: &[u8], l: usize)

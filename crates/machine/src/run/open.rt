@@ -14,7 +14,8 @@ ghost use Rattle.machine.specs.Places.{place_of};
 use crate::automaton::{Automaton, Label};
 use crate::layout::MASK_SIZE;
 use crate::run::layout::{DEPTH_AT, ROW_SIZE};
-use crate::run::{candidates, lent, refusals, row, rows, shape, steps};
+use crate::run::rows::Run;
+use crate::run::{candidates, lent, refusals, row, rows, steps};
 use stored::counters::Counters;
 use stored::walk::Walk;
 use text::names::name_form;
@@ -51,8 +52,9 @@ fn open_on(a: &[u8], run: &mut [u8], e: &[u8]) -> Walk
 {
     let automaton = Automaton { bytes: a };
     let first = automaton.first_label(e);
-    let d = shape::depth(run);
-    let walked = automaton.walk_from(rows::state_at(run, d), first);
+    let before = Run { bytes: run };
+    let d = before.depth();
+    let walked = automaton.walk_from(before.state(d), first);
     write(a, run, e, first, d, walked.state);
     walked
 }
@@ -67,7 +69,7 @@ pub fn open_usable(
     requires { (Usable a.now run.old counters.old) × (name_form e.now ≡ true) }
     ensures { Opens a.now run.old counters.old e.now result run.new counters.new }
 {
-    refusals::open_others(run, *counters, e)?;
+    refusals::open_others(&Run { bytes: run }, *counters, e)?;
     let walked = open_on(a, run, e);
     let moves = walked.moves;
     counters.count_open(moves);

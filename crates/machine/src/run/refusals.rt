@@ -10,7 +10,8 @@ ghost use Rattle.stored.specs.Asking.{RowName};
 ghost use Rattle.stored.specs.Usable.{Ready};
 
 use crate::run::layout::{MAX_DEPTH, MAX_OPENS, NAME_IN};
-use crate::run::{rows, shape};
+use crate::run::rows;
+use crate::run::rows::Run;
 use stored::counters::Counters;
 use text::names;
 use text::refusals::Refusal;
@@ -37,14 +38,14 @@ fn length_refusal(e: &[u8]) -> Result<(), Refusal>
 }
 
 // The root is closed.
-fn root_closed(run: &[u8], c: Counters) -> bool
+fn root_closed(run: &Run, c: Counters) -> bool
     ensures { result ≡ root_closed run.now c }
 {
-    c.opens != 0 && shape::depth(run) == 0
+    c.opens != 0 && run.depth() == 0
 }
 
 // An open's others, of a name of name form: 5, 10, 11, 7.
-pub fn open_others(run: &[u8], c: Counters, e: &[u8]) -> Result<(), Refusal>
+pub fn open_others(run: &Run, c: Counters, e: &[u8]) -> Result<(), Refusal>
     requires { name_form e.now ≡ true }
     ensures { refusal_in result ≡ given (open_others run.now c e.now) }
 {
@@ -52,7 +53,7 @@ pub fn open_others(run: &[u8], c: Counters, e: &[u8]) -> Result<(), Refusal>
     if root_closed(run, c) {
         return Err(Refusal::NotOneRoot);
     }
-    if MAX_DEPTH <= shape::depth(run) {
+    if MAX_DEPTH <= run.depth() {
         return Err(Refusal::TooDeep);
     }
     if MAX_OPENS <= c.opens {
@@ -67,7 +68,7 @@ pub fn close_others(a: &[u8], run: &[u8], e: &[u8]) -> Result<(), Refusal>
     ensures { refusal_in result ≡ given (close_others run.now e.now) }
 {
     length_refusal(e)?;
-    let d = shape::depth(run);
+    let d = Run { bytes: run }.depth();
     if d == 0 {
         return Err(Refusal::NotOneRoot);
     }

@@ -1,8 +1,8 @@
 -- Calls whose refusal is given by an order of conditions: what they answer, and that a refusal changes nothing.
 use Rattle.std.specs.Prelude.{Result}
 use Rattle.text.specs.declared.refusals.Refusal.{Refusal}
-use Prim.Native.Nat.{ℕ, zero, suc}
-use mathlib.Core.Path.{◌≡◌, refl, ap, ◌∙◌}
+use Prim.Native.Nat.{ℕ}
+use mathlib.Core.Path.{◌≡◌, ap, ◌∙◌}
 use mathlib.Core.Bool.{cond}
 use mathlib.Core.List.{List}
 use lib.Dec.{eqb}

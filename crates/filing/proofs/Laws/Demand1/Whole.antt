@@ -1,24 +1,21 @@
 -- Every public call, of any bytes.
-use Rattle.std.specs.Prelude.{Result}
 use Prim.Native.Nat.{ℕ}
 use mathlib.Core.Path.{◌≡◌, refl, sym, ap, ◌∙◌, subst}
-use mathlib.Core.Bool.{Bool, true, false, cond}
+use mathlib.Core.Bool.{true, cond}
 use mathlib.Core.Logic.{◌↔◌, ◌⊎◌, inl, inr}
-use mathlib.Core.List.{List, [], ◌∷◌}
-use lib.ListN.{length}
+use mathlib.Core.List.{List}
 use borrow.Author.Tests.{ne_eqb}
 use Rattle.text.specs.declared.refusals.Refusal.{Refusal}
 use Rattle.text.specs.declared.refusals.Refusal.TheVariants.{ShortBuffer, BadShape, RepeatedAttribute}
 use Rattle.text.specs.Refusals.{number_of}
-use Rattle.text.specs.Answers.{value, number_said, says}
+use Rattle.text.specs.Answers.{says}
 use Rattle.notation.specs.Layout.{set_size}
 use Rattle.notation.specs.Reads.{text_of, path_at, folder_of}
 use Rattle.notation.specs.ReadSet.{read_into}
 use Rattle.notation.specs.WriteText.{text_conditions}
 use Rattle.text.proofs.Laws.Numbers.{one-refusal, fifteen-numbers}
-use Rattle.text.specs.Order.{gives, Unmet, given, AnswersBy}
-use Rattle.text.proofs.Laws.Tests.{cases}
-use Rattle.text.proofs.Laws.Order.{answers_by, given-none, given-cons}
+use Rattle.text.specs.Order.{Unmet}
+use Rattle.text.proofs.Laws.Order.{answers_by}
 use Rattle.stored.specs.Automaton.{automaton_size}
 use Rattle.stored.specs.Build.{built_into, write_conditions}
 use Rattle.stored.specs.RunCalls.{start_conditions, start_refusal, start_run, no_counters, open_conditions, open_refusal, open_walk, close_conditions, close_refusal}

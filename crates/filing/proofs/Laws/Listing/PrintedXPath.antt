@@ -1,6 +1,6 @@
 -- From the bytes of a set and a report to the bytes that are printed, by XPath 1.0.
 use Prim.Native.Nat.{ℕ, suc, ◌+◌, ◌<◌, suc-le-suc}
-use mathlib.Core.Path.{◌≡◌, refl, ap, ◌∙◌, subst}
+use mathlib.Core.Path.{◌≡◌, ap, ◌∙◌, subst}
 use mathlib.Core.Bool.{Bool, true}
 use mathlib.Core.Logic.{◌↔◌}
 use mathlib.Core.List.{List, [], ◌∷◌, ◌++◌}

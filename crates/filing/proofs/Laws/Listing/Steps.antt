@@ -2,7 +2,7 @@
 use Prim.Native.Nat.{ℕ, suc, ◌+◌, ◌-◌, ◌<◌, ◌≤◌}
 use native.Mathlib.Omega.{arith}
 use native.Mathlib.Numerals.{add-one}
-use mathlib.Core.Path.{◌≡◌, refl, sym, ◌∙◌, ap}
+use mathlib.Core.Path.{◌≡◌, sym, ap}
 use mathlib.Core.Bool.{Bool, true, false, cond}
 use mathlib.Core.List.{List, [], ◌∷◌, ◌++◌, map, append_assoc}
 use Rattle.model.specs.Folders.{count_from}
@@ -14,7 +14,7 @@ use Rattle.text.specs.Output.{Adds, no_pieces}
 use Rattle.text.proofs.Laws.Output.{and_then, same_bytes}
 use Rattle.notation.specs.Print.{folder_word, footer}
 use Rattle.filing.specs.Listing.{moves_word, moves_line}
-use Rattle.filing.specs.Listed.{path_listed, if_matched, paths_listed, line_listed, line_at, folder_listed, folders_listed}
+use Rattle.filing.specs.Listed.{path_listed, if_matched, paths_listed, line_listed, line_at, folder_listed}
 
 -- the first of the numbers up to an end, and what is left of them there
 count_next : (i end : ℕ) → i < end → count_from i (end - i) ≡ i ∷ count_from (i + 1) (end - (i + 1))

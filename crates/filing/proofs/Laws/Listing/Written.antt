@@ -1,6 +1,4 @@
 -- From a composed text to the buffer: what is refused, what is written, and what is answered.
-use Rattle.std.specs.Prelude.{Err}
-use Rattle.text.specs.Answers.{says}
 use Prim.Native.Nat.{ℕ, ◌-◌, ◌^◌, ◌≤◌, ◌<◌, max, min}
 use native.Mathlib.Nat.{zero-add}
 use native.Mathlib.Omega.{arith}
@@ -10,7 +8,6 @@ use mathlib.Core.List.{List}
 use lib.Dec.{leb, ltb}
 use lib.ListN.{length, length-append}
 use borrow.Author.Tests.{leb-true, leb-false, le-leb, lt-leb, lt-ltb, le-ltb, ltb-false, not-false}
-use Rattle.notation.specs.Limits.{max_set_bytes}
 use Rattle.text.specs.Decimal.{decimal}
 use Rattle.notation.specs.Print.{footer}
 use Rattle.text.specs.declared.refusals.Refusal.TheVariants.{ShortBuffer, BadShape}
@@ -21,10 +18,10 @@ use Rattle.stored.specs.declared.counters.Counters.{Counters}
 use Rattle.text.proofs.Laws.Tests.{cases, clash}
 use Rattle.text.proofs.Laws.Order.{not-given}
 use Rattle.text.specs.declared.output.Length.{Length}
-use Rattle.filing.specs.Limits.{max_moves_line, listing_size}
+use Rattle.filing.specs.Limits.{listing_size}
 use Rattle.text.specs.Output.{Adds, measured}
 use Rattle.filing.specs.Listing.{refused_word, refused_line}
-use Rattle.filing.specs.Listed.{listing_in, listing_room, listing_refusal, refused_conditions, RefusedWritten}
+use Rattle.filing.specs.Listed.{listing_in, listing_room, listing_refusal, refused_conditions}
 use Rattle.text.proofs.Laws.Decimal.{tens, decimal-few}
 use Rattle.text.proofs.Laws.Output.{measured-length}
 

@@ -24,4 +24,4 @@ same_name-is a b =
     (λ t. decides.0 (sym (same_name-equal a b) ∙ t), λ e. same_name-equal a b ∙ decides.1 e)
 
 pub unequal-length : (a b : List ℕ) → (length a ≡ length b → ⊥) → same_name a b ≡ false
-unequal-length a b h = cases (same_name a b) (λ t. absurd (h (ap length ((same_name-is a b).0 t)))) (λ f. f)
+unequal-length a b h = cases (same_name a b) (λ e. absurd (h (ap length ((same_name-is a b).0 e)))) (λ e. e)

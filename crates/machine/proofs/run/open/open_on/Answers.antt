@@ -18,7 +18,7 @@ pub walk_from-walked-requires : goal.walk_from-walked-requires
 walk_from-walked-requires c =
     let d = c.depth-d in
     let s = run-shape c.args.a.now c.args.run.now c.requires.0.run_is_shaped in
-    let q : c.state_at.result ≤ suc (label_count c.args.a.now) = rw c.state_at.ensures.0 (s.state d.result (omega (arith, d.ensures.0))) in
+    let q : c.state.result ≤ suc (label_count c.args.a.now) = rw c.state.ensures.value (s.state d.result (omega (arith, d.ensures))) in
     record { walkable = (openable c.args.a.now c.requires.0.shaped c.requires.0.size).walkable; state = q; within = c.first_label-first.ensures.within }
 
 pub write-requires : goal.write-requires
@@ -27,12 +27,12 @@ write-requires c =
     let R = c.args.run.now in
     let E = c.args.e.now in
     let d = c.depth-d in
-    let q = c.state_at in
+    let q = c.state in
     let f = c.first_label-first in
-    let at : q.result ≡ state_at R (depth_of R) = q.ensures.0 ∙ ap (λ (n : ℕ). state_at R n) d.ensures.0 in
+    let at : q.result ≡ state_at R (depth_of R) = q.ensures.value ∙ ap (λ (n : ℕ). state_at R n) d.ensures in
     let w : c.walk_from-walked.result ≡ open_walk A R E = c.walk_from-walked.ensures.walked ∙ ap₂ (walk_by A) at f.ensures.found in record {
-      openable = (openable A c.requires.0.shaped c.requires.0.size, (c.requires.0.run_length, (omega (arith, d.ensures.0, c.requires.1.0), c.requires.1.1)));
-      first_value = (f.ensures.found, (d.ensures.0, ap (λ (x : Walk). x.state) w));
+      openable = (openable A c.requires.0.shaped c.requires.0.size, (c.requires.0.run_length, (omega (arith, d.ensures, c.requires.1.0), c.requires.1.1)));
+      first_value = (f.ensures.found, (d.ensures, ap (λ (x : Walk). x.state) w));
     }
 
 pub returns : goal.returns
@@ -41,10 +41,10 @@ returns c =
     let R = c.args.run.now in
     let E = c.args.e.now in
     let d = c.depth-d in
-    let q = c.state_at in
+    let q = c.state in
     let w = c.walk_from-walked in
     let f = c.first_label-first in
-    let at : q.result ≡ state_at R (depth_of R) = q.ensures.0 ∙ ap (λ (n : ℕ). state_at R n) d.ensures.0 in
+    let at : q.result ≡ state_at R (depth_of R) = q.ensures.value ∙ ap (λ (n : ℕ). state_at R n) d.ensures in
     let l : q.result ≤ suc (label_count A) = rw at ((run-shape A R c.requires.0.run_is_shaped).state (depth_of R) (omega arith)) in (
       w.ensures.walked ∙ ap₂ (walk_by A) at f.ensures.found,
       (omega (arith, w.ensures.moves, size-within A (openable A c.requires.0.shaped c.requires.0.size).walkable.falling q.result l), c.write.ensures),

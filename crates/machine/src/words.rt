@@ -3,10 +3,11 @@ ghost use Rattle.std.specs.Prelude.{◌≡◌, ◌+◌, ◌≤◌, ◌<◌, leng
 ghost use Rattle.notation.specs.Layout.{word_size};
 ghost use Rattle.notation.specs.Reads.{word16};
 
-// A number of two bytes, both within the buffer.
+// A number of two bytes, the lower first.
+#[tactic(auto, unfolding(notation::specs::Reads::word16))]
 pub fn word(a: &[u8], at: usize) -> usize
     requires { at + word_size ≤ length a.now }
     ensures { (result ≡ word16 a.now at) × (result < 65536) }
 {
-    a[at] as usize + 256 * (a[at + 1] as usize)
+    usize::from(u16::from_le_bytes([a[at], a[at + 1]]))
 }
