@@ -63,7 +63,7 @@ RefusesShort size a run out answer a' run' out' =
     AnswersBy (gives (too_small size a run out) ShortBuffer ∷ []) (says answer)
     × IfRefused (number_said (says answer)) ((a' ≡ a) × ((run' ≡ run) × (out' ≡ out)))
 
--- a set is built and a report filed with it: the counters, or the number of the set's refusal, or of the report's
+-- a set is built and a report filed with it: the counters, or the set's refusal, or the report's
 pub data FilesText (text report a run : List ℕ) : Result Counters Refusal → List ℕ → List ℕ → Type 0 where
   set_refused : {r : Refusal} {a' : List ℕ} → Built text a (number_of r) a' → FilesText text report a run (Err r) a' run
   report_refused : {r : Refusal} {a' run' : List ℕ} (c' : Counters) → Built text a 0 a' → Files a' run no_counters report (number_of r) run' c' → FilesText text report a run (Err r) a' run'

@@ -40,7 +40,7 @@ fn too_small(a: &[u8], run: &[u8], out: &[u8], size: usize) -> bool
     lent::too_short(a, run) || out.len() < size
 }
 
-// Builds a set and files a report with it: the counters, or the set's refusal, or the report's.
+// Builds a set and files a report with it: the refusal is the set's, or the report's.
 fn file_text(
     text: &[u8],
     report: &[u8],

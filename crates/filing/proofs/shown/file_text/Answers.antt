@@ -4,11 +4,10 @@ use Rattle.filing.specs.Shown.{set_refused, report_refused, report_filed}
 use Rattle.filing.proofs.shown.file_text.Goals as goal
 
 pub returns-in_err-build : goal.returns-in_err-build
-returns-in_err-build c = rw (handed_on c.from_residual.result _ c.from_residual.ensures.1) (set_refused c.in_err-build.ensures)
+returns-in_err-build c = rw (handed_on _ _ c.from_residual.ensures.1) (set_refused c.in_err-build.ensures)
 
 pub returns-in_err-file_report : goal.returns-in_err-file_report
-returns-in_err-file_report c =
-    rw (handed_on c.from_residual-in_err-file_report.result _ c.from_residual-in_err-file_report.ensures.1) (report_refused _ c.in_ok-build.ensures (rw c.none-counters.ensures at c.in_err-file_report.ensures))
+returns-in_err-file_report c = rw (handed_on _ _ c.from_residual-in_err-file_report.ensures.1) (report_refused _ c.in_ok-build.ensures (rw c.none-counters.ensures at c.in_err-file_report.ensures))
 
 pub returns : goal.returns
 returns c = report_filed c.in_ok-build.ensures (rw c.none-counters.ensures at c.in_ok-file_report.ensures)
