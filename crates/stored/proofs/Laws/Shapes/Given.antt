@@ -1,7 +1,7 @@
 -- The refusals of the calls on a run, condition by condition, and what an accepted call may rely on.
 use Prim.Native.Nat.{ℕ, suc, ◌+◌, ◌≤◌, ◌<◌}
 use mathlib.Core.Path.{◌≡◌, refl, ◌∙◌, ap}
-use mathlib.Core.Bool.{true, false, not, ◌&&◌}
+use mathlib.Core.Bool.{Bool, true, false, not, ◌&&◌}
 use mathlib.Core.List.{List, [], ◌∷◌, ◌++◌}
 use native.Mathlib.Omega.{arith}
 use lib.Dec.{leb, ltb, eqb}
@@ -11,7 +11,7 @@ use borrow.Author.Tests.{le-ltb, ltb-false, not-false, leb-false}
 use Rattle.text.specs.Names.{Name, name_form, too_long, max_name}
 use Rattle.text.specs.Bytes.{le16}
 use Rattle.notation.specs.Layout.{word_size}
-use Rattle.text.specs.declared.refusals.Refusal.TheVariants.{ShortBuffer, NameTooLong, OverCapacity, SyntaxError, NotOneRoot, TooDeep, BadShape}
+use Rattle.text.specs.declared.refusals.Refusal.TheVariants.{ShortBuffer, NameTooLong, OverCapacity, SyntaxError, NotOneRoot, TooDeep, NotFound, BadShape}
 use Rattle.text.specs.Refusals.{number_of}
 use Rattle.model.specs.Limits.{max_depth, max_opens}
 use Rattle.text.specs.Order.{given, first}
@@ -20,6 +20,7 @@ use Rattle.stored.specs.Tables.{start_of}
 use Rattle.stored.specs.Shape.{automaton_shaped}
 use Rattle.stored.specs.Run.{row_at, rows_at, row_size, run_size, state_in}
 use Rattle.stored.specs.RunCalls.{depth_of, run_shaped, counters_shaped, shaped, too_short, lent_conditions, open_others, close_others, root_closed, start_refusal, open_refusal, close_refusal, start_run}
+use Rattle.stored.specs.Asking.{ask_refusal}
 use Rattle.stored.specs.Usable.{Ready, Usable}
 use Rattle.stored.specs.declared.counters.Counters.{Counters}
 use Rattle.text.proofs.Laws.Tests.{both, neither}
@@ -87,6 +88,16 @@ may-close a run c e h =
     let f = both (automaton_shaped a) (run_shaped a run && counters_shaped run c) (not-false _ t.0) in
     let g = both (run_shaped a run) (counters_shaped run c) f.1 in
     record { ready = record { size = l.0; shaped = f.0; run_length = l.1; run_is_shaped = g.0 }; depth = w.0; counters = g.1 }
+
+pub may-ask : (a run : List ℕ) (there : Bool) → ask_refusal a run there ≡ 0 → Ready a run × (there ≡ true)
+unfolding ask_refusal
+may-ask a run there h =
+    let s = not-given (too_short a run) ShortBuffer _ h in
+    let t = not-given (not (automaton_shaped a && run_shaped a run)) BadShape _ s.1 in
+    let u = not-given (not there) NotFound _ t.1 in
+    let l = long-enough a run s.0 in
+    let f = both (automaton_shaped a) (run_shaped a run) (not-false _ t.0) in
+    (record { size = l.0; shaped = f.0; run_length = l.1; run_is_shaped = f.1 }, not-false _ u.0)
 
 -- what passes the shape test, by the conditions of what is lent
 pub lent-usable : (a run : List ℕ) (c : Counters) → given (lent_conditions a run c) ≡ 0 → Usable a run c

@@ -1,11 +1,11 @@
 -- `build::parents::put_word`: past the last label nothing is done; else the stores and the search are those of `labelled`.
-use Prim.Native.Nat.{ℕ, suc, ◌+◌, ◌≤◌, ◌<◌}
+use Prim.Native.Nat.{ℕ, ◌+◌, ◌≤◌, ◌<◌}
 use mathlib.Core.Path.{◌≡◌, sym, ap, subst}
 use mathlib.Core.List.{List}
 use native.Mathlib.Omega.{arith}
 use borrow.Author.Tests.{lt-ltb, le-ltb}
 use Rattle.notation.specs.Limits.{max_labels}
-use Rattle.notation.specs.Reads.{label_name, label_count}
+use Rattle.notation.specs.Reads.{label_name}
 use Rattle.stored.specs.Tables.{goto}
 use Rattle.stored.specs.Usable.{Searchable}
 use Rattle.stored.specs.Code.Parents.{Passed, word_stored, labelled}
