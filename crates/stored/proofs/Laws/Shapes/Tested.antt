@@ -1,35 +1,19 @@
 -- A test put together from tests: what is stored takes the place of what was read, one test at a time.
-use Prim.Native.Nat.{ℕ, zero, suc, ◌+◌, ◌-◌, ◌^◌, ◌≤◌, ◌<◌, max}
+use Prim.Native.Nat.{ℕ, zero, suc, ◌-◌, ◌^◌, ◌≤◌, ◌<◌, max}
 use mathlib.Core.Path.{◌≡◌, refl, sym, ap, ◌∙◌}
-use mathlib.Core.Bool.{Bool, true, false, not, ◌&&◌, and-true, and_assoc}
+use mathlib.Core.Bool.{Bool, true, false, ◌&&◌, and-true, and_assoc}
 use mathlib.Core.List.{List, [], ◌∷◌}
 use native.Mathlib.Nat.{max-le, le-max_left, le-max_right}
 use native.Mathlib.Omega.{arith}
-use borrow.Author.Tests.{leb-true, le-leb, ltb-true, lt-ltb, not-true, not-false}
+use borrow.Author.Tests.{leb-true, le-leb, ltb-true, lt-ltb}
 use lib.Bits.{bit_or, or_lt, or_add_and, and_le_l, and_le_r}
 use lib.Dec.{leb, ltb}
 use Rattle.std.specs.List.{fold, list_all}
-use Rattle.text.specs.Names.{within}
 use Rattle.text.proofs.Laws.Tests.{cases}
 use Rattle.stored.specs.Tables.{size_at, size_of}
 
-pub and-by : {r a b x y : Bool} → r ≡ (a && b) → a ≡ x → b ≡ y → r ≡ (x && y)
-and-by e p q = rw (e, p, q)
-
 pub leb-by : {m n x y : ℕ} → m ≡ x → n ≡ y → leb m n ≡ leb x y
 leb-by p q = rw (p, q)
-
-pub ltb-by : {m n x y : ℕ} → m ≡ x → n ≡ y → ltb m n ≡ ltb x y
-ltb-by p q = rw (p, q)
-
-pub sum_by : {m n x y : ℕ} → m ≡ x → n ≡ y → m + n ≡ x + y
-sum_by p q = rw (p, q)
-
-pub within_by : (low high : ℕ) {r : Bool} {m x : ℕ} → r ≡ within low high m → m ≡ x → r ≡ within low high x
-within_by low high e p = rw (e, p)
-
-pub size-by : (a : List ℕ) {r m x : ℕ} → r ≡ size_of a m → m ≡ x → r ≡ size_of a x
-size-by a e p = rw (e, p)
 
 -- the length of the word of a state: of the empty word and `#`, and of a label's
 pub size_small : (a : List ℕ) (q : ℕ) → q < 2 → q ≡ size_of a q
@@ -43,13 +27,6 @@ unfolding size_of
 size-label a zero h = absurd (omega arith)
 size-label a (suc zero) h = absurd (omega arith)
 size-label a (suc (suc l)) h = let s : suc (suc l) - 2 ≡ l = omega arith in rw s
-
--- what a call that answered says of its test, where the call was asked not to fail
-pub fails_by : {r x : Bool} → r ≡ x → not r ≡ true → x ≡ false
-fails_by {r} e p = sym e ∙ not-true r p
-
-pub passes-by : {r x : Bool} → r ≡ x → not r ≡ false → x ≡ true
-passes-by {r} e p = sym e ∙ not-false r p
 
 -- one test in the place of two
 as-both : (r x y : Bool) → (x ≡ true → y ≡ true → r ≡ true) → (r ≡ true → (x ≡ true) × (y ≡ true)) → r ≡ (x && y)

@@ -17,10 +17,10 @@ unfolding flag_role
 returns-then-last c =
     let i = c.args.i in
     let star : c.if-step.part ≡ flagged c.args.step.star star_mask i c.args.part.now =
-      elim c.if-step.branch [
-        then-step w ↦ w.part-is ∙ rw w.if-step.true w.flag.ensures
+    elim c.if-step.branch [
+      | then-step w ↦ w.part-is ∙ rw w.if-step.true w.flag.ensures
       | else-step w ↦ w.part-is ∙ rw w.if-step.false (stays star_mask i c.args.part.now)
-      ] in
+    ] in
     rw c.if-last.true (c.flag-then-last.ensures ∙ rw (c.flag-2.ensures, c.axis_mask.ensures, star))
 
 pub returns-else-last : goal.returns-else-last
@@ -28,9 +28,9 @@ unfolding flag_role
 returns-else-last c =
     let i = c.args.i in
     let star : c.if-step.part ≡ flagged c.args.step.star star_mask i c.args.part.now =
-      elim c.if-step.branch [
-        then-step w ↦ w.part-is ∙ rw w.if-step.true w.flag.ensures
+    elim c.if-step.branch [
+      | then-step w ↦ w.part-is ∙ rw w.if-step.true w.flag.ensures
       | else-step w ↦ w.part-is ∙ rw w.if-step.false (stays star_mask i c.args.part.now)
-      ] in
+    ] in
     let axis : c.flag-2.new.part ≡ flagged true (axis_mask c.args.first c.args.step.descendant) i (flagged c.args.step.star star_mask i c.args.part.now) = c.flag-2.ensures ∙ rw (c.axis_mask.ensures, star) in
     rw c.if-last.false (axis ∙ stays last_mask i (flagged true (axis_mask c.args.first c.args.step.descendant) i (flagged c.args.step.star star_mask i c.args.part.now)))
