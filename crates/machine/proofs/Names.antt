@@ -1,7 +1,7 @@
 -- The names of labels, as they stand in the set's text.
 use Prim.Native.Nat.{ℕ, ◌+◌, ◌≤◌, ◌<◌}
 use mathlib.Core.Path.{◌≡◌, refl, sym, ap, ◌∙◌}
-use mathlib.Core.Bool.{Bool, ◌&&◌}
+use mathlib.Core.Bool.{Bool, false, false≢true}
 use mathlib.Core.List.{List, [], ◌∷◌}
 use native.Mathlib.Omega.{arith}
 use lib.Dec.{eqb}
@@ -18,6 +18,9 @@ use Rattle.notation.specs.Reads.{text_slice, present, label_at, label_name, labe
 -- what decides equality of names compares them
 pub decided : (r : Bool) (xs ys : List ℕ) → Decides r (xs ≡ ys) → r ≡ same_name xs ys
 decided r xs ys d = same_from_decides r (same_name xs ys) d (same_name-is xs ys)
+
+pub unequal-length : (xs ys : List ℕ) → (length xs ≡ length ys → ⊥) → false ≡ same_name xs ys
+unequal-length xs ys h = decided false xs ys (λ t. absurd (false≢true t), λ e. absurd (h (ap length e)))
 
 none : (e : List ℕ) {r : Bool} → r ≡ eqb (length e) 0 → r ≡ same_name [] e
 unfolding same_name

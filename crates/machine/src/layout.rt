@@ -27,20 +27,18 @@ pub const LINK_SIZE: usize = BITS_IN + WORD_SIZE;
 // One bit a step.
 pub const MASK_SIZE: usize = MAX_ALL_STEPS / 8;
 
-// The masks in the order in which they stand: `*`; `/` and `//` of a step that is not the first; `//` and `/` of a first step; the last step.
-pub const STAR_MASK: usize = 0;
+// The masks, in the order in which they stand: `*`; `/` and `//` of a step that is not the first; `//` and `/` of a first step; the last step.
+#[derive(Clone, Copy)]
+pub enum Mask {
+    Star,
+    Child,
+    Descendant,
+    Anywhere,
+    Root,
+    Last,
+}
 
-pub const CHILD_MASK: usize = STAR_MASK + 1;
-
-pub const DESCENDANT_MASK: usize = CHILD_MASK + 1;
-
-pub const ANYWHERE_MASK: usize = DESCENDANT_MASK + 1;
-
-pub const ROOT_MASK: usize = ANYWHERE_MASK + 1;
-
-pub const LAST_MASK: usize = ROOT_MASK + 1;
-
-pub const MASK_COUNT: usize = LAST_MASK + 1;
+pub const MASK_COUNT: usize = Mask::Last as usize + 1;
 
 pub const HEADS_AT: usize = SET_SIZE;
 

@@ -2,40 +2,38 @@
 #![tactic(auto, unfolding(stored::specs::Automaton::automaton_size, stored::specs::Automaton::mask_size, stored::specs::Automaton::masks_at, stored::specs::Automaton::start_at))]
 
 ghost use Rattle.std.specs.Prelude.{◌≡◌, true, ◌+◌, ◌*◌, ◌≤◌, ◌<◌, length};
-ghost use Rattle.stored.specs.Automaton.{mask_size, mask_count, automaton_size, bit};
+ghost use Rattle.stored.specs.Automaton.{mask_size, automaton_size, bit};
 ghost use Rattle.stored.specs.Code.Masks.{flagged, axis_mask, flag_role, flag_step, flag_steps, flag_path, with_masks, child_at, rooted, any_rooted, with_start};
 ghost use Rattle.notation.specs.Reads.{step_at, path_count};
+ghost use Rattle.machine.specs.Masks.{mask_number};
 
-use crate::layout::{
-    ANYWHERE_MASK, CHILD_MASK, DESCENDANT_MASK, LAST_MASK, MASK_SIZE, MASKS_AT, ROOT_MASK,
-    STAR_MASK, START_AT,
-};
+use crate::layout::{MASK_SIZE, MASKS_AT, Mask, START_AT};
 use notation::{PathPlace, reads};
 use text::store::put16;
 
 const STEP_BITS: usize = 8 * MASK_SIZE;
 
-// Bit i of mask m.
-fn flag(part: &mut [u8], on: bool, m: usize, i: usize)
-    requires { (m < mask_count) × (i < 8 * mask_size) × (automaton_size ≤ length part.old) }
-    ensures { part.new ≡ flagged on m i part.old }
+// Bit i of a mask.
+fn flag(part: &mut [u8], on: bool, mask: Mask, i: usize)
+    requires { (i < 8 * mask_size) × (automaton_size ≤ length part.old) }
+    ensures { part.new ≡ flagged on (mask_number mask) i part.old }
 {
     if on {
-        let j = STEP_BITS * m + i;
+        let j = STEP_BITS * mask as usize + i;
         let at = MASKS_AT + j / 8;
         part[at] |= 1 << (j % 8);
     }
 }
 
 // The mask of a step's axis.
-fn axis_mask(first: bool, deep: bool) -> usize
-    ensures { (result ≡ axis_mask first deep) × (result < mask_count) }
+fn axis_mask(first: bool, deep: bool) -> Mask
+    ensures { mask_number result ≡ axis_mask first deep }
 {
     match (first, deep) {
-        (true, true) => ANYWHERE_MASK,
-        (true, false) => ROOT_MASK,
-        (false, true) => DESCENDANT_MASK,
-        (false, false) => CHILD_MASK,
+        (true, true) => Mask::Anywhere,
+        (true, false) => Mask::Root,
+        (false, true) => Mask::Descendant,
+        (false, false) => Mask::Child,
     }
 }
 
@@ -45,9 +43,9 @@ fn flag_role(part: &mut [u8], i: usize, deep: bool, star: bool, first: bool, las
     ensures { part.new ≡ flag_role i deep star first last part.old }
 {
     let axis = axis_mask(first, deep);
-    flag(part, star, STAR_MASK, i);
+    flag(part, star, Mask::Star, i);
     flag(part, true, axis, i);
-    flag(part, last, LAST_MASK, i);
+    flag(part, last, Mask::Last, i);
 }
 
 fn flag_step(part: &mut [u8], i: usize, first: bool, last: bool)

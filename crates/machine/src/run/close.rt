@@ -1,4 +1,6 @@
 // A close: the innermost element's row becomes zero.
+#![tactic(auto, unfolding(stored::specs::Run::row_size, stored::specs::Run::run_size))]
+
 ghost use Rattle.std.specs.Prelude.{◌≡◌, ◌≤◌, ◌<◌, length, true};
 ghost use Rattle.text.specs.Answers.{refusal_in};
 ghost use Rattle.text.specs.Names.{name_form};
@@ -8,26 +10,25 @@ ghost use Rattle.stored.specs.Usable.{Usable};
 ghost use Rattle.stored.specs.Run.{run_size};
 ghost use Rattle.stored.specs.RunCalls.{depth_of, close_run};
 
-use crate::layout::MASK_SIZE;
-use crate::run::layout::{ACTIVE_IN, DEPTH_AT, SEEN_IN};
+use crate::run::layout::{ACTIVE_IN, DEPTH_AT, ROW_SIZE, SEEN_IN};
 use crate::run::rows::Run;
 use crate::run::{lent, refusals, row, rows};
 use stored::counters::Counters;
 use text::names::name_form;
 use text::refusals::Refusal;
 
-// A close that is accepted: for callers that know the size and the depth of the run, and that an element is open. The row of the innermost
-// element is cleared part by part, each small enough to be cleared in place; not in their order, or the compiler would join them to one call.
+// A close that is accepted: for callers that know the size and the depth of the run, and that an element is open. The row is cleared in parts
+// and not in their order: joined, they are a call, which takes more instructions.
 fn close_on(run: &mut [u8])
     requires { (run_size ≤ length run.old) × ((0 < depth_of run.old) × (depth_of run.old ≤ max_depth)) }
     ensures { run.new ≡ close_run run.old }
 {
     let d = Run { bytes: run }.depth();
     let at = rows::row_at(d);
-    row::clear_from(run, at + SEEN_IN, MASK_SIZE);
-    row::clear_from(run, at, ACTIVE_IN);
+    run[at + SEEN_IN..at + ROW_SIZE].fill(0);
+    run[at..at + ACTIVE_IN].fill(0);
     row::put_word(run, DEPTH_AT, d - 1);
-    row::clear_from(run, at + ACTIVE_IN, MASK_SIZE);
+    run[at + ACTIVE_IN..at + SEEN_IN].fill(0);
 }
 
 // The close, for callers that know that automaton, run and counters pass the shape test, and that the name has name form.

@@ -4,18 +4,16 @@
 ghost use Rattle.std.specs.Prelude.{◌≡◌, not, ◌&&◌, ◌||◌, ℕ, suc, ◌+◌, ◌-◌, ◌*◌, ◌≤◌, ◌<◌, eqb, length};
 ghost use Rattle.std.proofs.lemmas.List.Edits.{sets};
 ghost use Rattle.model.specs.Limits.{max_depth};
-ghost use Rattle.stored.specs.Automaton.{mask_size, anywhere_mask, root_mask, mask_count, automaton_size, bit_bytes};
+ghost use Rattle.stored.specs.Automaton.{mask_size, anywhere_mask, root_mask, automaton_size, bit_bytes};
 ghost use Rattle.stored.specs.Bits.{bit_at, bit_in};
 ghost use Rattle.notation.specs.Limits.{max_paths, max_steps};
 ghost use Rattle.notation.specs.Reads.{step_count};
 ghost use Rattle.stored.specs.Run.{row_at, active_in, seen_in, matches_at, run_size};
 ghost use Rattle.stored.specs.RunCalls.{mask_bit, shifted, permitted, used_bytes};
 ghost use Rattle.stored.specs.Code.OpenSteps.{Block, taken_active, taken_seen, taken_matched, stored_bits};
+ghost use Rattle.machine.specs.Masks.{mask_number};
 
-use crate::layout::{
-    ANYWHERE_MASK, CHILD_MASK, DESCENDANT_MASK, LAST_MASK, MASK_SIZE, MASKS_AT, ROOT_MASK,
-    STAR_MASK,
-};
+use crate::layout::{MASK_SIZE, MASKS_AT, Mask};
 use crate::run::layout::{ACTIVE_IN, MATCHES_AT, SEEN_IN};
 use crate::run::rows;
 use crate::words::word;
@@ -38,12 +36,12 @@ fn bits(bytes: &[u8], base: usize, from: usize) -> u8x16
     u8x16::from_slice(&bytes[base + from..])
 }
 
-// A block of mask m.
-fn mask(a: &[u8], m: usize, from: usize) -> u8x16
-    requires { (automaton_size ≤ length a.now) × ((m < mask_count) × (from + 16 ≤ mask_size)) }
-    ensures { Block (λ i. mask_bit a.now m (8 * from + i)) result }
+// A block of a mask.
+fn mask(a: &[u8], mask: Mask, from: usize) -> u8x16
+    requires { (automaton_size ≤ length a.now) × (from + 16 ≤ mask_size) }
+    ensures { Block (λ i. mask_bit a.now (mask_number mask) (8 * from + i)) result }
 {
-    bits(a, MASKS_AT + MASK_SIZE * m, from)
+    bits(a, MASKS_AT + MASK_SIZE * mask as usize, from)
 }
 
 // A block of the bits from `base` on, each one step on.
@@ -63,9 +61,9 @@ fn first(a: &[u8], d: usize, from: usize) -> u8x16
     requires { (automaton_size ≤ length a.now) × (from + 16 ≤ mask_size) }
     ensures { Block (λ i. mask_bit a.now anywhere_mask (8 * from + i) || (eqb d 0 && mask_bit a.now root_mask (8 * from + i))) result }
 {
-    let anywhere = mask(a, ANYWHERE_MASK, from);
+    let anywhere = mask(a, Mask::Anywhere, from);
     if d == 0 {
-        return anywhere | mask(a, ROOT_MASK, from);
+        return anywhere | mask(a, Mask::Root, from);
     }
     anywhere
 }
@@ -76,14 +74,14 @@ fn store_block(a: &[u8], run: &mut [u8], taken: &[u8], d: usize, from: usize)
     ensures { run.new ≡ sets (sets (sets run.old (row_at (suc d) + active_in + from) (bit_bytes (λ i. taken_active a.now run.old taken.now d (8 * from + i)) 16)) (row_at (suc d) + seen_in + from) (bit_bytes (λ i. taken_seen a.now run.old taken.now d (8 * from + i)) 16)) (matches_at + from) (bit_bytes (λ i. taken_matched a.now run.old taken.now d (8 * from + i)) 16) }
 {
     let around = rows::row_at(d);
-    let child = mask(a, CHILD_MASK, from) & one_on(run, around + ACTIVE_IN, from);
-    let descendant = mask(a, DESCENDANT_MASK, from) & one_on(run, around + SEEN_IN, from);
+    let child = mask(a, Mask::Child, from) & one_on(run, around + ACTIVE_IN, from);
+    let descendant = mask(a, Mask::Descendant, from) & one_on(run, around + SEEN_IN, from);
     let permitted = child | (descendant | first(a, d, from));
     // `*`, and the labels taken.
-    let candidates = mask(a, STAR_MASK, from) | bits(taken, 0, from);
+    let candidates = mask(a, Mask::Star, from) | bits(taken, 0, from);
     let active = candidates & permitted;
     let seen = bits(run, around + SEEN_IN, from) | active;
-    let ended = active & mask(a, LAST_MASK, from);
+    let ended = active & mask(a, Mask::Last, from);
     let matched = bits(run, MATCHES_AT, from) | ended;
     let at = rows::row_at(d + 1);
     active.copy_to_slice(&mut run[at + ACTIVE_IN + from..]);

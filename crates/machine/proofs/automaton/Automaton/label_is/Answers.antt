@@ -6,14 +6,13 @@ use lib.ListN.{length, take, drop}
 use borrow.Author.Rules.{rules}
 use borrow.Author.Tests.{tests, ne_eqb}
 use lib.Dec.{eqb}
-use Rattle.text.proofs.Laws.Bytes.SameName.{unequal-length}
 use Rattle.std.proofs.lemmas.Iterator.{YieldsList-from_slice, YieldsList-from_zip, same_from_all}
 use Rattle.text.specs.Names.{same_name}
 use Rattle.notation.specs.Limits.{max_set_bytes, max_labels}
 use Rattle.notation.specs.Layout.{set_size, text_at, labels_at, label_size}
 use Rattle.notation.specs.Reads.{label_begin, label_length}
 use Rattle.stored.specs.Automaton.{automaton_size}
-use Rattle.machine.proofs.Names.{decided, past-room, within-room}
+use Rattle.machine.proofs.Names.{decided, unequal-length, past-room, within-room}
 use Rattle.machine.proofs.automaton.Automaton.label_is.Goals as goal
 
 pub returns-then-to : goal.returns-then-to
@@ -54,5 +53,5 @@ returns-else-name-e c =
     let inside : label_begin a l + label_length a l ≤ max_set_bytes = omega (arith, c.word-from.ensures.value, c.word.ensures.value) in
     let size : from + c.word.result - from ≡ c.word.result = omega arith in
     let held : name ≡ take (label_length a l) (drop (text_at + label_begin a l) a) = rw (size, c.self.view_is, c.word-from.ensures.value, c.word.ensures.value) in
-    let same : eqb (length name) (length e) ≡ same_name name e = ne_eqb (length name) (length e) c.if-name-e.false ∙ sym (unequal-length name e c.if-name-e.false) in
+    let same : eqb (length name) (length e) ≡ same_name name e = ne_eqb (length name) (length e) c.if-name-e.false ∙ unequal-length name e c.if-name-e.false in
     within-room a l (omega arith) c.requires.few c.requires.there e inside (same ∙ ap (λ n. same_name n e) held)
