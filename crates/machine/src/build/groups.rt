@@ -1,17 +1,16 @@
 // Labels of one name whose steps stand in one byte of a mask, taken together.
 #![tactic(auto, unfolding(notation::specs::Limits::max_labels, stored::specs::Automaton::automaton_size, stored::specs::Automaton::links_at, stored::specs::Automaton::link_size))]
 
-ghost use Rattle.std.specs.Prelude.{◌≡◌, ◌/◌, ◌≤◌, ◌<◌, min, length};
+ghost use Rattle.std.specs.Prelude.{◌≡◌, ◌+◌, ◌/◌, ◌≤◌, ◌<◌, min, length};
 ghost use Rattle.notation.specs.Limits.{max_labels};
-ghost use Rattle.notation.specs.Reads.{label_count, label_step};
-ghost use Rattle.stored.specs.Automaton.{automaton_size};
+ghost use Rattle.notation.specs.Reads.{word16, label_count, label_step};
+ghost use Rattle.stored.specs.Automaton.{automaton_size, link_entry_at};
 ghost use Rattle.stored.specs.Code.Groups.{joins, far_over, bits_over, group_stored, grouped, grouped_below};
 ghost use Rattle.machine.specs.Places.{place_of};
 
 use crate::automaton::{Automaton, Label};
 use crate::build::chains::label_count;
 use crate::layout::{BITS_IN, FAR_IN, LINK_SIZE, LINKS_AT, NEXT_IN};
-use crate::walk::link_field;
 use notation::layout::{LABEL_SIZE, LABEL_STEP_IN, LABELS_AT};
 use notation::reads::word_at;
 use text::store::put16;
@@ -21,6 +20,14 @@ fn step_of(part: &[u8], l: usize) -> usize
     ensures { (result ≡ label_step part.now l) × (result < 65536) }
 {
     word_at(part, LABELS_AT + LABEL_SIZE * l + LABEL_STEP_IN)
+}
+
+// A field of the links of label l, which a place may lead to that is none's: read with a range test.
+fn link_field(part: &[u8], l: usize, field: usize) -> usize
+    requires { (l ≤ 65536) × (field ≤ 65536) }
+    ensures { (result ≡ word16 part.now (link_entry_at l + field)) × (result < 65536) }
+{
+    word_at(part, LINKS_AT + LINK_SIZE * l + field)
 }
 
 // Whether a label has its step in byte b.
