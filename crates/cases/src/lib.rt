@@ -1,6 +1,7 @@
-// What the programs of cases share: a script is read line by line, and what is answered to each line is printed.
+// What the programs of cases share: a script is carried out line by line, and what is answered to each line is printed.
 #![tactic(auto)]
 
-pub mod expand;
-pub mod say;
-pub mod words;
+pub mod answers;
+pub mod lent;
+pub mod script;
+pub mod texts;

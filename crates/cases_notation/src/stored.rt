@@ -1,125 +1,88 @@
-// What the reading calls say of a stored set, and writing it back.
-use cases::say;
+// What the reading calls say of a stored set.
+use anyhow::Result;
+use cases::answers::{Shown, YesNo};
 use notation::layout::SET_SIZE;
-use notation::reads::{FolderAt, FolderIndex, LabelAt, PathAt, StepAt};
+use notation::reads::{StoredFolder, StoredLabel, StoredPath, StoredStep};
 use notation::{FolderNumber, PathPlace, reads};
-use text::written::Written;
 
 // The first, the last and the next byte of a buffer of one byte more than a set.
-pub fn edges(part: &[u8]) {
-    say::count(b"bytes ", reads::byte_at(part, 0));
-    say::count(b" ", reads::byte_at(part, SET_SIZE - 1));
-    say::count(b" ", reads::byte_at(part, SET_SIZE));
-    say::bytes(b"\n");
+pub fn edges(rt: &impl Print, part: &[u8]) -> Result<()> {
+    let [first, last, next] = [0, SET_SIZE - 1, SET_SIZE].map(|at| reads::byte_at(part, at));
+    Ok(println!(rt; "bytes {first} {last} {next}")?)
 }
 
-pub fn counts(part: &[u8]) {
-    say::count(b"text ", reads::text_len(part));
-    say::count(b", folders ", reads::folders(part));
-    say::count(b", paths ", reads::paths(part));
-    say::count(b", steps ", reads::steps(part));
-    say::count(b", labels ", reads::labels(part));
-    say::bytes(b"\n");
+pub fn counts(rt: &impl Print, part: &[u8]) -> Result<()> {
+    Ok(println!(rt;
+        "text {}, folders {}, paths {}, steps {}, labels {}",
+        reads::text_len(part),
+        reads::folders(part),
+        reads::paths(part),
+        reads::steps(part),
+        reads::labels(part)
+    )?)
 }
 
-pub fn folder(part: &[u8], i: usize) {
-    say::count(b"folder at ", i);
+pub fn folder(rt: &impl Print, part: &[u8], i: usize) -> Result<()> {
     match reads::folder_at(part, i) {
-        FolderAt::Folder {
-            number,
-            first,
-            paths,
-        } => {
-            say::count(b": number ", number.0);
-            say::count(b", first path ", first.0);
-            say::count(b", paths ", paths);
-            say::bytes(b"\n");
-        }
-        FolderAt::Missing => say::bytes(b": missing\n"),
+        Some(
+            StoredFolder {
+                number: FolderNumber(number),
+                first: PathPlace(first),
+                paths,
+            },
+        ) => println!(rt; "folder at {i}: number {number}, first path {first}, paths {paths}")?,
+        None => println!(rt; "folder at {i}: missing")?,
     }
+    Ok(())
 }
 
-pub fn numbered(part: &[u8], number: usize) {
-    say::count(b"folder of number ", number);
+pub fn numbered(rt: &impl Print, part: &[u8], number: usize) -> Result<()> {
     match reads::folder_of(part, FolderNumber(number)) {
-        FolderIndex::At(i) => {
-            say::count(b": at ", i);
-            say::bytes(b"\n");
-        }
-        FolderIndex::Missing => say::bytes(b": missing\n"),
+        Some(i) => println!(rt; "folder of number {number}: at {i}")?,
+        None => println!(rt; "folder of number {number}: missing")?,
     }
+    Ok(())
 }
 
-pub fn path(part: &[u8], i: usize) {
-    say::count(b"path ", i);
+pub fn path(rt: &impl Print, part: &[u8], i: usize) -> Result<()> {
+    let text = Shown(reads::path_text(part, PathPlace(i)));
     match reads::path_at(part, PathPlace(i)) {
-        PathAt::Path {
-            first,
-            steps,
-            at,
-            size,
-        } => {
-            say::count(b": first step ", first);
-            say::count(b", steps ", steps);
-            say::count(b", at ", at);
-            say::count(b", bytes ", size);
-            say::bytes(b", ");
-        }
-        PathAt::Missing => say::bytes(b": missing"),
+        Some(
+            StoredPath {
+                first,
+                steps,
+                at,
+                size,
+            },
+        ) => println!(rt;
+            "path {i}: first step {first}, steps {steps}, at {at}, bytes {size}, {text}"
+        )?,
+        None => println!(rt; "path {i}: missing{text}")?,
     }
-    say::bytes(reads::path_text(part, PathPlace(i)));
-    say::bytes(b"\n");
+    Ok(())
 }
 
-pub fn step(part: &[u8], i: usize) {
-    say::count(b"step ", i);
+pub fn step(rt: &impl Print, part: &[u8], i: usize) -> Result<()> {
     match reads::step_at(part, i) {
-        StepAt::Step { descendant, star } => {
-            say::yes_no(b": descendant ", descendant);
-            say::yes_no(b", star ", star);
-            say::bytes(b"\n");
+        Some(StoredStep { descendant, star }) => {
+            println!(rt;
+                "step {i}: descendant {}, star {}",
+                YesNo(descendant),
+                YesNo(star)
+            )?
         }
-        StepAt::Missing => say::bytes(b": missing\n"),
+        None => println!(rt; "step {i}: missing")?,
     }
+    Ok(())
 }
 
-pub fn label(part: &[u8], i: usize) {
-    say::count(b"label ", i);
+pub fn label(rt: &impl Print, part: &[u8], i: usize) -> Result<()> {
+    let name = Shown(reads::label_name(part, i));
     match reads::label_at(part, i) {
-        LabelAt::Label { at, size, step } => {
-            say::count(b": at ", at);
-            say::count(b", bytes ", size);
-            say::count(b", step ", step);
-            say::bytes(b", ");
+        Some(StoredLabel { at, size, step }) => {
+            println!(rt; "label {i}: at {at}, bytes {size}, step {step}, {name}")?
         }
-        LabelAt::Missing => say::bytes(b": missing"),
+        None => println!(rt; "label {i}: missing{name}")?,
     }
-    say::bytes(reads::label_name(part, i));
-    say::bytes(b"\n");
-}
-
-fn written(name: &[u8], part: &[u8], out: &mut [u8]) {
-    say::bytes(name);
-    match notation::write::write_text(part, out) {
-        Written::Bytes(size) => {
-            say::count(b": ", size);
-            say::bytes(b"\n");
-        }
-        Written::Refused(_) => say::bytes(b": short\n"),
-    }
-    say::bytes(out);
-}
-
-// Into so many of 78 bytes, each a point before.
-pub fn back(name: &[u8], part: &[u8], n: usize) {
-    let mut out = [b'.'; 78];
-    written_to(name, part, &mut out, n);
-}
-
-fn written_to(name: &[u8], part: &[u8], out: &mut [u8], n: usize) {
-    if out.len() < n {
-        return;
-    }
-    let from = 0;
-    written(name, part, &mut out[from..n]);
+    Ok(())
 }

@@ -10,11 +10,11 @@ abbrev pub counters_in : List ℕ → Counters
 counters_in c = record { opens = get_or c 0 0; closes = get_or c 1 0; moves = get_or c 2 0 }
 
 -- what stands behind the pointer: a refusal leaves it
-abbrev pub value_left : Answer ℕ → ℕ → ℕ
+abbrev pub value_left : {A : Type 0} → Answer A → A → A
 value_left (refused n) before = before
 value_left (value v) before = v
 
-pub record Told (says : Answer ℕ) (before answer after : ℕ) : Type 0 where
+pub record Told {A : Type 0} (says : Answer A) (before : A) (answer : ℕ) (after : A) : Type 0 where
   pub number : answer ≡ number_said says
   pub leaves : after ≡ value_left says before
 

@@ -2,38 +2,29 @@
 // that is there and cannot be read it tells on standard error, and prints nothing. A failed write ends it with an error.
 #![tactic(auto)]
 
-mod files;
-mod output;
+ghost use Rattle.std.specs.Prelude.{IfOk};
+ghost use Rattle.filing.specs.Printed.{PrintedText};
+ghost use Rattle.programs.specs.Shows.{Shows};
 
 use filing::limits::LISTING_SIZE;
+use filing::printing::print_filing;
 use machine::layout::AUTOMATON_SIZE;
 use machine::run::layout::RUN_SIZE;
-use notation::limits::MAX_SET_BYTES;
-use reports::limits::MAX_REPORT;
+use programs::output::{print_page, written};
+use std::alloc::{AllocError, Global};
 use std::io;
-use std::rt::Files;
 
-fn print_filed(rt: &impl Print, set: &[u8], report: &[u8]) -> io::Result<()> {
-    let mut a = [0u8; AUTOMATON_SIZE];
-    let mut run = [0u8; RUN_SIZE];
-    let mut out = [0u8; LISTING_SIZE];
-    let n = output::filed(set, report, &mut a, &mut run, &mut out);
-    rt.write_all(&out[..n])
-}
-
-// One byte more than the limit is read, so that a longer file is refused and never cut.
-fn file_report(rt: &(impl Files + Eprint + Print), set: &[u8]) -> io::Result<()> {
-    let mut report = [0u8; MAX_REPORT + 1];
-    match files::read_file(rt, "report.xml", &mut report) {
-        files::Read::Bytes(n) => print_filed(rt, set, &report[..n]),
-        files::Read::Failed => Ok(()),
-    }
+// What a set and a report print.
+fn filed(alloc: Global, set: &[u8], report: &[u8]) -> Result<Vec<u8>, AllocError>
+    ensures { IfOk result (λ page. Shows PrintedText set.now report.now page.items) }
+{
+    let mut automaton = [0; AUTOMATON_SIZE];
+    let mut run = [0; RUN_SIZE];
+    let mut out = [0; LISTING_SIZE];
+    let answer = print_filing(set, report, &mut automaton, &mut run, &mut out);
+    Vec::from_slice(alloc, written(answer, &out))
 }
 
 fn main(rt: HostRuntime) -> io::Result<()> {
-    let mut set = [0u8; MAX_SET_BYTES + 1];
-    match files::read_file(&rt, "folders.txt", &mut set) {
-        files::Read::Bytes(n) => file_report(&rt, &set[..n]),
-        files::Read::Failed => Ok(()),
-    }
+    print_page(&rt, filed)
 }

@@ -1,4 +1,4 @@
--- Demand 2: what filing a report says of its document.
+-- What filing a report says of its document, by XPath 1.0.
 use Rattle.std.specs.Prelude.{ℕ, suc, ◌+◌, ◌≤◌, ◌≡◌, true, cond, ◌↔◌, eqb}
 use mathlib.Core.List.{List, Memᴰ}
 use Rattle.notation.specs.Sets.{Path, Folder, FolderSet, folder_number}
@@ -66,7 +66,7 @@ pub record Added (smaller larger : FolderSet) (bytes : List ℕ) (m : State) : T
   pub is_filed : FiledWith larger bytes machine
   pub same : (f : Folder) → Memᴰ f smaller → folder_matched smaller m (folder_number f) ≡ folder_matched larger machine (folder_number f)
 
--- all of demand 2, of a set and any bytes
+-- all of it, of a set and any bytes
 pub record Demand2 (set : FolderSet) (bytes : List ℕ) : Type 0 where
   -- refused with one number, or filed with one machine
   pub gives : (o : Outcome State) × FilingGives set bytes o

@@ -1,14 +1,14 @@
--- Demand 2 of the letter, as one statement, from the bytes of a set's text on. Of each call the contract alone is used.
+-- Filing as it is by XPath 1.0, as one statement, from the bytes of a set's text on. Of each call the contract alone is used.
+use Rattle.std.specs.Prelude.{Result}
+use Rattle.text.specs.declared.refusals.Refusal.{Refusal}
 use Rattle.std.specs.Prelude.{ℕ, ◌≤◌, ◌≡◌, List, ◌++◌, length, take, drop}
 use Rattle.notation.specs.Limits.{max_set_bytes}
 use Rattle.notation.specs.Sets.{FolderSet}
-use Rattle.text.specs.Answers.{value}
+use Rattle.text.specs.Answers.{value, says}
 use Rattle.notation.specs.Accepted.{Accepted}
 use Rattle.stored.specs.Automaton.{automaton_size}
 use Rattle.stored.specs.Run.{run_size}
-use Rattle.text.specs.Written.{written_says}
 use Rattle.stored.specs.Build.{Built, SetWritten}
-use Rattle.text.specs.declared.written.Written.{Written}
 use Rattle.stored.specs.declared.counters.Counters.{Counters}
 use Rattle.filing.specs.ReportRefusals.{Files}
 use Rattle.filing.specs.FiledReport.{Demand2Bytes}
@@ -20,8 +20,8 @@ pub record Demand2Whole : Type 0 where
       → Files a run c report answer run' c' → Demand2Bytes s a report run answer run' c'
   -- an accepted set is written back to the same bytes, and building those gives the same automaton
   pub written_back : (text before a : List ℕ) (s : FolderSet) → Accepted text s → Built text before 0 a
-      → (out : List ℕ) → max_set_bytes ≤ length out → (w : Written) (out' : List ℕ) → SetWritten a out w out'
-      → (written_says w ≡ value (length text)) × (out' ≡ text ++ drop (length text) out)
+      → (out : List ℕ) → max_set_bytes ≤ length out → (w : Result ℕ Refusal) (out' : List ℕ) → SetWritten a out w out'
+      → (says w ≡ value (length text)) × (out' ≡ text ++ drop (length text) out)
   pub built_again : (text before a : List ℕ) (s : FolderSet) → Accepted text s → Built text before 0 a
       → (buffer : List ℕ) → automaton_size ≤ length buffer → (n : ℕ) (b : List ℕ) → Built text buffer n b
       → (n ≡ 0) × (take automaton_size b ≡ take automaton_size a)

@@ -1,11 +1,13 @@
--- Demand 2 of the call itself: what filing a report's bytes with the automaton of an accepted set answers and leaves, and what the asking
+-- Filing by XPath 1.0, of the call itself: what filing a report's bytes with the automaton of an accepted set answers and leaves, and what the asking
 -- calls then answer, says of the report's document.
 use Rattle.std.specs.Prelude.{ℕ, ◌≤◌, ◌<◌, ◌≡◌, true, ◌↔◌, length, drop}
 use mathlib.Core.List.{List, [], ◌∷◌, ◌++◌, map, Memᴰ}
 use Rattle.notation.specs.Sets.{Folder, FolderSet, folder_number}
 use Rattle.notation.specs.Form.{paths_of}
 use Rattle.text.specs.Lists.{every}
-use Rattle.text.specs.Refusals.{Refusal, too_large, name_too_long, invalid_byte, syntax_error, not_one_root, too_deep, mismatched_close, repeated_attribute, number_of}
+use Rattle.text.specs.declared.refusals.Refusal.{Refusal}
+use Rattle.text.specs.declared.refusals.Refusal.TheVariants.{TooLarge, NameTooLong, InvalidByte, SyntaxError, NotOneRoot, TooDeep, MismatchedClose, RepeatedAttribute}
+use Rattle.text.specs.Refusals.{number_of}
 use Rattle.notation.specs.Accepted.{Accepted}
 use Rattle.notation.specs.declared.PathPlace.{PathPlace}
 use Rattle.notation.specs.declared.FolderNumber.{FolderNumber}
@@ -52,18 +54,18 @@ pub record SameFolders (s : FolderSet) (answer : ℕ) (a run' : List ℕ) (other
 -- 0, and the numbers with which a report itself is refused: not 1 and 14, which are of what is lent, and not 7, since a report is too short for
 -- so many elements
 abbrev pub report_numbers : List ℕ
-report_numbers = 0 ∷ map number_of (too_large ∷ name_too_long ∷ invalid_byte ∷ syntax_error ∷ not_one_root ∷ too_deep ∷ mismatched_close ∷ repeated_attribute ∷ [])
+report_numbers = 0 ∷ map number_of (TooLarge ∷ NameTooLong ∷ InvalidByte ∷ SyntaxError ∷ NotOneRoot ∷ TooDeep ∷ MismatchedClose ∷ RepeatedAttribute ∷ [])
 
--- some tag of the report repeats an attribute's name, and it is neither too large nor has a byte that is not listed (paper 02: doubled)
+-- some tag of the report repeats an attribute's name, and it is neither too large nor has a byte that is not listed
 abbrev pub RepeatsAttribute : List ℕ → Type 0
 RepeatsAttribute report = (length report ≤ max_report_bytes) × (every listed report ≡ true) × ((run : RunOfTokens report) × Repeats run.tokens)
 
--- all of demand 2, of a set, its automaton, the bytes lent, and what the call answers and leaves
+-- all of it, of a set, its automaton, the bytes lent, and what the call answers and leaves
 pub record Demand2Bytes (s : FolderSet) (a report run : List ℕ) (answer : ℕ) (run' : List ℕ) (c' : Counters) : Type 0 where
   -- refused with a number exactly when its condition holds and no earlier one does, filed exactly when none does
   pub refusals : (r : Refusal) → (answer ≡ number_of r) ↔ Refused s report r
   -- 15 of these on its own condition: no token is refused so
-  pub repeats : (answer ≡ number_of repeated_attribute) ↔ RepeatsAttribute report
+  pub repeats : (answer ≡ number_of RepeatedAttribute) ↔ RepeatsAttribute report
   pub filings : (answer ≡ 0) ↔ ((m : State) × FiledWith s report m)
   pub numbers : Memᴰ answer report_numbers
   -- a refused report leaves a fresh run, a filed one what its document says

@@ -1,11 +1,13 @@
--- Filing a report (paper 01: Reports, Service codes): its tokens in order, on a machine over any kind of state. The shared machine is one
+-- Filing a report: its tokens in order, on a machine over any kind of state. The shared machine is one
 -- such, and what is stored of it is another (ReportRefusals).
 use Rattle.std.specs.Prelude.{ℕ, ◌<◌, ◌≡◌, Bool, true, false, not, ◌&&◌, ◌||◌, ◌⊎◌, List, [], ◌∷◌, ◌++◌, eqb, length}
 use Rattle.std.proofs.Math.Option.{Option, none, some}
 use Rattle.text.specs.Names.{Name}
 use Rattle.notation.specs.Sets.{FolderSet}
 use Rattle.text.specs.Lists.{every}
-use Rattle.text.specs.Refusals.{Refusal, too_large, invalid_byte, syntax_error, not_one_root, repeated_attribute, number_of}
+use Rattle.text.specs.declared.refusals.Refusal.{Refusal}
+use Rattle.text.specs.declared.refusals.Refusal.TheVariants.{TooLarge, InvalidByte, SyntaxError, NotOneRoot, RepeatedAttribute}
+use Rattle.text.specs.Refusals.{number_of}
 use Rattle.text.specs.Order.{Condition, gives, first}
 use Rattle.model.specs.Calls.{as_left, Call, open_call, close_call, State, fresh, accepted, step}
 use Rattle.model.specs.Calls as calls
@@ -49,7 +51,7 @@ module _ {S : Type 0} (k : Machine S) where
   abbrev pub event_order : S → Event → List Condition
   event_order s (opening n) = k.open_order s n
   event_order s (closing n) = k.close_order s n
-  event_order s (text_here b) = gives (k.nothing_open s && not (every blank b)) not_one_root ∷ []
+  event_order s (text_here b) = gives (k.nothing_open s && not (every blank b)) NotOneRoot ∷ []
   event_order s (comment_here b) = []
 
   -- what an event leaves that is not refused
@@ -68,7 +70,7 @@ module _ {S : Type 0} (k : Machine S) where
 
   -- at the end there was a root, and nothing is open
   abbrev pub end_order : S → List Condition
-  end_order s = gives (k.no_root s || not (k.nothing_open s)) not_one_root ∷ []
+  end_order s = gives (k.no_root s || not (k.nothing_open s)) NotOneRoot ∷ []
 
   abbrev pub file_end : S → Outcome S
   file_end s = unless (first (end_order s)) s
@@ -83,10 +85,10 @@ pub data Reason : Type 1 where
 
 abbrev pub report_order : List ℕ → List Reason
 report_order report =
-    reason (max_report_bytes < length report) too_large
-    ∷ reason (every listed report ≡ false) invalid_byte
-    ∷ reason (RunOfTokens report → ⊥) syntax_error
-    ∷ reason ((run : RunOfTokens report) × Repeats run.tokens) repeated_attribute
+    reason (max_report_bytes < length report) TooLarge
+    ∷ reason (every listed report ≡ false) InvalidByte
+    ∷ reason (RunOfTokens report → ⊥) SyntaxError
+    ∷ reason ((run : RunOfTokens report) × Repeats run.tokens) RepeatedAttribute
     ∷ []
 
 -- refused with the first whose condition holds; where none does, as the rest says
@@ -98,7 +100,7 @@ Decided (reason holds r ∷ later) rest o = (holds × (o ≡ refused r)) ⊎ ((h
 abbrev pub OutcomeOf : {S : Type 0} → Machine S → S → List Reason → List ℕ → Outcome S → Type 0
 OutcomeOf k s before report = Decided (before ++ report_order report) (λ o. (run : RunOfTokens report) × (file_tokens k s run.tokens ≡ o))
 
--- the shared machine of a set (paper 01: The shared machine)
+-- the shared machine of a set
 abbrev pub shared_machine : FolderSet → Machine State
 shared_machine set = record {
   open_order = calls.open_order;

@@ -1,4 +1,4 @@
--- Filing, in reading order: demands 1 and 2 and what is printed, then the contracts and what filing a report means.
+-- Filing, in reading order: what every public call promises, filing by XPath 1.0 and what is printed, then the contracts and what filing a report means.
 pub mod Demand1
 pub mod Demand2Whole
 pub mod FiledReport
@@ -6,7 +6,6 @@ pub mod Demand2
 pub mod Printed
 pub mod Filer
 pub mod Shown
-pub mod ShownShort
 pub mod Filing
 pub mod ReportRefusals
 pub mod Listing

@@ -1,4 +1,4 @@
--- What the filing program prints (paper 01: The filing program), in the notation of a folder set: the matched folders in set order, each with
+-- What the filing program prints, in the notation of a folder set: the matched folders in set order, each with
 -- its matched paths in order, then accepted opens and failure moves; or the refusal's number alone.
 use Rattle.std.specs.Prelude.{ℕ, suc, ◌+◌, Bool, cond, List, [], ◌∷◌, ◌++◌, length}
 use Rattle.notation.specs.Sets.{Path, folder, FolderSet}

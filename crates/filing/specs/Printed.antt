@@ -1,19 +1,15 @@
--- What the filing program prints of a set's text and a report (paper 01: The filing program). Whether a report is filed or refused is the
+-- What the filing program prints of a set's text and a report. Whether a report is filed or refused is the
 -- machine's word (Filing); what a filed one prints is by printing and XPath 1.0 alone: no run, no matches and no counters.
 use Rattle.std.specs.Prelude.{ℕ, ◌+◌, ◌≤◌, ◌≡◌, List, [], ◌∷◌, ◌++◌}
 use Rattle.text.specs.Names.{Name}
 use Rattle.notation.specs.Sets.{Path, folder, FolderSet}
 use Rattle.notation.specs.Print.{footer, print_folder}
-use Rattle.text.specs.Refusals.{Refusal, number_of}
-use Rattle.notation.specs.Accepted.{Accepted}
-use Rattle.notation.specs.Judged.{RefusedText}
-use Rattle.model.specs.Calls.{State}
 use Rattle.model.specs.Moves.{OpenMoves}
 use Rattle.documents.specs.Tree.{element, text, comment, Nodes, none, ◌then◌, Document}
 use Rattle.documents.specs.Document.{Report, document_in}
-use Rattle.filing.specs.Filing.{Refused, FiledWith}
 use Rattle.filing.specs.Demand2.{count_in, childless_in, SelectsElement}
-use Rattle.filing.specs.Listing.{filed_header, moves_line, refused_line}
+use Rattle.filing.specs.Listing.{filed_header, moves_line}
+use Rattle.filing.specs.Shown.{ShownOf, ShownText}
 
 -- of these paths, in order, exactly those with which XPath 1.0 selects an element of the document
 pub data Selecting (d : Document) : List Path → List Path → Type 0 where
@@ -47,11 +43,9 @@ pub record PrintedFor (s : FolderSet) (report bytes : List ℕ) : Type 0 where
   pub printed : bytes ≡ filed_header ++ (lines ++ (moves_line (count_in (document_in has)) moves ++ footer))
 
 -- of any report: what is filed, or the refusal's number alone
-pub data PrintedOf (s : FolderSet) (report : List ℕ) : List ℕ → Type 0 where
-  its_number : (r : Refusal) → Refused s report r → PrintedOf s report (refused_line (number_of r))
-  its_listing : {bytes : List ℕ} (m : State) → FiledWith s report m → PrintedFor s report bytes → PrintedOf s report bytes
+abbrev pub PrintedOf : FolderSet → List ℕ → List ℕ → Type 0
+PrintedOf = ShownOf PrintedFor
 
 -- of any text: the number of the set's refusal, or what filing the report with the set prints. There is exactly one such
-pub data PrintedText (text report : List ℕ) : List ℕ → Type 0 where
-  of_refused_set : {r : Refusal} → RefusedText text r → PrintedText text report (refused_line (number_of r))
-  of_set : {s : FolderSet} {bytes : List ℕ} → Accepted text s → PrintedOf s report bytes → PrintedText text report bytes
+abbrev pub PrintedText : List ℕ → List ℕ → List ℕ → Type 0
+PrintedText = ShownText PrintedFor

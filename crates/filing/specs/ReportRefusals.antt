@@ -1,7 +1,9 @@
--- What filing a report answers and leaves, with any automaton, run and counters, by what is stored (paper 01: Service codes). Every report
+-- What filing a report answers and leaves, with any automaton, run and counters, by what is stored. Every report
 -- has exactly one outcome.
 use Rattle.std.specs.Prelude.{ℕ, ◌≡◌, Bool, true, ◌||◌, cond, List, map, eqb}
-use Rattle.text.specs.Refusals.{Refusal, short_buffer, bad_shape, number_of}
+use Rattle.text.specs.declared.refusals.Refusal.{Refusal}
+use Rattle.text.specs.declared.refusals.Refusal.TheVariants.{ShortBuffer, BadShape}
+use Rattle.text.specs.Refusals.{number_of}
 use Rattle.text.specs.Order.{Condition, gives}
 use Rattle.stored.specs.RunCalls.{depth_of, start_conditions, open_others, open_run, open_counters, close_others, close_run, close_counters}
 use Rattle.stored.specs.Demand3.{Left, started}
@@ -28,7 +30,7 @@ ReportGives a run report = OutcomeOf (stored_machine a) (started a run) (map tes
 
 -- 1 and 14 are of what is lent: such a refusal leaves all as it was; any other leaves a fresh run
 abbrev pub of_lent : Refusal → Bool
-of_lent r = eqb (number_of r) (number_of short_buffer) || eqb (number_of r) (number_of bad_shape)
+of_lent r = eqb (number_of r) (number_of ShortBuffer) || eqb (number_of r) (number_of BadShape)
 
 abbrev pub left_by : List ℕ → List ℕ → Counters → Outcome Left → Left
 left_by a run c (refused r) = cond (of_lent r) (record { bytes = run; counters = c }) (started a run)

@@ -1,178 +1,132 @@
 // Writing what the filing program prints: the listing of a run, or the line of a refusal.
-ghost use Rattle.std.specs.Prelude.{◌≡◌, false, ◌≤◌};
+ghost use Rattle.std.specs.Prelude.{◌≡◌, ◌≤◌, [], length};
 ghost use Rattle.model.specs.Folders.{count_from};
-ghost use Rattle.stored.specs.HeldSet.{folders_held, folder_held};
-ghost use Rattle.text.specs.Output.{start, Adds};
+ghost use Rattle.stored.specs.HeldSet.{folders_held};
+ghost use Rattle.text.specs.Answers.{refusal_in};
+ghost use Rattle.text.specs.Output.{Adds};
+ghost use Rattle.text.specs.Written.{TextWritten};
+ghost use Rattle.filing.specs.Limits.{max_refused_line};
 ghost use Rattle.filing.specs.Listing.{moves_line, refused_line};
-ghost use Rattle.filing.specs.Listed.{path_listed, if_matched, paths_listed, line_listed, line_at, folder_listed, folders_listed, listing_in, listing_refusal, ListingWritten, RefusedWritten};
+ghost use Rattle.filing.specs.Listed.{path_listed, paths_listed, folder_listed, folders_listed, listing_in, listing_refusal, ListingWritten, RefusedWritten};
 
 use crate::limits::LISTING_SIZE;
 use machine::run::{lent, matches};
 use machine::set;
 use notation::PathPlace;
-use notation::reads::FolderAt;
 use stored::counters::Counters;
-use text::output::{Cursor, begin, emit, emit_number, emit_numbered};
-use text::refusals::SHORT_BUFFER;
-use text::written::Written;
+use text::output::{Front, Length, Sink, put_number, put_numbered};
+use text::refusals::Refusal;
 
-fn emit_path(a: &[u8], place: usize, out: &mut [u8], cursor: Cursor) -> Cursor
-    ensures { Adds out.old cursor (path_listed a.now place) out.new result }
+fn put_path<S: Sink>(a: &[u8], place: usize, to: &mut S)
+    ensures { Adds S.puts to.old (path_listed a.now place) to.new }
 {
-    let open = emit(out, cursor, b" (");
-    let text = emit(out, open, set::path_text(a, PathPlace(place)));
-    emit(out, text, b")")
-}
-
-fn emit_if_matched(a: &[u8], run: &[u8], place: usize, out: &mut [u8], cursor: Cursor) -> Cursor
-    ensures { Adds out.old cursor (if_matched a.now run.now place) out.new result }
-{
-    if matches::place_matched(a, run, PathPlace(place)) {
-        return emit_path(a, place, out, cursor);
-    }
-    cursor
+    to.put(b" (");
+    to.put(set::path_text(a, PathPlace(place)));
+    to.put(b")");
 }
 
 // The matched ones of `count` paths from place `first` on.
-fn emit_paths(
-    a: &[u8],
-    run: &[u8],
-    first: usize,
-    count: usize,
-    out: &mut [u8],
-    cursor: Cursor,
-) -> Cursor
+fn put_paths<S: Sink>(a: &[u8], run: &[u8], first: usize, count: usize, to: &mut S)
     requires { (first ≤ 65536) × (count ≤ 65536) }
-    ensures { Adds out.old cursor (paths_listed a.now run.now (count_from first count)) out.new result }
+    ensures { Adds S.puts to.old (paths_listed a.now run.now (count_from first count)) to.new }
 {
-    let mut to = cursor;
-    let mut i = 0;
-    while i < count {
-        to = emit_if_matched(a, run, first + i, out, to);
-        i += 1;
+    for place in first..first + count {
+        if matches::place_matched(a, run, PathPlace(place)) {
+            put_path(a, place, to);
+        }
     }
-    to
-}
-
-fn emit_line(a: &[u8], run: &[u8], i: usize, out: &mut [u8], cursor: Cursor) -> Cursor
-    ensures { Adds out.old cursor (line_at a.now run.now (folder_held a.now i)) out.new result }
-{
-    match set::folder_at(a, i) {
-        FolderAt::Folder {
-            number,
-            first,
-            paths,
-        } => emit_folder_line(a, run, number.0, first.0, paths, out, cursor),
-        FolderAt::Missing => cursor,
-    }
-}
-
-fn emit_folder_line(
-    a: &[u8],
-    run: &[u8],
-    number: usize,
-    first: usize,
-    count: usize,
-    out: &mut [u8],
-    cursor: Cursor,
-) -> Cursor
-    requires { (first ≤ 65536) × (count ≤ 65536) }
-    ensures { Adds out.old cursor (line_listed a.now run.now number (count_from first count)) out.new result }
-{
-    let head = emit_numbered(out, cursor, b"(folder ", number);
-    let body = emit_paths(a, run, first, count, out, head);
-    emit(out, body, b")\n")
 }
 
 // A folder's line, none where no path of it is matched.
-fn emit_folder(a: &[u8], run: &[u8], i: usize, out: &mut [u8], cursor: Cursor) -> Cursor
-    ensures { Adds out.old cursor (folder_listed a.now run.now i) out.new result }
+fn put_folder<S: Sink>(a: &[u8], run: &[u8], i: usize, to: &mut S)
+    ensures { Adds S.puts to.old (folder_listed a.now run.now i) to.new }
 {
-    if matches::folder_paths_matched(a, run, i) {
-        return emit_line(a, run, i, out, cursor);
+    if !matches::folder_paths_matched(a, run, i) {
+        return;
     }
-    cursor
-}
-
-fn emit_folders(a: &[u8], run: &[u8], out: &mut [u8], cursor: Cursor) -> Cursor
-    ensures { Adds out.old cursor (folders_listed a.now run.now (count_from 0 (folders_held a.now))) out.new result }
-{
-    let top = set::folders(a);
-    let mut to = cursor;
-    let mut i = 0;
-    while i < top {
-        to = emit_folder(a, run, i, out, to);
-        i += 1;
+    if let Some(folder) = set::folder_at(a, i) {
+        put_numbered(to, b"(folder ", folder.number.0);
+        put_paths(a, run, folder.first.0, folder.paths, to);
+        to.put(b")\n");
     }
-    to
 }
 
-fn emit_moves(opens: usize, moves: usize, out: &mut [u8], cursor: Cursor) -> Cursor
-    ensures { Adds out.old cursor (moves_line opens moves) out.new result }
+fn put_folders<S: Sink>(a: &[u8], run: &[u8], to: &mut S)
+    ensures { Adds S.puts to.old (folders_listed a.now run.now (count_from 0 (folders_held a.now))) to.new }
 {
-    let first = emit_numbered(out, cursor, b"(moves ", opens);
-    let space = emit(out, first, b" ");
-    let second = emit_number(out, space, moves);
-    emit(out, second, b")\n")
-}
-
-fn compose(a: &[u8], run: &[u8], c: Counters, out: &mut [u8], dry: bool) -> Cursor
-    ensures { Adds out.old (start dry) (listing_in a.now run.now c) out.new result }
-{
-    let start = begin(out, dry, b"(filed\n");
-    let folders = emit_folders(a, run, out, start);
-    let moves = emit_moves(c.opens, c.moves, out, folders);
-    emit(out, moves, b")\n")
-}
-
-// An inner call: the line of a refusal, from the buffer's start on, as far as there is room.
-pub fn compose_refused(n: u8, out: &mut [u8]) -> Cursor
-    ensures { Adds out.old (start false) (refused_line n) out.new result }
-{
-    let word = begin(out, false, b"(refused ");
-    let number = emit_number(out, word, n as usize);
-    emit(out, number, b")\n")
-}
-
-// 1 and 14. A dry cursor finds out whether what is stored has room.
-fn refusal(a: &[u8], run: &[u8], c: Counters, out: &mut [u8]) -> u8
-    ensures { (result ≡ listing_refusal a.now run.now c out.old) × (out.new ≡ out.old) }
-{
-    let size = out.len();
-    if size < LISTING_SIZE {
-        return SHORT_BUFFER;
+    for i in 0..set::folders(a) {
+        put_folder(a, run, i, to);
     }
-    let refused = lent::refusal(a, run, c);
-    if refused != 0 {
-        return refused;
-    }
-    let cursor = compose(a, run, c, out, true);
-    if cursor.fits {
-        return 0;
-    }
-    SHORT_BUFFER
 }
 
-// Writes the listing of a run to the first bytes of `out` and answers its length, or the number of the refusal. Bytes past it stay. The
-// listing is gone through twice, once for its length, so that a refusal changes nothing.
-pub fn write_listing(a: &[u8], run: &[u8], c: Counters, out: &mut [u8]) -> Written
+fn put_moves<S: Sink>(opens: usize, moves: usize, to: &mut S)
+    ensures { Adds S.puts to.old (moves_line opens moves) to.new }
+{
+    put_numbered(to, b"(moves ", opens);
+    to.put(b" ");
+    put_number(to, moves);
+    to.put(b")\n");
+}
+
+fn put_listing<S: Sink>(a: &[u8], run: &[u8], c: Counters, to: &mut S)
+    ensures { Adds S.puts to.old (listing_in a.now run.now c) to.new }
+{
+    to.put(b"(filed\n");
+    put_folders(a, run, to);
+    put_moves(c.opens, c.moves, to);
+    to.put(b")\n");
+}
+
+fn put_refused<S: Sink>(n: u8, to: &mut S)
+    ensures { Adds S.puts to.old (refused_line n) to.new }
+{
+    put_numbered(to, b"(refused ", usize::from(n));
+    to.put(b")\n");
+}
+
+// 1 and 14. The listing is measured, since what is stored may have more than there is room for.
+fn check(a: &[u8], run: &[u8], c: Counters, out: &[u8]) -> Result<(), Refusal>
+    ensures { refusal_in result ≡ listing_refusal a.now run.now c out.now }
+{
+    if out.len() < LISTING_SIZE {
+        return Err(Refusal::ShortBuffer);
+    }
+    lent::refusal(a, run, c)?;
+    let mut length = Length { bytes: 0 };
+    put_listing(a, run, c, &mut length);
+    if length.bytes > out.len() {
+        return Err(Refusal::ShortBuffer);
+    }
+    Ok(())
+}
+
+// Writes the listing of a run to the first bytes of `out` and answers its length, or the refusal. Bytes past it stay. The listing is gone
+// through twice, once for its length, so that a refusal changes nothing.
+pub fn write_listing(a: &[u8], run: &[u8], c: Counters, out: &mut [u8]) -> Result<usize, Refusal>
     ensures { ListingWritten a.now run.now c out.old result out.new }
 {
-    let refused = refusal(a, run, c, out);
-    if refused != 0 {
-        return Written::Refused(refused);
-    }
-    let cursor = compose(a, run, c, out, false);
-    Written::Bytes(cursor.at)
+    check(a, run, c, out)?;
+    let mut front = Front::new(out);
+    put_listing(a, run, c, &mut front);
+    front.end.ok_or(Refusal::ShortBuffer)
 }
 
-// Writes the line of a refusal in the same way, at once: it always has room.
-pub fn write_refused(n: u8, out: &mut [u8]) -> Written
+// An inner call: the line of a refusal, by its number, at the start of a buffer that has room for each such line.
+pub fn write_line(n: u8, out: &mut [u8]) -> Result<usize, Refusal>
+    requires { max_refused_line ≤ length out.old }
+    ensures { TextWritten [] (refused_line n) out.old result out.new }
+{
+    let mut front = Front::new(out);
+    put_refused(n, &mut front);
+    front.end.ok_or(Refusal::ShortBuffer)
+}
+
+// Writes the line of a refusal, by its number, and answers its length; 1 for a buffer that is short for a listing.
+pub fn write_refused(n: u8, out: &mut [u8]) -> Result<usize, Refusal>
     ensures { RefusedWritten n out.old result out.new }
 {
     if out.len() < LISTING_SIZE {
-        return Written::Refused(SHORT_BUFFER);
+        return Err(Refusal::ShortBuffer);
     }
-    let cursor = compose_refused(n, out);
-    Written::Bytes(cursor.at)
+    write_line(n, out)
 }

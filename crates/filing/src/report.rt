@@ -1,320 +1,177 @@
-// Filing a report (paper 01: Reports): its tokens in order, each given to the machine as what it is in the tree.
-ghost use Rattle.std.specs.Prelude.{◌≡◌, true, cond, [], ◌≤◌, length};
-ghost use Rattle.text.specs.Names.{name_form};
-ghost use Rattle.text.specs.Refusals.{repeated_attribute, number_of};
-ghost use Rattle.text.specs.Answers.{number_said};
-ghost use Rattle.stored.specs.Answers.{opened_says};
-ghost use Rattle.stored.specs.Run.{run_size};
-ghost use Rattle.stored.specs.RunCalls.{start_run, no_counters};
+// Filing a report: its tokens in order, each given to the machine as what it is in the tree.
+ghost use Rattle.std.specs.Prelude.{◌≡◌, [], ◌≤◌, length, take, drop, ◌-◌};
+ghost use Rattle.text.specs.Answers.{refusal_in};
 ghost use Rattle.stored.specs.Usable.{Usable};
-ghost use Rattle.stored.specs.Demand3.{Left, started};
+ghost use Rattle.stored.specs.Demand3.{Left};
 ghost use Rattle.documents.specs.Reading.{read_report};
 ghost use Rattle.documents.specs.Limits.{max_report_bytes};
+ghost use Rattle.reports.specs.Seen.{name_from, name_to};
 ghost use Rattle.filing.specs.Filing.{Outcome, filed, and_then};
 ghost use Rattle.filing.specs.ReportRefusals.{stored_machine, Files};
 ghost use Rattle.filing.specs.Code.Filing.{file_report};
-ghost use Rattle.filing.specs.Code.Taking.{Answered, Taking, Stepping, Leaves, file_open, file_close, TextTaken, DeclarationTaken, file_last, run_from};
+ghost use Rattle.filing.specs.Code.Taking.{Answered, Taking, Named, end_of, late_declaration, repeats, with_repeat, file_found, file_last, run_from};
 
 use machine::run::close::close_usable;
 use machine::run::open::open_usable;
 use machine::run::shape::depth;
-use machine::run::start::{start_by, start_on};
+use machine::run::start::{start, start_on};
 use reports::limits::MAX_REPORT;
 use reports::tokens::{Found, all_listed, token_at};
-use stored::answers::Opened;
 use stored::counters::Counters;
-use text::refusals::{INVALID_BYTE, NOT_ONE_ROOT, REPEATED_ATTRIBUTE, SYNTAX_ERROR, TOO_LARGE};
+use text::refusals::Refusal;
 
-// What calls answer: the refusal, 0 for none, and the counters after them.
-#[derive(Clone, Copy)]
-pub struct Taken {
-    pub refusal: u8,
-    pub counters: Counters,
-}
-
-// A refusal, with the counters of a fresh run.
-pub fn with_none(n: u8) -> Taken
-    ensures { (result.refusal ≡ n) × (result.counters ≡ no_counters) }
+// Where a token ends; nowhere where there is none.
+fn end_of(found: Found) -> Option<usize>
+    ensures { result ≡ end_of found }
 {
-    Taken {
-        refusal: n,
-        counters: Counters::none(),
+    match found {
+        Found::Nothing => None,
+        Found::Declaration(end) | Found::Comment(end) => Some(end),
+        Found::Start { end, .. } | Found::Empty { end, .. } => Some(end),
+        Found::End { end, .. } | Found::Text { end, .. } => Some(end),
     }
 }
 
-fn of_open(answer: Opened, c: Counters) -> Taken
-    ensures { (result.refusal ≡ number_said (opened_says answer)) × (result.counters ≡ c) }
+// The name of a tag, and none of another token.
+fn name_in(s: &[u8], found: Found) -> &[u8]
+    requires { (name_from found ≤ name_to found) × (name_to found ≤ length s.now) }
+    ensures { result.now ≡ take (name_to found - name_from found) (drop (name_from found) s.now) }
 {
-    match answer {
-        Opened::Accepted(_) => Taken {
-            refusal: 0,
-            counters: c,
-        },
-        Opened::Refused(n) => Taken {
-            refusal: n,
-            counters: c,
-        },
+    match found {
+        Found::Start { from, to, .. } | Found::Empty { from, to, .. } => &s[from..to],
+        Found::End { from, to, .. } => &s[from..to],
+        Found::Nothing | Found::Declaration(_) | Found::Comment(_) | Found::Text { .. } => &s[..0],
     }
 }
 
-fn take_open(a: &[u8], run: &mut [u8], c: Counters, e: &[u8]) -> Taken
-    requires { (Usable a.now run.old c) × (name_form e.now ≡ true) }
-    ensures { Taking a.now run.old (file_open a.now (record { bytes = run.old; counters = c }) e.now) result.refusal run.new result.counters }
+// A declaration stands at offset 0 only.
+fn is_late(found: Found, at: usize) -> bool
+    ensures { result ≡ late_declaration at found }
 {
-    let done = open_usable(a, run, c, e);
-    let answer = done.answer;
-    let counters = done.counters;
-    of_open(answer, counters)
+    at != 0 && matches!(found, Found::Declaration(_))
 }
 
-fn take_close(a: &[u8], run: &mut [u8], c: Counters, e: &[u8]) -> Taken
-    requires { (Usable a.now run.old c) × (name_form e.now ≡ true) }
-    ensures { Taking a.now run.old (file_close a.now (record { bytes = run.old; counters = c }) e.now) result.refusal run.new result.counters }
+// A tag repeats an attribute's name.
+fn repeats(found: Found) -> bool
+    ensures { result ≡ repeats found }
 {
-    let done = close_usable(a, run, c, e);
-    let counters = done.counters;
-    Taken {
-        refusal: done.refusal,
-        counters: counters,
-    }
+    matches!(
+        found,
+        Found::Start { twice: true, .. } | Found::Empty { twice: true, .. }
+    )
 }
 
-// An empty-element tag: an open and a close.
-fn take_empty(a: &[u8], run: &mut [u8], c: Counters, e: &[u8]) -> Taken
-    requires { (Usable a.now run.old c) × (name_form e.now ≡ true) }
-    ensures { Taking a.now run.old (and_then (file_open a.now (record { bytes = run.old; counters = c }) e.now) (λ t. file_close a.now t e.now)) result.refusal run.new result.counters }
+// A token with the name of its tag. Text outside the root is blank.
+fn take(
+    a: &[u8],
+    run: &mut [u8],
+    counters: &mut Counters,
+    found: Found,
+    name: &[u8],
+) -> Result<(), Refusal>
+    requires { (Usable a.now run.old counters.old) × Named found name.now }
+    ensures { Taking a.now run.old (file_found a.now (record { bytes = run.old; counters = counters.old }) found name.now) (refusal_in result) run.new counters.new }
 {
-    let opened = take_open(a, run, c, e);
-    if opened.refusal != 0 {
-        return opened;
+    match found {
+        Found::Start { .. } => {
+            open_usable(a, run, counters, name)?;
+            Ok(())
+        }
+        Found::End { .. } => close_usable(a, run, counters, name),
+        Found::Empty { .. } => {
+            open_usable(a, run, counters, name)?;
+            close_usable(a, run, counters, name)
+        }
+        Found::Text { blank, .. } => {
+            if !blank && depth(run) == 0 {
+                return Err(Refusal::NotOneRoot);
+            }
+            Ok(())
+        }
+        Found::Comment(_) | Found::Declaration(_) => Ok(()),
+        Found::Nothing => Err(Refusal::SyntaxError),
     }
-    let counters = opened.counters;
-    take_close(a, run, counters, e)
 }
 
-// Text outside the root is blank. Nothing is refused any more once a token was.
-fn take_text(run: &[u8], refusal: u8, all: bool) -> u8
-    ensures { TextTaken run.now refusal all result }
+// The same after earlier tokens. A tag that repeats an attribute's name is refused, whatever an earlier token was refused with; else nothing more
+// is taken once a token was refused.
+fn take_next(
+    a: &[u8],
+    run: &mut [u8],
+    counters: &mut Counters,
+    taken: Result<(), Refusal>,
+    found: Found,
+    name: &[u8],
+) -> Result<(), Refusal>
+    requires { (refusal_in taken ≡ 0 → Usable a.now run.old counters.old) × Named found name.now }
+    ensures { (o : Outcome Left) → Answered o (refusal_in taken) run.old counters.old → Taking a.now run.old (and_then (with_repeat (repeats found) o) (λ t. file_found a.now t found name.now)) (refusal_in result) run.new counters.new }
 {
-    if refusal != 0 {
-        return refusal;
+    if repeats(found) {
+        return Err(Refusal::RepeatedAttribute);
     }
-    if all {
-        return 0;
-    }
-    if depth(run) == 0 {
-        return NOT_ONE_ROOT;
-    }
-    0
+    taken?;
+    take(a, run, counters, found, name)
 }
 
-// A tag that repeats an attribute's name refuses the report, whatever an earlier token was refused with.
-fn with_repeat(refusal: u8, twice: bool) -> u8
-    ensures { result ≡ cond twice (number_of repeated_attribute) refusal }
+// The tokens in order. The first refusal of a token is kept, and the rest is only read, for 9 and 15, which come before it; nothing comes before 9.
+fn take_tokens(a: &[u8], run: &mut [u8], counters: &mut Counters, s: &[u8]) -> Result<(), Refusal>
+    requires { (Usable a.now run.old counters.old) × (length s.now ≤ max_report_bytes) }
+    ensures { Taking a.now run.old (run_from a.now (filed (record { bytes = run.old; counters = counters.old })) (read_report s.now)) (refusal_in result) run.new counters.new }
 {
-    if twice {
-        return REPEATED_ATTRIBUTE;
+    let mut taken = Ok(());
+    let mut at = 0;
+    while at < s.len() {
+        let found = token_at(s, at);
+        if is_late(found, at) {
+            return Err(Refusal::SyntaxError);
+        }
+        let end = end_of(found).ok_or(Refusal::SyntaxError)?;
+        taken = take_next(a, run, counters, taken, found, name_in(s, found));
+        at = end;
     }
-    refusal
+    taken
 }
 
-// A start tag. Nothing more is taken once a token was refused.
-fn open_next(a: &[u8], run: &mut [u8], refusal: u8, c: Counters, e: &[u8]) -> Taken
-    requires { (refusal ≡ 0 → Usable a.now run.old c) × (name_form e.now ≡ true) }
-    ensures { (o : Outcome Left) → Answered o refusal run.old c → Taking a.now run.old (and_then o (λ t. file_open a.now t e.now)) result.refusal run.new result.counters }
+// The tokens and the report's end: there was a root, and nothing is open.
+fn take_report(a: &[u8], run: &mut [u8], counters: &mut Counters, s: &[u8]) -> Result<(), Refusal>
+    requires { (Usable a.now run.old counters.old) × (length s.now ≤ max_report_bytes) }
+    ensures { Taking a.now run.old (and_then (run_from a.now (filed (record { bytes = run.old; counters = counters.old })) (read_report s.now)) file_last) (refusal_in result) run.new counters.new }
 {
-    if refusal != 0 {
-        return Taken {
-            refusal,
-            counters: c,
-        };
+    take_tokens(a, run, counters, s)?;
+    if counters.opens == 0 || depth(run) > 0 {
+        return Err(Refusal::NotOneRoot);
     }
-    take_open(a, run, c, e)
+    Ok(())
 }
 
-fn close_next(a: &[u8], run: &mut [u8], refusal: u8, c: Counters, e: &[u8]) -> Taken
-    requires { (refusal ≡ 0 → Usable a.now run.old c) × (name_form e.now ≡ true) }
-    ensures { (o : Outcome Left) → Answered o refusal run.old c → Taking a.now run.old (and_then o (λ t. file_close a.now t e.now)) result.refusal run.new result.counters }
-{
-    if refusal != 0 {
-        return Taken {
-            refusal,
-            counters: c,
-        };
-    }
-    take_close(a, run, c, e)
-}
-
-fn empty_next(a: &[u8], run: &mut [u8], refusal: u8, c: Counters, e: &[u8]) -> Taken
-    requires { (refusal ≡ 0 → Usable a.now run.old c) × (name_form e.now ≡ true) }
-    ensures { (o : Outcome Left) → Answered o refusal run.old c → Taking a.now run.old (and_then o (λ t. and_then (file_open a.now t e.now) (λ u. file_close a.now u e.now))) result.refusal run.new result.counters }
-{
-    if refusal != 0 {
-        return Taken {
-            refusal,
-            counters: c,
-        };
-    }
-    take_empty(a, run, c, e)
-}
-
-// What calls answer, and where the next token begins.
-#[derive(Clone, Copy)]
-struct Step {
-    refusal: u8,
-    counters: Counters,
-    next: usize,
-}
-
-fn step_with(refusal: u8, counters: Counters, next: usize) -> Step
-    ensures { (result.refusal ≡ refusal) × ((result.counters ≡ counters) × (result.next ≡ next)) }
-{
-    Step {
-        refusal,
-        counters,
-        next,
-    }
-}
-
-fn step_to(taken: Taken, next: usize) -> Step
-    ensures { (result.refusal ≡ taken.refusal) × ((result.counters ≡ taken.counters) × (result.next ≡ next)) }
-{
-    let counters = taken.counters;
-    step_with(taken.refusal, counters, next)
-}
-
-// A declaration stands at offset 0 only. Past it nothing is left to read, so that 9 stays.
-fn take_declaration(refusal: u8, c: Counters, at: usize, end: usize, total: usize) -> Step
-    ensures { DeclarationTaken refusal c at end total result.refusal result.counters result.next }
-{
-    if at == 0 {
-        return step_with(refusal, c, end);
-    }
-    step_with(SYNTAX_ERROR, c, total)
-}
-
-// The token at an offset, by what it is, matched once. Where there is none, nothing is left to read.
-fn take_at(a: &[u8], run: &mut [u8], refusal: u8, c: Counters, s: &[u8], at: usize) -> Step
-    requires { refusal ≡ 0 → Usable a.now run.old c }
-    ensures { Stepping a.now run.old refusal c s.now at result.refusal run.new result.counters result.next }
-{
-    match token_at(s, at) {
-        Found::Text { blank: all, end } => step_with(take_text(run, refusal, all), c, end),
-        Found::Start {
-            from,
-            to,
-            end,
-            twice,
-        } => step_to(
-            open_next(a, run, with_repeat(refusal, twice), c, &s[from..to]),
-            end,
-        ),
-        Found::End { from, to, end } => step_to(close_next(a, run, refusal, c, &s[from..to]), end),
-        Found::Empty {
-            from,
-            to,
-            end,
-            twice,
-        } => step_to(
-            empty_next(a, run, with_repeat(refusal, twice), c, &s[from..to]),
-            end,
-        ),
-        Found::Comment(end) => step_with(refusal, c, end),
-        Found::Declaration(end) => take_declaration(refusal, c, at, end, s.len()),
-        Found::Nothing => step_with(SYNTAX_ERROR, c, s.len()),
-    }
-}
-
-// The tokens in order from a fresh run: the first refusal of a token is kept, and the rest is only read, for 9 and 15.
-fn take_tokens(a: &[u8], run: &mut [u8], s: &[u8]) -> Taken
-    requires { (Usable a.now run.old no_counters) × (length s.now ≤ max_report_bytes) }
-    ensures { Taking a.now run.old (run_from a.now (filed (record { bytes = run.old; counters = no_counters })) (read_report s.now)) result.refusal run.new result.counters }
-{
-    let mut refusal = 0;
-    let mut counters = Counters::none();
-    let mut i = 0;
-    while i < s.len() {
-        let step = take_at(a, run, refusal, counters, s, i);
-        refusal = step.refusal;
-        counters = step.counters;
-        i = step.next;
-    }
-    Taken { refusal, counters }
-}
-
-// The report's end: there was a root, and nothing is open.
-fn take_end(run: &[u8], before: Taken) -> Taken
-    ensures { (o : Outcome Left) → Answered o before.refusal run.now before.counters → Answered (and_then o file_last) result.refusal run.now result.counters }
-{
-    if before.refusal != 0 {
-        return before;
-    }
-    let counters = before.counters;
-    if counters.opens == 0 {
-        return with_none(NOT_ONE_ROOT);
-    }
-    if depth(run) != 0 {
-        return with_none(NOT_ONE_ROOT);
-    }
-    before
-}
-
-// A refused report leaves a fresh run.
-fn fresh_after(a: &[u8], run: &mut [u8], done: Taken) -> Taken
-    requires { run_size ≤ length run.old }
-    ensures { (o : Outcome Left) → Answered o done.refusal run.old done.counters → Leaves (started a.now run.old) o result.refusal run.new result.counters }
-{
-    if done.refusal == 0 {
-        return done;
-    }
-    start_on(a, run);
-    with_none(done.refusal)
-}
-
-// The tokens and the end, from a fresh run.
-fn take_run(a: &[u8], run: &mut [u8], s: &[u8]) -> Taken
-    requires { (Usable a.now run.old no_counters) × (start_run a.now run.old ≡ run.old) × (length s.now ≤ max_report_bytes) }
-    ensures { Leaves (record { bytes = run.old; counters = no_counters }) (and_then (run_from a.now (filed (record { bytes = run.old; counters = no_counters })) (read_report s.now)) file_last) result.refusal run.new result.counters }
-{
-    let taken = take_tokens(a, run, s);
-    let ended = take_end(run, taken);
-    fresh_after(a, run, ended)
-}
-
-// 2 and 8 come before the tokens.
-fn file_fresh(a: &[u8], run: &mut [u8], s: &[u8]) -> Taken
-    requires { (Usable a.now run.old no_counters) × (start_run a.now run.old ≡ run.old) }
-    ensures { Leaves (record { bytes = run.old; counters = no_counters }) (file_report (stored_machine a.now) (record { bytes = run.old; counters = no_counters }) [] s.now) result.refusal run.new result.counters }
+// On a run that was started. 2 and 8 come before the tokens.
+fn file_started(a: &[u8], run: &mut [u8], counters: &mut Counters, s: &[u8]) -> Result<(), Refusal>
+    requires { Usable a.now run.old counters.old }
+    ensures { Taking a.now run.old (file_report (stored_machine a.now) (record { bytes = run.old; counters = counters.old }) [] s.now) (refusal_in result) run.new counters.new }
 {
     if s.len() > MAX_REPORT {
-        return with_none(TOO_LARGE);
+        return Err(Refusal::TooLarge);
     }
     if !all_listed(s) {
-        return with_none(INVALID_BYTE);
+        return Err(Refusal::InvalidByte);
     }
-    take_run(a, run, s)
+    take_report(a, run, counters, s)
 }
 
-// Filing a report, with the counters by value.
-pub fn file_by(a: &[u8], run: &mut [u8], counters: Counters, report: &[u8]) -> Taken
-    ensures { Files a.now run.old counters report.now result.refusal run.new result.counters }
+// Files a report. 1 and 14, which are of what is lent, leave all as it was; any other refusal leaves a fresh run.
+pub fn file_report(
+    a: &[u8],
+    run: &mut [u8],
+    counters: &mut Counters,
+    report: &[u8],
+) -> Result<(), Refusal>
+    ensures { Files a.now run.old counters.old report.now (refusal_in result) run.new counters.new }
 {
-    let started = start_by(a, run, counters);
-    if started.refusal != 0 {
-        let kept = started.counters;
-        return Taken {
-            refusal: started.refusal,
-            counters: kept,
-        };
+    start(a, run, counters)?;
+    let filed = file_started(a, run, counters, report);
+    if filed.is_err() {
+        start_on(a, run);
+        *counters = Counters::none();
     }
-    file_fresh(a, run, report)
-}
-
-// Filing a report, on counters that are lent.
-pub fn file_report(a: &[u8], run: &mut [u8], counters: &mut Counters, report: &[u8]) -> u8
-    ensures { Files a.now run.old counters.old report.now result run.new counters.new }
-{
-    let done = file_by(a, run, *counters, report);
-    *counters = done.counters;
-    done.refusal
+    filed
 }

@@ -1,34 +1,81 @@
-// What programs do with a set's text and a report, whatever they show of a filed one (paper 01: The filing program): sizes are tested, a set is
-// built, a report filed with it.
+// What programs do with a set's text and a report, whatever they show of a filed one: sizes are tested, a set is built, the report is filed with
+// it, and what filing left is shown, or the line of a refusal.
 ghost use Rattle.std.specs.Prelude.{◌≡◌};
-ghost use Rattle.filing.specs.Shown.{too_small, FilesText};
+ghost use Rattle.filing.specs.Shown.{too_small, FilesText, PrintsWith};
 
-use crate::report::{Taken, file_by, with_none};
+use crate::listing::write_line;
+use crate::report::file_report;
 use machine::build::build;
-use machine::layout::AUTOMATON_SIZE;
-use machine::run::layout::RUN_SIZE;
+use machine::run::lent;
 use stored::counters::Counters;
+use text::refusals::Refusal;
 
-// An automaton, a run or bytes to be printed, of which there are to be `size`, are too short.
-pub fn too_small(a: &[u8], run: &[u8], out: &[u8], size: usize) -> bool
-    ensures { result ≡ too_small size a.now run.now out.now }
-{
-    if a.len() < AUTOMATON_SIZE {
-        return true;
-    }
-    if run.len() < RUN_SIZE {
-        return true;
-    }
-    out.len() < size
+// What is shown of a filed report.
+pub trait Show {
+    ghost use Rattle.std.specs.Prelude.{ℕ, List, Result, ◌≤◌};
+    ghost use Rattle.text.specs.declared.refusals.Refusal.{Refusal};
+    ghost use Rattle.stored.specs.declared.counters.Counters.{Counters};
+    ghost use Rattle.filing.specs.Limits.{max_refused_line};
+
+    // Room for whatever is shown of a built set.
+    const SIZE: usize;
+
+    ghost SIZE: { ℕ };
+
+    // What a show of what filing left answers and leaves.
+    ghost shows: { List ℕ → List ℕ → Counters → List ℕ → Result ℕ Refusal → List ℕ → Type 0 };
+
+    fn show(a: &[u8], run: &[u8], c: Counters, out: &mut [u8]) -> Result<usize, Refusal>
+        ensures { shows a.now run.now c out.old result out.new };
+
+    // And for the line of a refusal.
+    ghost line: { max_refused_line ≤ SIZE };
 }
 
-// An inner call of the programs' jobs: builds a set and files a report with it; the set's refusal, or the report's. Sizes are tested before.
-pub fn file_text(text: &[u8], report: &[u8], automaton: &mut [u8], run: &mut [u8]) -> Taken
-    ensures { FilesText text.now report.now automaton.old run.old result.refusal automaton.new run.new result.counters }
+// An automaton, a run or bytes to be printed, of which there are to be `size`, are too short.
+#[tactic(auto, unfolding(crate::specs::Shown::too_small))]
+fn too_small(a: &[u8], run: &[u8], out: &[u8], size: usize) -> bool
+    ensures { result ≡ too_small size a.now run.now out.now }
+{
+    lent::too_short(a, run) || out.len() < size
+}
+
+// Builds a set and files a report with it: the number of the set's refusal, or of the report's.
+fn file_text(
+    text: &[u8],
+    report: &[u8],
+    automaton: &mut [u8],
+    run: &mut [u8],
+) -> Result<Counters, u8>
+    ensures { FilesText text.now report.now automaton.old run.old result automaton.new run.new }
 {
     let refused = build(text, automaton);
     if refused != 0 {
-        return with_none(refused);
+        return Err(refused);
     }
-    file_by(automaton, run, Counters::none(), report)
+    let mut counters = Counters::none();
+    match file_report(automaton, run, &mut counters, report) {
+        Ok(()) => Ok(counters),
+        Err(refusal) => Err(refusal.number()),
+    }
+}
+
+// Writes what is shown of a set's text and a report to the first bytes of `out` and answers its length, or 1 where a buffer is short. Bytes past
+// it stay. The automaton and the run are left as built and filed.
+pub fn print_shown<S: Show>(
+    text: &[u8],
+    report: &[u8],
+    automaton: &mut [u8],
+    run: &mut [u8],
+    out: &mut [u8],
+) -> Result<usize, Refusal>
+    ensures { PrintsWith S.shows S.SIZE text.now report.now automaton.old run.old out.old result automaton.new run.new out.new }
+{
+    if too_small(automaton, run, out, S::SIZE) {
+        return Err(Refusal::ShortBuffer);
+    }
+    match file_text(text, report, automaton, run) {
+        Ok(counters) => S::show(automaton, run, counters, out),
+        Err(number) => write_line(number, out),
+    }
 }

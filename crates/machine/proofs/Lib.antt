@@ -1,1 +1,3 @@
 pub mod Laws
+pub mod Names
+pub mod Ranges

@@ -5,7 +5,8 @@ mod groups;
 mod masks;
 mod parents;
 
-ghost use Rattle.std.specs.Prelude.{◌≡◌, ◌++◌, ◌-◌, ◌≤◌, length, take, drop, replicate};
+ghost use Rattle.std.specs.Prelude.{◌≡◌, ◌≤◌, length};
+ghost use Rattle.text.specs.Answers.{refusal_in};
 ghost use Rattle.stored.specs.Automaton.{automaton_size};
 ghost use Rattle.stored.specs.Build.{Built};
 ghost use Rattle.stored.specs.Code.Passes.{ReadIn, cleared, made};
@@ -13,23 +14,15 @@ ghost use Rattle.stored.specs.Code.Passes.{ReadIn, cleared, made};
 use crate::layout::AUTOMATON_SIZE;
 use notation::layout::SET_SIZE;
 use notation::read::read_set;
-use text::refusals::SHORT_BUFFER;
-use text::store::clear;
-
-// Zeros from byte `from` up to byte `to`.
-fn clear_between(part: &mut [u8], from: usize, to: usize)
-    requires { (from ≤ to) × (to ≤ length part.old) }
-    ensures { part.new ≡ take from part.old ++ (replicate (to - from) 0 ++ drop to part.old) }
-{
-    clear(&mut part[from..to], to - from);
-}
+use text::refusals::Refusal;
 
 // Zeros behind the read set.
+#[tactic(auto, unfolding(notation::specs::Layout::set_size, stored::specs::Automaton::automaton_size, stored::specs::Code::Passes::cleared))]
 fn clear_tables(part: &mut [u8])
     requires { automaton_size ≤ length part.old }
     ensures { part.new ≡ cleared part.old }
 {
-    clear_between(part, SET_SIZE, AUTOMATON_SIZE);
+    part[SET_SIZE..AUTOMATON_SIZE].fill(0);
 }
 
 // The passes over a read set, in order.
@@ -46,19 +39,16 @@ fn make(part: &mut [u8])
     masks::write_start(part);
 }
 
-// Builds the automaton of a set's text. Answers 0, or the number of the refusal: 1 for a short buffer, then 2 to 7. A refusal changes
-// nothing. Two passes over the text, one over the buffer, one over the labels or steps for each of links, groups, parents and masks, and one over
-// the labels for each length of a word.
-pub fn build(text: &[u8], automaton: &mut [u8]) -> u8
-    ensures { Built text.now automaton.old result automaton.new }
+// Builds the automaton of a set's text, or answers a refusal, for a short buffer or of the text, which changes nothing. Two passes over the text,
+// one over the buffer, one over the labels or steps for each of links, groups, parents and masks, and one over the labels for each length of a
+// word.
+pub fn build(text: &[u8], automaton: &mut [u8]) -> Result<(), Refusal>
+    ensures { Built text.now automaton.old (refusal_in result) automaton.new }
 {
     if automaton.len() < AUTOMATON_SIZE {
-        return SHORT_BUFFER;
+        return Err(Refusal::ShortBuffer);
     }
-    let refused = read_set(text, automaton);
-    if refused != 0 {
-        return refused;
-    }
+    read_set(text, automaton)?;
     make(automaton);
-    0
+    Ok(())
 }

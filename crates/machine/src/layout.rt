@@ -6,7 +6,9 @@ pub const HASHES: usize = 256;
 
 // Of a label's links: the next label of its name, the parent, the failure link, the length of its word, the next name of its hash, the first
 // label of its name, the next label of its name in a later byte of a mask, and the bits of the steps in its own byte.
-pub const PARENT_IN: usize = WORD_SIZE;
+pub const NEXT_IN: usize = 0;
+
+pub const PARENT_IN: usize = NEXT_IN + WORD_SIZE;
 
 pub const FAIL_IN: usize = PARENT_IN + WORD_SIZE;
 
@@ -25,20 +27,18 @@ pub const LINK_SIZE: usize = BITS_IN + WORD_SIZE;
 // One bit a step.
 pub const MASK_SIZE: usize = MAX_ALL_STEPS / 8;
 
-// The masks in the order in which they stand: `*`; `/` and `//` of a step that is not the first; `//` and `/` of a first step; the last step.
-pub const STAR_MASK: usize = 0;
+// The masks, in the order in which they stand: `*`; `/` and `//` of a step that is not the first; `//` and `/` of a first step; the last step.
+#[derive(Clone, Copy)]
+pub enum Mask {
+    Star,
+    Child,
+    Descendant,
+    Anywhere,
+    Root,
+    Last,
+}
 
-pub const CHILD_MASK: usize = STAR_MASK + 1;
-
-pub const DESCENDANT_MASK: usize = CHILD_MASK + 1;
-
-pub const ANYWHERE_MASK: usize = DESCENDANT_MASK + 1;
-
-pub const ROOT_MASK: usize = ANYWHERE_MASK + 1;
-
-pub const LAST_MASK: usize = ROOT_MASK + 1;
-
-pub const MASK_COUNT: usize = LAST_MASK + 1;
+pub const MASK_COUNT: usize = Mask::Last as usize + 1;
 
 pub const HEADS_AT: usize = SET_SIZE;
 

@@ -2,7 +2,7 @@
 ghost use Rattle.std.specs.Prelude.{◌≡◌, ◌<◌};
 ghost use Rattle.stored.specs.HeldSet.{folders_held, folder_held, top_held, path_held};
 
-use notation::reads::FolderAt;
+use notation::reads::StoredFolder;
 use notation::{PathPlace, reads};
 
 pub fn folders(a: &[u8]) -> usize
@@ -11,7 +11,7 @@ pub fn folders(a: &[u8]) -> usize
     reads::folders(a)
 }
 
-pub fn folder_at(a: &[u8], i: usize) -> FolderAt
+pub fn folder_at(a: &[u8], i: usize) -> Option<StoredFolder>
     ensures { (result ≡ folder_held a.now i) × (top_held result < 65536) }
 {
     reads::folder_at(a, i)

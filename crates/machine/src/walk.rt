@@ -1,17 +1,20 @@
 // The walk of an open over the automaton's tables.
-ghost use Rattle.std.specs.Prelude.{◌≡◌, suc, ◌+◌, ◌≤◌, ◌<◌, length};
+#![tactic(auto, unfolding(notation::specs::Limits::max_labels, stored::specs::Automaton::links_at, stored::specs::Automaton::link_size))]
+
+ghost use Rattle.std.specs.Prelude.{◌≡◌, suc, ◌+◌, ◌≤◌, ◌<◌, unwrap_or, IfSome};
 ghost use Rattle.notation.specs.Limits.{max_labels};
 ghost use Rattle.notation.specs.Reads.{word16, label_count};
-ghost use Rattle.stored.specs.Automaton.{automaton_size, link_entry_at};
+ghost use Rattle.stored.specs.Automaton.{link_entry_at};
 ghost use Rattle.stored.specs.Tables.{size_of, fail_of, goto_by, walk_by};
 ghost use Rattle.stored.specs.Usable.{Searchable, Walkable};
+ghost use Rattle.machine.specs.Places.{place_of};
 
-use crate::labels::word;
-use crate::layout::{FAIL_IN, LINK_SIZE, LINKS_AT, PARENT_IN, SIZE_IN};
+use crate::automaton::{Automaton, Label};
+use crate::layout::{FAIL_IN, LINK_SIZE, LINKS_AT, NEXT_IN, PARENT_IN, SIZE_IN};
 use notation::reads::word_at;
 use stored::walk::Walk;
 
-// A field of the links of label `l`.
+// A field of the links of label `l`, of any bytes.
 pub fn link_field(a: &[u8], l: usize, field: usize) -> usize
     requires { (l ≤ 65536) × (field ≤ 65536) }
     ensures { (result ≡ word16 a.now (link_entry_at l + field)) × (result < 65536) }
@@ -19,7 +22,7 @@ pub fn link_field(a: &[u8], l: usize, field: usize) -> usize
     word_at(a, LINKS_AT + LINK_SIZE * l + field)
 }
 
-// The length of the word of state `q`.
+// The length of the word of state `q`, of any bytes.
 pub fn size_of(a: &[u8], q: usize) -> usize
     requires { q < 65536 }
     ensures { (result ≡ size_of a.now q) × (result < 65536) }
@@ -31,52 +34,60 @@ pub fn size_of(a: &[u8], q: usize) -> usize
     }
 }
 
-// The state of the word of state `q` followed by a name, 0 for none. `first` is the place of the name's first label.
-pub fn goto_state(a: &[u8], q: usize, first: usize) -> usize
-    requires { Searchable a.now × ((first ≤ label_count a.now) × (automaton_size ≤ length a.now)) }
-    ensures { (result ≡ goto_by a.now q first) × (result ≤ suc (label_count a.now)) }
-{
-    let mut k = first;
-    while k != 0 {
-        let at = LINKS_AT + LINK_SIZE * (k - 1);
-        if word(a, at + PARENT_IN) == q {
-            return k + 1;
+impl<'a> Automaton<'a> {
+    // The length of the word of state `q`: of a label's, of `#` or of the empty word.
+    pub fn size_of(&self, q: usize) -> usize
+        requires { q ≤ suc max_labels }
+        ensures { result ≡ size_of self.now q }
+    {
+        if q < 2 { q } else { self.link(q - 2, SIZE_IN) }
+    }
+
+    // The state of the word of state `q` followed by a name. `first` is the name's first label.
+    pub fn goto_state(&self, q: usize, first: Option<Label>) -> Option<usize>
+        requires searchable { Searchable self.now }
+        requires within { place_of first ≤ label_count self.now }
+        ensures found { unwrap_or result 0 ≡ goto_by self.now q (place_of first) }
+        ensures state { IfSome result (λ to. (1 < to) × (to ≤ suc (label_count self.now))) }
+    {
+        let mut next = first;
+        while let Some(label) = next {
+            let l = label.number();
+            if self.link(l, PARENT_IN) == q {
+                return Some(l + 2);
+            }
+            next = self.linked(l, NEXT_IN);
         }
-        k = word(a, at);
+        None
     }
-    0
-}
 
-// The state of the failure move from state `q`.
-pub fn fail_of(a: &[u8], q: usize) -> usize
-    requires { (q ≤ suc max_labels) × (automaton_size ≤ length a.now) }
-    ensures { result ≡ fail_of a.now q }
-{
-    if q < 2 {
-        0
-    } else {
-        word(a, LINKS_AT + LINK_SIZE * (q - 2) + FAIL_IN)
+    // The state of the failure move from state `q`.
+    pub fn fail_of(&self, q: usize) -> usize
+        requires { q ≤ suc max_labels }
+        ensures { result ≡ fail_of self.now q }
+    {
+        if q < 2 { 0 } else { self.link(q - 2, FAIL_IN) }
     }
-}
 
-// The walk of an open from state `q` (paper 01: the walk with its fall-backs). `first` is the place of the first label with its name.
-pub fn walk_from(a: &[u8], q: usize, first: usize) -> Walk
-    requires { Walkable a.now × ((q ≤ suc (label_count a.now)) × ((first ≤ label_count a.now) × (automaton_size ≤ length a.now))) }
-    ensures { (result ≡ walk_by a.now q first) × ((result.state ≤ suc (label_count a.now)) × (result.moves ≤ size_of a.now q)) }
-{
-    let to = goto_state(a, q, first);
-    if to != 0 {
-        return Walk {
-            moves: 0,
-            state: to,
-        };
-    }
-    if q == 0 {
-        return Walk { moves: 0, state: 0 };
-    }
-    let rest = walk_from(a, fail_of(a, q), first);
-    Walk {
-        moves: rest.moves + 1,
-        state: rest.state,
+    // The walk from state `q`, by failure moves until a state goes on. `first` is the first label with the name.
+    pub fn walk_from(&self, q: usize, first: Option<Label>) -> Walk
+        requires walkable { Walkable self.now }
+        requires state { q ≤ suc (label_count self.now) }
+        requires within { place_of first ≤ label_count self.now }
+        ensures walked { result ≡ walk_by self.now q (place_of first) }
+        ensures state { result.state ≤ suc (label_count self.now) }
+        ensures moves { result.moves ≤ size_of self.now q }
+    {
+        if let Some(state) = self.goto_state(q, first) {
+            return Walk { moves: 0, state };
+        }
+        if q == 0 {
+            return Walk { moves: 0, state: 0 };
+        }
+        let rest = self.walk_from(self.fail_of(q), first);
+        Walk {
+            moves: rest.moves + 1,
+            ..rest
+        }
     }
 }

@@ -4,26 +4,19 @@ ghost use Rattle.stored.specs.Build.{SetWritten};
 use crate::layout::AUTOMATON_SIZE;
 use crate::shape::automaton_shaped;
 use notation::limits::MAX_SET_BYTES;
-use notation::reads;
-use text::refusals::{BAD_SHAPE, SHORT_BUFFER};
-use text::store::copy;
-use text::written::Written;
+use notation::write::write_text;
+use text::refusals::Refusal;
 
 // Writes the text of an automaton's set and answers its length, or the number of the refusal: 1 for a short automaton or buffer, 14 for
 // bytes that are no automaton. Bytes past the text stay.
-pub fn write_set(automaton: &[u8], out: &mut [u8]) -> Written
+pub fn write_set(automaton: &[u8], out: &mut [u8]) -> Result<usize, Refusal>
     ensures { SetWritten automaton.now out.old result out.new }
 {
-    if automaton.len() < AUTOMATON_SIZE {
-        return Written::Refused(SHORT_BUFFER);
+    if automaton.len() < AUTOMATON_SIZE || out.len() < MAX_SET_BYTES {
+        return Err(Refusal::ShortBuffer);
     }
-    if out.len() < MAX_SET_BYTES {
-        return Written::Refused(SHORT_BUFFER);
+    if !automaton_shaped(automaton) {
+        return Err(Refusal::BadShape);
     }
-    if automaton_shaped(automaton) {
-        let text = reads::text(automaton);
-        copy(out, 0, text);
-        return Written::Bytes(text.len());
-    }
-    Written::Refused(BAD_SHAPE)
+    write_text(automaton, out)
 }

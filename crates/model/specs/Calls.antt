@@ -5,7 +5,8 @@ use Rattle.text.specs.Names.{Name, name_form, too_long, same_name}
 use Rattle.notation.specs.Sets.{Path, FolderSet}
 use Rattle.notation.specs.Form.{paths_of}
 use Rattle.text.specs.Lists.{non_empty}
-use Rattle.text.specs.Refusals.{Refusal, syntax_error, name_too_long, not_one_root, too_deep, over_capacity, mismatched_close}
+use Rattle.text.specs.declared.refusals.Refusal.{Refusal}
+use Rattle.text.specs.declared.refusals.Refusal.TheVariants.{SyntaxError, NameTooLong, NotOneRoot, TooDeep, OverCapacity, MismatchedClose}
 use Rattle.notation.specs.Activity.{active, fits}
 use Rattle.model.specs.Limits.{max_depth, max_opens}
 use Rattle.model.specs.Words.{document, Word, begins}
@@ -111,19 +112,19 @@ is_innermost (level n w ∷ outer) e = same_name n e
 -- the order of an open: 9, 5, 10, 11, 7; of a close: 9, 5, 10, 12
 abbrev pub open_order : State → Name → List Condition
 open_order s e =
-    gives (not (name_form e)) syntax_error
-    ∷ gives (too_long e) name_too_long
-    ∷ gives s.root_closed not_one_root
-    ∷ gives (leb max_depth (depth s)) too_deep
-    ∷ gives (leb max_opens s.opens) over_capacity
+    gives (not (name_form e)) SyntaxError
+    ∷ gives (too_long e) NameTooLong
+    ∷ gives s.root_closed NotOneRoot
+    ∷ gives (leb max_depth (depth s)) TooDeep
+    ∷ gives (leb max_opens s.opens) OverCapacity
     ∷ []
 
 abbrev pub close_order : State → Name → List Condition
 close_order s e =
-    gives (not (name_form e)) syntax_error
-    ∷ gives (too_long e) name_too_long
-    ∷ gives (nothing_open s) not_one_root
-    ∷ gives (not (is_innermost s.levels e)) mismatched_close
+    gives (not (name_form e)) SyntaxError
+    ∷ gives (too_long e) NameTooLong
+    ∷ gives (nothing_open s) NotOneRoot
+    ∷ gives (not (is_innermost s.levels e)) MismatchedClose
     ∷ []
 
 abbrev pub order_of : State → Call → List Condition

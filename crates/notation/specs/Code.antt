@@ -1,3 +1,4 @@
 -- Definitions that follow the code. Laws tie each to the plain one; no contract of a public call reaches them.
 pub mod Reader
 pub mod Taking
+pub mod Readings

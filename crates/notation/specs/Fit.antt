@@ -1,4 +1,4 @@
--- What a path means on the names of the open elements, outermost first (paper 01: Fit; an active step is one that "stands").
+-- What a path means on the names of the open elements, outermost first (an active step is one that "stands").
 use Rattle.std.specs.Prelude.{ℕ, suc, ◌≤◌, ◌<◌, pred, ◌≡◌, List, [], length, get_or}
 use Rattle.text.specs.Names.{Name}
 use Rattle.notation.specs.Sets.{child, Test, label, star, Step, step, Path, axis_of, test_of}

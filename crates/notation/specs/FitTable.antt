@@ -1,4 +1,4 @@
--- Paper 01's table of cases of Fit.
+-- The table of cases of Fit.
 use Rattle.std.specs.Prelude.{Bool, true, false, List, [], ◌∷◌}
 use Rattle.text.specs.Names.{Name}
 use Rattle.notation.specs.Sets.{child, descendant, label, star, step, Path}

@@ -5,7 +5,8 @@ use Rattle.text.specs.Names.{name_form, too_long, within}
 use Rattle.notation.specs.Sets.{Test, label, star, Step, Path, Folder, folder, FolderSet, test_of, folder_paths}
 use Rattle.notation.specs.Print.{print}
 use Rattle.text.specs.Lists.{every, any, non_empty}
-use Rattle.text.specs.Refusals.{Refusal, out_of_order, name_too_long, path_too_long}
+use Rattle.text.specs.declared.refusals.Refusal.{Refusal}
+use Rattle.text.specs.declared.refusals.Refusal.TheVariants.{OutOfOrder, NameTooLong, PathTooLong}
 
 -- labels have name form, of any length
 abbrev pub formed_test : Test → Bool
@@ -65,7 +66,7 @@ long_test star = false
 -- what is wrong with a set, in the order of its text: a number that is not above the one before (4); at each step a label over the
 -- length of a name (5) and then a step over a path's limit (6). `k` counts the steps of the path before this one
 abbrev pub step_faults : ℕ → Step → List Refusal
-step_faults k s = cond (long_test (test_of s)) (name_too_long ∷ []) [] ++ cond (leb max_steps k) (path_too_long ∷ []) []
+step_faults k s = cond (long_test (test_of s)) (NameTooLong ∷ []) [] ++ cond (leb max_steps k) (PathTooLong ∷ []) []
 
 unfoldable pub path_faults : ℕ → Path → List Refusal
 path_faults k [] = []
@@ -78,7 +79,7 @@ paths_faults (p ∷ ps) = path_faults 0 p ++ paths_faults ps
 -- `last` is the number of the folder before, 0 where there is none
 unfoldable pub faults_after : ℕ → FolderSet → List Refusal
 faults_after last [] = []
-faults_after last (folder n ps ∷ fs) = cond (leb n last) (out_of_order ∷ []) [] ++ (paths_faults ps ++ faults_after n fs)
+faults_after last (folder n ps ∷ fs) = cond (leb n last) (OutOfOrder ∷ []) [] ++ (paths_faults ps ++ faults_after n fs)
 
 abbrev pub faults : FolderSet → List Refusal
 faults s = faults_after 0 s

@@ -1,12 +1,15 @@
-// The entries of a read set's tables, written at their places.
+// The entries of a read set's tables, written at their places, where there is room: a text is judged with no buffer for them. An index is a
+// count of `Tally`, so it asks here for what `Reading` knows of each; a type of an index would only be unwrapped.
 ghost use Rattle.std.specs.Prelude.{◌≡◌, [], ◌∷◌, ◌+◌, ◌*◌, ◌≤◌};
 ghost use Rattle.std.proofs.lemmas.List.Edits.{sets};
 ghost use Rattle.notation.specs.Layout.{folder_size, path_size, label_size, folders_at, paths_at, steps_at, labels_at, folder_entry, path_entry, label_entry};
+ghost use Rattle.notation.specs.Reads.{kind_of};
 
 use crate::layout::{
     FOLDER_SIZE, FOLDERS_AT, LABEL_SIZE, LABEL_STEP_IN, LABELS_AT, PATH_BEGIN_IN, PATH_SIZE,
     PATHS_AT, STEPS_AT,
 };
+use crate::reads::{StoredLabel, StoredPath, StoredStep};
 use text::store::{copy, put_pair, put16};
 
 pub fn put_folder(part: &mut [u8], i: usize, number: usize, first: usize)
@@ -16,28 +19,27 @@ pub fn put_folder(part: &mut [u8], i: usize, number: usize, first: usize)
     put_pair(part, FOLDERS_AT + FOLDER_SIZE * i, number, first);
 }
 
-pub fn put_path(part: &mut [u8], i: usize, first: usize, count: usize, begin: usize, size: usize)
+pub fn put_path(part: &mut [u8], i: usize, path: StoredPath)
     requires { i ≤ 65536 }
-    ensures { part.new ≡ sets part.old (paths_at + path_size * i) (path_entry first count begin size) }
+    ensures { part.new ≡ sets part.old (paths_at + path_size * i) (path_entry path.first path.steps path.at path.size) }
 {
     let at = PATHS_AT + PATH_SIZE * i;
-    put_pair(part, at, first, count);
-    put_pair(part, at + PATH_BEGIN_IN, begin, size);
+    put_pair(part, at, path.first, path.steps);
+    put_pair(part, at + PATH_BEGIN_IN, path.at, path.size);
 }
 
-pub fn put_step(part: &mut [u8], i: usize, kind: u8)
+pub fn put_step(part: &mut [u8], i: usize, step: StoredStep)
     requires { i ≤ 65536 }
-    ensures { part.new ≡ sets part.old (steps_at + i) (kind ∷ []) }
+    ensures { part.new ≡ sets part.old (steps_at + i) (kind_of step ∷ []) }
 {
-    let entry = [kind];
-    copy(part, STEPS_AT + i, &entry);
+    copy(part, STEPS_AT + i, &[step.kind()]);
 }
 
-pub fn put_label(part: &mut [u8], i: usize, from: usize, size: usize, owner: usize)
+pub fn put_label(part: &mut [u8], i: usize, label: StoredLabel)
     requires { i ≤ 65536 }
-    ensures { part.new ≡ sets part.old (labels_at + label_size * i) (label_entry from size owner) }
+    ensures { part.new ≡ sets part.old (labels_at + label_size * i) (label_entry label.at label.size label.step) }
 {
     let at = LABELS_AT + LABEL_SIZE * i;
-    put_pair(part, at, from, size);
-    put16(part, at + LABEL_STEP_IN, owner);
+    put_pair(part, at, label.at, label.size);
+    put16(part, at + LABEL_STEP_IN, label.step);
 }

@@ -1,7 +1,8 @@
 // What is stored of a read set: cheap calls on any part of a buffer that keeps one. They answer by what is stored.
-ghost use Rattle.std.specs.Prelude.{◌≡◌, true, ◌-◌, ◌<◌, get_or};
+ghost use Rattle.std.specs.Prelude.{◌≡◌, true, ◌-◌, ◌<◌, ◌≤◌, length, get_or};
 ghost use Rattle.notation.specs.Limits.{max_paths};
-ghost use Rattle.notation.specs.Reads.{word16, text_len, folder_count, path_count, step_count, label_count, present, paths_end, folder_at, path_at, step_at, label_at, text_slice, text_of, path_text, label_name, folder_of, folder_top, path_top, label_top};
+ghost use Rattle.notation.specs.Layout.{set_size};
+ghost use Rattle.notation.specs.Reads.{word16, text_len, folder_count, path_count, step_count, label_count, present, paths_end, folder_at, path_at, kind_of, step_of, step_at, label_at, text_slice, text_of, path_text, label_name, folder_of, folder_top, path_top, label_top};
 
 use crate::layout::{
     FOLDER_COUNT_AT, FOLDER_FIRST_IN, FOLDER_SIZE, FOLDERS_AT, LABEL_COUNT_AT, LABEL_LENGTH_IN,
@@ -11,55 +12,64 @@ use crate::layout::{
 };
 use crate::limits::{MAX_LABELS, MAX_PATHS, MAX_SET_BYTES};
 use crate::{FolderNumber, PathPlace};
-use text::arith::{least, minus};
 
 #[derive(Clone, Copy)]
-pub enum FolderAt {
-    // The folder's number, the place of its first path, and its count of paths.
-    Folder {
-        number: FolderNumber,
-        first: PathPlace,
-        paths: usize,
-    },
-    Missing,
+pub struct StoredFolder {
+    pub number: FolderNumber,
+    // The place of its first path, and its count of paths.
+    pub first: PathPlace,
+    pub paths: usize,
 }
 
 #[derive(Clone, Copy)]
-pub enum PathAt {
-    // The path's first step, its count of steps, and where in the set's text it stands.
-    Path {
-        first: usize,
-        steps: usize,
-        at: usize,
-        size: usize,
-    },
-    Missing,
+pub struct StoredPath {
+    // Its first step, its count of steps.
+    pub first: usize,
+    pub steps: usize,
+    // Where in the set's text it stands.
+    pub at: usize,
+    pub size: usize,
 }
 
 #[derive(Clone, Copy)]
-pub enum StepAt {
-    // `//`, not `/`; `*`, not a label.
-    Step { descendant: bool, star: bool },
-    Missing,
+pub struct StoredStep {
+    // `//`, not `/`.
+    pub descendant: bool,
+    // `*`, not a label.
+    pub star: bool,
+}
+
+impl StoredStep {
+    // The byte of a step in its table, and back.
+    pub fn kind(self) -> u8
+        ensures { result ≡ kind_of self }
+    {
+        u8::from(self.descendant) + STAR_KIND * u8::from(self.star)
+    }
+
+    pub fn of_kind(kind: u8) -> StoredStep
+        ensures { result ≡ step_of kind }
+    {
+        StoredStep {
+            descendant: kind % 2 == 1,
+            star: kind / STAR_KIND % 2 == 1,
+        }
+    }
 }
 
 #[derive(Clone, Copy)]
-pub enum LabelAt {
-    // Where in the set's text the label stands, and its step.
-    Label { at: usize, size: usize, step: usize },
-    Missing,
-}
-
-#[derive(Clone, Copy)]
-pub enum FolderIndex {
-    At(usize),
-    Missing,
+pub struct StoredLabel {
+    // Where in the set's text it stands.
+    pub at: usize,
+    pub size: usize,
+    // The step whose label it is.
+    pub step: usize,
 }
 
 pub fn byte_at(part: &[u8], i: usize) -> usize
     ensures { (result ≡ get_or part.now i 0) × (result < 256) }
 {
-    if i < part.len() { part[i] as usize } else { 0 }
+    part.get(i).map_or(0, |byte| usize::from(*byte))
 }
 
 // A number of two bytes, the lower first.
@@ -106,15 +116,10 @@ pub fn labels(part: &[u8]) -> usize
 
 // The part is whole, and entry `i` is there.
 fn has(part: &[u8], count: usize, capacity: usize, i: usize) -> bool
-    ensures { (result ≡ present part.now count capacity i) × (result ≡ true → i < capacity) }
+    ensures value { result ≡ present part.now count capacity i }
+    ensures within { result ≡ true → (i < capacity) × (set_size ≤ length part.now) }
 {
-    if part.len() < SET_SIZE {
-        return false;
-    }
-    if count <= i {
-        return false;
-    }
-    i < capacity
+    SET_SIZE <= part.len() && i < count && i < capacity
 }
 
 // Where the paths of folder `i` end.
@@ -130,67 +135,58 @@ fn paths_end(part: &[u8], i: usize) -> usize
     }
 }
 
-pub fn folder_at(part: &[u8], i: usize) -> FolderAt
+pub fn folder_at(part: &[u8], i: usize) -> Option<StoredFolder>
     ensures { (result ≡ folder_at part.now i) × (folder_top result < 65536) }
 {
-    if has(part, folders(part), MAX_PATHS, i) {
-        let at = FOLDERS_AT + FOLDER_SIZE * i;
-        let number = word_at(part, at);
-        let first = word_at(part, at + FOLDER_FIRST_IN);
-        FolderAt::Folder {
-            number: FolderNumber(number),
-            first: PathPlace(first),
-            paths: minus(paths_end(part, i), first),
-        }
-    } else {
-        FolderAt::Missing
+    if !has(part, folders(part), MAX_PATHS, i) {
+        return None;
     }
+    let at = FOLDERS_AT + FOLDER_SIZE * i;
+    let first = word_at(part, at + FOLDER_FIRST_IN);
+    Some(StoredFolder {
+        number: FolderNumber(word_at(part, at)),
+        first: PathPlace(first),
+        paths: paths_end(part, i).saturating_sub(first),
+    })
 }
 
-pub fn path_at(part: &[u8], place: PathPlace) -> PathAt
+pub fn path_at(part: &[u8], place: PathPlace) -> Option<StoredPath>
     ensures { (result ≡ path_at part.now place) × (path_top result < 65536) }
 {
     let i = place.0;
-    if has(part, paths(part), MAX_PATHS, i) {
-        let from = PATHS_AT + PATH_SIZE * i;
-        PathAt::Path {
-            first: word_at(part, from),
-            steps: word_at(part, from + PATH_STEPS_IN),
-            at: word_at(part, from + PATH_BEGIN_IN),
-            size: word_at(part, from + PATH_LENGTH_IN),
-        }
-    } else {
-        PathAt::Missing
+    if !has(part, paths(part), MAX_PATHS, i) {
+        return None;
     }
+    let from = PATHS_AT + PATH_SIZE * i;
+    Some(StoredPath {
+        first: word_at(part, from),
+        steps: word_at(part, from + PATH_STEPS_IN),
+        at: word_at(part, from + PATH_BEGIN_IN),
+        size: word_at(part, from + PATH_LENGTH_IN),
+    })
 }
 
-pub fn step_at(part: &[u8], i: usize) -> StepAt
+pub fn step_at(part: &[u8], i: usize) -> Option<StoredStep>
     ensures { result ≡ step_at part.now i }
 {
-    if has(part, steps(part), MAX_ALL_STEPS, i) {
-        let kind = byte_at(part, STEPS_AT + i);
-        StepAt::Step {
-            descendant: kind % 2 == 1,
-            star: kind / STAR_KIND % 2 == 1,
-        }
-    } else {
-        StepAt::Missing
+    if !has(part, steps(part), MAX_ALL_STEPS, i) {
+        return None;
     }
+    Some(StoredStep::of_kind(part[STEPS_AT + i]))
 }
 
-pub fn label_at(part: &[u8], i: usize) -> LabelAt
+pub fn label_at(part: &[u8], i: usize) -> Option<StoredLabel>
     ensures { (result ≡ label_at part.now i) × (label_top result < 65536) }
 {
-    if has(part, labels(part), MAX_LABELS, i) {
-        let from = LABELS_AT + LABEL_SIZE * i;
-        LabelAt::Label {
-            at: word_at(part, from),
-            size: word_at(part, from + LABEL_LENGTH_IN),
-            step: word_at(part, from + LABEL_STEP_IN),
-        }
-    } else {
-        LabelAt::Missing
+    if !has(part, labels(part), MAX_LABELS, i) {
+        return None;
     }
+    let from = LABELS_AT + LABEL_SIZE * i;
+    Some(StoredLabel {
+        at: word_at(part, from),
+        size: word_at(part, from + LABEL_LENGTH_IN),
+        step: word_at(part, from + LABEL_STEP_IN),
+    })
 }
 
 // Bytes of the set's text.
@@ -198,17 +194,10 @@ fn text_slice(part: &[u8], at: usize, size: usize) -> &[u8]
     ensures { result.now ≡ text_slice part.now at size }
 {
     if part.len() < SET_SIZE {
-        return &part[..0];
+        return &[];
     }
-    if MAX_SET_BYTES < size {
-        return &part[..0];
-    }
-    if MAX_SET_BYTES - size < at {
-        return &part[..0];
-    }
-    let from = TEXT_AT + at;
-    let to = from + size;
-    &part[from..to]
+    let room = &part[TEXT_AT..FOLDERS_AT];
+    room.get(at..at.saturating_add(size)).unwrap_or(&[])
 }
 
 // The set's text.
@@ -221,41 +210,22 @@ pub fn text(part: &[u8]) -> &[u8]
 pub fn path_text(part: &[u8], place: PathPlace) -> &[u8]
     ensures { result.now ≡ path_text part.now place }
 {
-    match path_at(part, place) {
-        PathAt::Path {
-            first: _,
-            steps: _,
-            at,
-            size,
-        } => text_slice(part, at, size),
-        PathAt::Missing => &part[..0],
-    }
+    path_at(part, place).map_or(&[], |path| text_slice(part, path.at, path.size))
 }
 
 pub fn label_name(part: &[u8], i: usize) -> &[u8]
     ensures { result.now ≡ label_name part.now i }
 {
-    match label_at(part, i) {
-        LabelAt::Label { at, size, step: _ } => text_slice(part, at, size),
-        LabelAt::Missing => &part[..0],
-    }
+    label_at(part, i).map_or(&[], |label| text_slice(part, label.at, label.size))
 }
 
 // The first folder that has this number.
-pub fn folder_of(part: &[u8], number: FolderNumber) -> FolderIndex
+pub fn folder_of(part: &[u8], number: FolderNumber) -> Option<usize>
     ensures { result ≡ folder_of part.now number }
 {
     if part.len() < SET_SIZE {
-        return FolderIndex::Missing;
+        return None;
     }
-    let wanted = number.0;
-    let top = least(folders(part), MAX_PATHS);
-    let mut i = 0;
-    while i < top {
-        if word_at(part, FOLDERS_AT + FOLDER_SIZE * i) == wanted {
-            return FolderIndex::At(i);
-        }
-        i += 1;
-    }
-    FolderIndex::Missing
+    let top = folders(part).min(MAX_PATHS);
+    (0..top).find(|i| word_at(part, FOLDERS_AT + FOLDER_SIZE * *i) == number.0)
 }

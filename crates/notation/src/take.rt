@@ -1,173 +1,161 @@
 // Reading a set's text, level by level: what is read is counted, and its entries are written.
-ghost use Rattle.std.specs.Prelude.{◌≡◌, cond, eqb, [], ◌∷◌, ◌+◌, ◌≤◌, length, drop};
-ghost use Rattle.notation.specs.declared.tally.Taken.{Taken};
-ghost use Rattle.text.specs.Lists.{non_empty};
-ghost use Rattle.text.specs.Read.{got, then_read, when, read_word};
-ghost use Rattle.notation.specs.Sets.{Path};
-ghost use Rattle.notation.specs.Code.Reader.{read_step, read_steps, read_path, read_paths, read_line, read_folder, read_folders, read_set};
-ghost use Rattle.notation.specs.Code.Taking.{nothing, state, take_step, take_all, PathRead, end_path, take_path, line_ended, take_line, take_folder, take_set, Took, Small};
+ghost use Rattle.std.specs.Prelude.{◌≡◌, ◌≤◌, length};
+ghost use Rattle.notation.specs.Code.Taking.{found_written, Small, TookSet};
 
+use crate::entries::{put_folder, put_label, put_path, put_step};
 use crate::limits::MAX_NUMBER;
-use crate::steps::step_at;
-use crate::tally::{Taken, Tally, begin, moved, path_begun, with_number, with_path, with_step};
+use crate::reads::{StoredLabel, StoredPath};
+use crate::steps::{StepFound, step_at};
+use crate::tally::Tally;
 use text::numbers::number_at;
-use text::words::word_at;
 
-fn take_step(text: &[u8], part: &mut [u8], t: Tally) -> Taken
-    requires { Small text.now t }
-    ensures { Took take_step (read_step (drop t.at text.now)) (state t part.old) result part.new }
+// The entry of a step, and of its label.
+fn put_found(part: &mut [u8], t: Tally, found: StepFound)
+    requires { (t.steps ≤ 65536) × (t.labels ≤ 65536) }
+    ensures { part.new ≡ found_written found t part.old }
 {
-    let s = step_at(text, t.at);
-    if s.end == 0 {
-        return Taken::No;
+    put_step(part, t.steps, found.step);
+    if !found.step.star {
+        let label = StoredLabel {
+            at: found.from,
+            size: found.size(),
+            step: t.steps,
+        };
+        put_label(part, t.labels, label);
     }
-    Taken::To(with_step(part, t, s))
 }
 
-// As many steps as there are.
-fn take_steps(text: &[u8], part: &mut [u8], t: Tally) -> Taken
-    requires { Small text.now t }
-    ensures { Took (take_all take_step) (read_steps (drop t.at text.now)) (state t part.old) result part.new }
-{
-    let mut u = t;
-    loop {
-        if !word_at(text, u.at, b"/") {
-            return Taken::To(u);
+// The text, how far it is read, and the buffer for the entries. No count is above the number of bytes read, so that sums fit.
+#[derive(Drop)]
+struct Reading<'a> {
+    text: &'a [u8],
+    part: &'a mut [u8],
+    tally: Tally,
+    ghost small: { Small text.now tally },
+}
+
+impl<'a> Reading<'a> {
+    ghost use Rattle.text.specs.Read.{starts_with, read_word, read_number};
+    ghost use Rattle.notation.specs.Limits.{max_number};
+    ghost use Rattle.notation.specs.Code.Reader.{read_step, read_path, read_line, read_folder, read_set};
+    ghost use Rattle.notation.specs.Code.Taking.{moved, take_step, take_path, take_line, number_taken, take_folder, take_set};
+    ghost use Rattle.notation.specs.Code.Readings.{ahead, Takes, Moves, At, Ran};
+
+    // The word stands next.
+    fn begins(&self, word: &[u8]) -> bool
+        ensures { result ≡ starts_with word.now (ahead self.now) }
+    {
+        self.text[self.tally.at..].starts_with(word)
+    }
+
+    fn word(&mut self, word: &[u8]) -> Option<()>
+        ensures { Takes (read_word word.now) (λ _. moved (length word.now)) self.old result self.new }
+    {
+        if !self.begins(word) {
+            return None;
         }
-        match take_step(text, part, u) {
-            Taken::No => return Taken::No,
-            Taken::To(v) => u = v,
+        self.tally = self.tally.moved(word.len());
+        Some(())
+    }
+
+    // As many items as there are, where each begins with this word.
+    fn all<F: Fn(&mut Reading<'a>) -> Option<()>>(&mut self, word: &[u8], item: F) -> Option<()>
+        requires callable { F.IsAlwaysCallable item }
+        requires moves { (p : _) (x : _) (q : _) → F.post item p x q → Moves p.now x q.now }
+        ensures { Ran word.now (At (F.post item)) self.old result self.new }
+    {
+        while self.begins(word) {
+            item(self)?;
         }
+        Some(())
     }
-}
 
-// The end of a path that began with `t`.
-fn end_path(text: &[u8], part: &mut [u8], t: Tally, u: Tally) -> Taken
-    requires { (Small text.now u) × (t.at ≤ 65536) }
-    ensures { (p : Path) → PathRead t p u → Took (end_path t) (when (non_empty p) (then_read (read_word (41 ∷ []) (drop u.at text.now)) (λ w l. got p l))) (state u part.old) result part.new }
-{
-    if u.steps == t.steps {
-        return Taken::No;
+    fn step(&mut self) -> Option<()>
+        ensures { Takes read_step take_step self.old result self.new }
+    {
+        let t = self.tally;
+        let found = step_at(self.text, t.at)?;
+        put_found(self.part, t, found);
+        self.tally = t.with_step(found);
+        Some(())
     }
-    if !word_at(text, u.at, b")") {
-        return Taken::No;
-    }
-    Taken::To(with_path(part, t, u))
-}
 
-// A path, after a space and in its brackets.
-fn take_path(text: &[u8], part: &mut [u8], t: Tally) -> Taken
-    requires { Small text.now t }
-    ensures { Took take_path (read_path (drop t.at text.now)) (state t part.old) result part.new }
-{
-    if !word_at(text, t.at, b" (") {
-        return Taken::No;
-    }
-    match take_steps(text, part, path_begun(t)) {
-        Taken::No => Taken::No,
-        Taken::To(u) => end_path(text, part, t, u),
-    }
-}
-
-fn take_paths(text: &[u8], part: &mut [u8], t: Tally) -> Taken
-    requires { Small text.now t }
-    ensures { Took (take_all take_path) (read_paths (drop t.at text.now)) (state t part.old) result part.new }
-{
-    let mut u = t;
-    loop {
-        if !word_at(text, u.at, b" ") {
-            return Taken::To(u);
+    // A path, after a space and in its brackets.
+    fn path(&mut self) -> Option<()>
+        ensures { Takes read_path take_path self.old result self.new }
+    {
+        self.word(b" (")?;
+        let begun = self.tally;
+        self.tally = begun.path_first();
+        self.all(b"/", Reading::step)?;
+        let ended = self.tally;
+        if ended.steps == begun.steps {
+            return None;
         }
-        match take_path(text, part, u) {
-            Taken::No => return Taken::No,
-            Taken::To(v) => u = v,
+        let path = StoredPath {
+            first: begun.steps,
+            steps: ended.steps - begun.steps,
+            at: begun.at,
+            size: ended.at - begun.at,
+        };
+        put_path(self.part, ended.paths, path);
+        self.word(b")")?;
+        self.tally = self.tally.with_path();
+        Some(())
+    }
+
+    // The paths of a line, and its end.
+    fn line(&mut self) -> Option<()>
+        ensures { Takes read_line take_line self.old result self.new }
+    {
+        let before = self.tally.paths;
+        self.all(b" ", Reading::path)?;
+        if self.tally.paths == before {
+            return None;
         }
+        self.word(b")\n")
+    }
+
+    fn number(&mut self) -> Option<()>
+        ensures { Takes (read_number max_number) number_taken self.old result self.new }
+    {
+        let t = self.tally;
+        let found = number_at(self.text, t.at, MAX_NUMBER)?;
+        put_folder(self.part, t.folders, found.value, t.paths);
+        self.tally = t.with_number(found.value, found.end);
+        Some(())
+    }
+
+    // A folder's line.
+    fn folder(&mut self) -> Option<()>
+        ensures { Takes read_folder take_folder self.old result self.new }
+    {
+        self.word(b"(folder ")?;
+        self.number()?;
+        self.line()
+    }
+
+    // The whole text.
+    fn set(&mut self) -> Option<()>
+        ensures { Takes read_set take_set self.old result self.new }
+    {
+        self.word(b"(folders\n")?;
+        self.all(b"(", Reading::folder)?;
+        self.word(b")\n")?;
+        (self.tally.at == self.text.len()).then_some(())
     }
 }
 
-// The bracket and the line's end.
-fn end_line(text: &[u8], t: Tally) -> Taken
+// The whole text, from its first byte on; what it comes to is counted.
+pub fn take_set(text: &[u8], part: &mut [u8]) -> Option<Tally>
     requires { length text.now ≤ 65536 }
-    ensures { result ≡ line_ended text.now t }
+    ensures { TookSet text.now part.old result part.new }
 {
-    if word_at(text, t.at, b")\n") {
-        Taken::To(moved(t, 2))
-    } else {
-        Taken::No
-    }
-}
-
-// The paths of a line that begin with `t`, and its end.
-fn take_line(text: &[u8], part: &mut [u8], t: Tally) -> Taken
-    requires { Small text.now t }
-    ensures { Took take_line (read_line (drop t.at text.now)) (state t part.old) result part.new }
-{
-    match take_paths(text, part, t) {
-        Taken::No => Taken::No,
-        Taken::To(u) => {
-            if u.paths == t.paths {
-                Taken::No
-            } else {
-                end_line(text, u)
-            }
-        }
-    }
-}
-
-// A folder's line.
-fn take_folder(text: &[u8], part: &mut [u8], t: Tally) -> Taken
-    requires { Small text.now t }
-    ensures { Took take_folder (read_folder (drop t.at text.now)) (state t part.old) result part.new }
-{
-    if !word_at(text, t.at, b"(folder ") {
-        return Taken::No;
-    }
-    let n = number_at(text, t.at + 8, MAX_NUMBER);
-    if n.end == 0 {
-        return Taken::No;
-    }
-    let u = with_number(part, t, n.value, n.end);
-    take_line(text, part, u)
-}
-
-fn take_folders(text: &[u8], part: &mut [u8], t: Tally) -> Taken
-    requires { Small text.now t }
-    ensures { Took (take_all take_folder) (read_folders (drop t.at text.now)) (state t part.old) result part.new }
-{
-    let mut u = t;
-    loop {
-        if !word_at(text, u.at, b"(") {
-            return Taken::To(u);
-        }
-        match take_folder(text, part, u) {
-            Taken::No => return Taken::No,
-            Taken::To(v) => u = v,
-        }
-    }
-}
-
-// The last line, which ends the text.
-fn end_text(text: &[u8], t: Tally) -> Taken
-    requires { Small text.now t }
-    ensures { result ≡ cond (eqb (length text.now) (t.at + 2)) (line_ended text.now t) Taken.No }
-{
-    if text.len() == t.at + 2 {
-        end_line(text, t)
-    } else {
-        Taken::No
-    }
-}
-
-// The whole text.
-pub fn take_set(text: &[u8], part: &mut [u8]) -> Taken
-    requires { length text.now ≤ 65536 }
-    ensures { Took take_set (read_set text.now) (state nothing part.old) result part.new }
-{
-    if !word_at(text, 0, b"(folders\n") {
-        return Taken::No;
-    }
-    match take_folders(text, part, moved(begin(), 9)) {
-        Taken::No => Taken::No,
-        Taken::To(u) => end_text(text, u),
-    }
+    let mut reading = Reading {
+        text,
+        part,
+        tally: Tally::default(),
+    };
+    reading.set()?;
+    Some(reading.tally)
 }

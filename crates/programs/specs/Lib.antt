@@ -1,3 +1,2 @@
 -- What the programs' contracts cite.
-pub mod Within
 pub mod Shows

@@ -1,16 +1,12 @@
--- What a program prints, whatever it shows of a filed report.
-use Rattle.std.specs.Prelude.{ℕ, ◌≡◌, List, take}
-use Rattle.io.specs.Counts.{IsPrefixLen}
+-- What a program prints.
+use Rattle.std.specs.Prelude.{ℕ, ◌≡◌, List}
 use Rattle.text.specs.declared.written.Written.{Written}
-use Rattle.notation.specs.Sets.{FolderSet}
-use Rattle.filing.specs.Shown.{ShownText}
 
 abbrev pub size_of : Written → ℕ
 size_of (Written.Bytes n) = n
 size_of (Written.Refused n) = 0
 
--- a buffer begins with what is shown of a set and a report, by their bytes, up to the length that was answered
-pub record Shows (For : FolderSet → List ℕ → List ℕ → Type 0) (set report : List ℕ) (answer : ℕ) (after : List ℕ) : Type 0 where
-  pub counts : IsPrefixLen answer after
-  -- the line of the set's refusal, or of the report's, or what is shown of the filed report
-  pub shown : (bytes : List ℕ) → ShownText For set report bytes → take answer after ≡ bytes
+-- a page is the text of a set and a report, by their bytes: the line of the set's refusal, or of the report's, or what is shown of the filed
+-- report
+abbrev pub Shows : (List ℕ → List ℕ → List ℕ → Type 0) → List ℕ → List ℕ → List ℕ → Type 0
+Shows Text set report page = (bytes : List ℕ) → Text set report bytes → page ≡ bytes

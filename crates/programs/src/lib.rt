@@ -1,4 +1,4 @@
-// What the programs share: their two files are read into buffers, and what was made of them is printed.
+// What the programs share: their two files are read, and what was made of them is printed.
 #![tactic(auto)]
 
 pub mod files;

@@ -1,21 +1,33 @@
 // What a program prints.
-ghost use Rattle.std.specs.Prelude.{◌≡◌};
+ghost use Rattle.std.specs.Prelude.{◌≡◌, take};
 ghost use Rattle.programs.specs.Shows.{size_of};
 
+use crate::files::read_both;
+use std::alloc::{AllocError, Global};
 use std::io;
+use std::rt::Files;
 use text::written::Written;
 
-// In buffers of their sizes nothing is refused.
-pub fn size_of(answer: Written) -> usize
-    ensures { result ≡ size_of answer }
+// What was written at the start of a buffer. In buffers of their sizes nothing is refused.
+pub fn written(answer: Written, buffer: &[u8]) -> &[u8]
+    ensures { result.now ≡ take (size_of answer) buffer.now }
 {
     match answer {
-        Written::Bytes(n) => n,
-        Written::Refused(_) => 0,
+        Written::Bytes(n) => &buffer[..n.min(buffer.len())],
+        Written::Refused(_) => &buffer[..0],
     }
 }
 
-// Writes to standard output.
-pub fn print(rt: &impl Print, text: &[u8]) -> io::Result<()> {
-    rt.write_all(text)
+// Reads the two files, and prints the page that is made of them. Where one cannot be read nothing is printed.
+pub fn print_page<F: FnOnce(Global, &[u8], &[u8]) -> Result<Vec<u8>, AllocError>>(
+    rt: &(impl Files + Eprint + Print + AllocGlobal),
+    make: F,
+) -> io::Result<()>
+    requires { F.IsAlwaysCallable make }
+{
+    let Some(inputs) = read_both(rt) else {
+        return Ok(());
+    };
+    let page = make(rt.alloc(), inputs.set.as_slice(), inputs.report.as_slice())?;
+    rt.write_all(page.as_slice())
 }

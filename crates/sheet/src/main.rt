@@ -2,31 +2,30 @@
 // file that is there and cannot be read it tells on standard error, and prints nothing. A failed write ends it with an error.
 #![tactic(auto)]
 
-mod output;
+ghost use Rattle.std.specs.Prelude.{IfOk};
+ghost use Rattle.filing.specs.Shown.{ShownText};
+ghost use Rattle.sheets.specs.SheetOf.{SheetFor};
+ghost use Rattle.programs.specs.Shows.{Shows};
 
 use machine::layout::AUTOMATON_SIZE;
 use machine::run::layout::RUN_SIZE;
-use notation::limits::MAX_SET_BYTES;
-use programs::files::{Inputs, read_both};
-use programs::output::print;
-use reports::limits::MAX_REPORT;
+use programs::output::{print_page, written};
 use sheets::limits::SHEET_SIZE;
+use sheets::printing::print_sheet;
+use std::alloc::{AllocError, Global};
 use std::io;
 
-fn print_shown(rt: &impl Print, set: &[u8], report: &[u8]) -> io::Result<()> {
-    let mut a = [0u8; AUTOMATON_SIZE];
-    let mut run = [0u8; RUN_SIZE];
-    let mut out = [0u8; SHEET_SIZE];
-    let n = output::shown(set, report, &mut a, &mut run, &mut out);
-    print(rt, &out[..n])
+// The class sheet of a set and a report, or the line of a refusal.
+fn shown(alloc: Global, set: &[u8], report: &[u8]) -> Result<Vec<u8>, AllocError>
+    ensures { IfOk result (λ page. Shows (ShownText SheetFor) set.now report.now page.items) }
+{
+    let mut automaton = [0; AUTOMATON_SIZE];
+    let mut run = [0; RUN_SIZE];
+    let mut out = [0; SHEET_SIZE];
+    let answer = print_sheet(set, report, &mut automaton, &mut run, &mut out);
+    Vec::from_slice(alloc, written(answer, &out))
 }
 
-// One byte more than each limit is read, so that a longer file is refused and never cut.
 fn main(rt: HostRuntime) -> io::Result<()> {
-    let mut set = [0u8; MAX_SET_BYTES + 1];
-    let mut report = [0u8; MAX_REPORT + 1];
-    match read_both(&rt, &mut set, &mut report) {
-        Inputs::Read { set: m, report: n } => print_shown(&rt, &set[..m], &report[..n]),
-        Inputs::Failed => Ok(()),
-    }
+    print_page(&rt, shown)
 }

@@ -1,14 +1,14 @@
--- The class sheet (paper 02, A.2) as one statement. Of each call the contract alone is used.
-use Rattle.std.specs.Prelude.{ℕ, suc, ◌-◌, ◌*◌, ◌≤◌, ◌<◌, ◌≡◌, true, false, ◌↔◌, List, ◌∷◌, ◌++◌, map, length, get_or, take, drop, replicate}
+-- The class sheet as one statement. Of each call the contract alone is used.
+use Rattle.std.specs.Prelude.{Result}
+use Rattle.text.specs.declared.refusals.Refusal.{Refusal}
+use Rattle.std.specs.Prelude.{ℕ, suc, ◌-◌, ◌*◌, ◌≤◌, ◌<◌, ◌≡◌, true, false, ◌↔◌, List, ◌∷◌, ◌++◌, map, length, get_or, take, drop, replicate, Some}
 use mathlib.Core.List.{Memᴰ}
 use Rattle.text.specs.Bytes.{joined}
-use Rattle.text.specs.declared.written.Written.{Written}
 use Rattle.notation.specs.Limits.{max_paths}
 use Rattle.notation.specs.Sets.{Path, Folder, FolderSet, folder_number}
 use Rattle.notation.specs.Form.{paths_of}
 use Rattle.notation.specs.Accepted.{Accepted}
 use Rattle.notation.specs.declared.PathPlace.{PathPlace}
-use Rattle.notation.specs.declared.reads.FolderAt.{FolderAt}
 use Rattle.model.specs.Folders.{count_from, HasFolders}
 use Rattle.stored.specs.Build.{Built}
 use Rattle.stored.specs.Run.{run_size}
@@ -20,8 +20,7 @@ use Rattle.documents.specs.Document.{document_in}
 use Rattle.filing.specs.Demand1.{WrittenBy}
 use Rattle.filing.specs.Demand2.{SelectsElement}
 use Rattle.filing.specs.ReportRefusals.{Files}
-use Rattle.filing.specs.Shown.{ShownText, PrintsText}
-use Rattle.filing.specs.ShownShort.{RefusesShort}
+use Rattle.filing.specs.Shown.{ShownText, PrintsText, RefusesShort}
 use Rattle.sheets.specs.Limits.{line_width, body_lines, page_size, sheet_size}
 use Rattle.sheets.specs.Sheet.{Row, spaces, head_line, body_line, ended, Pages, sheet}
 use Rattle.sheets.specs.Lines.{InLines, PlainLines}
@@ -33,7 +32,7 @@ use Rattle.sheets.specs.Printer.{PrintsSheet}
 pub record BeginsBy (a : List ℕ) (place i number : ℕ) : Type 0 where
   pub first : PathPlace
   pub count : ℕ
-  pub held : folder_held a i ≡ FolderAt.Folder (record { 0 = number }) first count
+  pub held : folder_held a i ≡ Some (record { number = record { 0 = number }; first = first; paths = count })
   pub before : first.0 ≤ place
 
 -- a place has the number of the last such folder, and 0 where there is none
@@ -77,9 +76,9 @@ pub record ClassSheet : Type 0 where
   -- a line's bytes, a page's and a sheet's
   pub measures : (line_width ≡ 72) × ((page_size ≡ 2993) × (sheet_size ≡ 11972))
   -- 1 and 14 each exactly where it is the first that holds, a length exactly where none does; a refusal changes nothing
-  pub writes : (a run before : List ℕ) (answer : Written) (after : List ℕ) → SheetWritten a run before answer after
+  pub writes : (a run before : List ℕ) (answer : Result ℕ Refusal) (after : List ℕ) → SheetWritten a run before answer after
       → WrittenBy (sheet_conditions a run before) before answer after
-  pub prints : (text report a run out : List ℕ) (answer : Written) (a' run' out' : List ℕ) → PrintsSheet text report a run out answer a' run' out'
+  pub prints : (text report a run out : List ℕ) (answer : Result ℕ Refusal) (a' run' out' : List ℕ) → PrintsSheet text report a run out answer a' run' out'
       → RefusesShort sheet_size a run out answer a' run' out'
   pub rows : (l : List Row) → OfRows l
   pub stored : (a run : List ℕ) → OfStored a run
@@ -87,7 +86,7 @@ pub record ClassSheet : Type 0 where
   -- of a report filed with the automaton that a build left, in a sheet buffer of its size or more: the sheet of the report's document
   pub filed : (text before a : List ℕ) (s : FolderSet) → Accepted text s → Built text before 0 a
       → (report run : List ℕ) → run_size ≤ length run → (c : Counters) (run' : List ℕ) (c' : Counters) → Files a run c report 0 run' c'
-      → (out : List ℕ) → sheet_size ≤ length out → (answer : Written) (out' : List ℕ) → SheetWritten a run' out answer out'
+      → (out : List ℕ) → sheet_size ≤ length out → (answer : Result ℕ Refusal) (out' : List ℕ) → SheetWritten a run' out answer out'
       → (bytes : List ℕ) × SheetFor s report bytes × PrintsText sheet_size bytes out answer out'
   -- which is one only; and of every text and report one text is printed
   pub once : (s : FolderSet) (report x y : List ℕ) → SheetFor s report x → SheetFor s report y → x ≡ y

@@ -1,5 +1,7 @@
--- The measures of a class sheet (paper 02, A.2), once. A proof that needs the number says `unfolding` of its name.
-use Rattle.std.specs.Prelude.{ℕ, suc, ◌+◌, ◌*◌}
+-- The measures of a class sheet, once. A proof that needs the number says `unfolding` of its name.
+use Rattle.std.specs.Prelude.{ℕ, suc, ◌+◌, ◌*◌, ◌≤◌}
+use Rattle.std.proofs.Common.{arith}
+use Rattle.filing.specs.Limits.{max_refused_line}
 
 -- places of a folder's or a page's number
 unfoldable pub number_width : ℕ
@@ -31,3 +33,8 @@ max_pages = 4
 unfoldable pub sheet_size : ℕ
 unfolding max_pages page_size body_lines line_width number_width path_width
 sheet_size = max_pages * page_size
+
+-- the line of a refusal has room there
+pub line-within : max_refused_line ≤ sheet_size
+unfolding sheet_size max_pages page_size body_lines line_width number_width path_width
+line-within = omega arith

@@ -1,4 +1,4 @@
--- Bytes that are lines of 72 bytes, each ended by byte 10 (paper 02, A.2).
+-- Bytes that are lines of 72 bytes, each ended by byte 10.
 use Rattle.std.specs.Prelude.{ℕ, ◌≡◌, List, map, length}
 use mathlib.Core.List.{Memᴰ}
 use Rattle.text.specs.Bytes.{joined}

@@ -1,4 +1,4 @@
--- The class sheet (paper 02, A.2), by printing: pages of a head line and 40 body lines, one matched path on each body line, blank ones where
+-- The class sheet, by printing: pages of a head line and 40 body lines, one matched path on each body line, blank ones where
 -- there are no more.
 use Rattle.std.specs.Prelude.{ℕ, zero, suc, ◌+◌, ◌-◌, ◌*◌, ◌/◌, ◌≤◌, max, cond, List, [], ◌∷◌, ◌++◌, map, leb, length, get_or, take, replicate}
 use Rattle.text.specs.Bytes.{joined}

@@ -1,13 +1,14 @@
 -- The class sheet of any automaton and run, by what is stored, and what the call that writes it promises. Rows go by path place: each matched
 -- place once, with the number of the last folder whose first path is not after it.
-use Rattle.std.specs.Prelude.{ℕ, zero, suc, not, ◌&&◌, ◌||◌, cond, List, [], ◌∷◌, map, leb, ltb, length}
+use Rattle.std.specs.Prelude.{Result}
+use Rattle.text.specs.declared.refusals.Refusal.{Refusal}
+use Rattle.std.specs.Prelude.{ℕ, zero, suc, not, ◌&&◌, ◌||◌, cond, List, [], ◌∷◌, map, leb, ltb, length, Option, Some, None}
 use Rattle.text.specs.Bytes.{joined}
-use Rattle.text.specs.Refusals.{short_buffer, bad_shape}
+use Rattle.text.specs.declared.refusals.Refusal.TheVariants.{ShortBuffer, BadShape}
 use Rattle.text.specs.Order.{Condition, gives}
 use Rattle.text.specs.Written.{TextWritten}
-use Rattle.text.specs.declared.written.Written.{Written}
 use Rattle.notation.specs.Limits.{max_paths}
-use Rattle.notation.specs.declared.reads.FolderAt.{FolderAt}
+use Rattle.notation.specs.declared.reads.StoredFolder.{StoredFolder}
 use Rattle.model.specs.Folders.{count_from}
 use Rattle.stored.specs.Shape.{automaton_shaped}
 use Rattle.stored.specs.RunCalls.{run_shaped, too_short}
@@ -29,9 +30,9 @@ abbrev pub matched_places : List ℕ → List ℕ → List ℕ
 matched_places a run = matched_from a run 0 max_paths
 
 -- a folder's number if its first path is not after the place
-abbrev pub or_before : FolderAt → ℕ → ℕ → ℕ
-or_before (FolderAt.Folder number first count) place before = cond (leb first.0 place) number.0 before
-or_before FolderAt.Missing place before = before
+abbrev pub or_before : Option StoredFolder → ℕ → ℕ → ℕ
+or_before (Some f) place before = cond (leb f.first.0 place) f.number.0 before
+or_before None place before = before
 
 -- that of the last such among the first n folders, 0 where there is none
 unfoldable pub number_among : List ℕ → ℕ → ℕ → ℕ
@@ -50,8 +51,8 @@ sheet_in a run = sheet (rows_in a run)
 -- 1 (automaton, run or sheet), 14 (automaton and run)
 abbrev pub sheet_conditions : List ℕ → List ℕ → List ℕ → List Condition
 sheet_conditions a run out =
-    gives (too_short a run || ltb (length out) sheet_size) short_buffer ∷ gives (not (automaton_shaped a && run_shaped a run)) bad_shape ∷ []
+    gives (too_short a run || ltb (length out) sheet_size) ShortBuffer ∷ gives (not (automaton_shaped a && run_shaped a run)) BadShape ∷ []
 
 -- the sheet is written and its length answered, and bytes past it stay; or it is refused, and nothing is changed
-abbrev pub SheetWritten : List ℕ → List ℕ → List ℕ → Written → List ℕ → Type 0
+abbrev pub SheetWritten : List ℕ → List ℕ → List ℕ → Result ℕ Refusal → List ℕ → Type 0
 SheetWritten a run before answer after = TextWritten (sheet_conditions a run before) (sheet_in a run) before answer after

@@ -1,4 +1,4 @@
--- The class sheet of a filed report, by printing and XPath 1.0 alone (paper 02, A.2): no run, no matches.
+-- The class sheet of a filed report, by printing and XPath 1.0 alone: no run, no matches.
 use Rattle.std.specs.Prelude.{ℕ, ◌≡◌, cond, List, [], ◌∷◌, ◌++◌, map, eqb}
 use Rattle.notation.specs.Sets.{Path, folder, FolderSet}
 use Rattle.notation.specs.Print.{print_path}

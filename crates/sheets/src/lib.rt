@@ -1,4 +1,4 @@
-// The class sheet (paper 02, A.2): the matched paths of a run on pages to pin up.
+// The class sheet: the matched paths of a run on pages to pin up.
 #![tactic(auto)]
 
 pub mod limits;

@@ -1,20 +1,22 @@
 // The lines of a sheet, each put together piece by piece.
+#![tactic(auto, unfolding(crate::specs::Limits::number_width, crate::specs::Limits::path_width, crate::specs::Limits::line_width))]
+
 ghost use Rattle.std.specs.Prelude.{◌≡◌, ◌+◌, ◌≤◌, length};
 ghost use Rattle.text.specs.Decimal.{decimal};
-ghost use Rattle.text.specs.Output.{Puts, Adds};
+ghost use Rattle.text.specs.Output.{Adds};
 ghost use Rattle.notation.specs.Limits.{max_number};
 ghost use Rattle.sheets.specs.Limits.{number_width, path_width, line_width};
 ghost use Rattle.sheets.specs.Sheet.{row, spaces, right_aligned, left_aligned, head_line, number_shown, path_shown, body_line, ended};
 
 use crate::limits::{LINE_WIDTH, PATH_CUT, PATH_WIDTH};
-use text::output::{Cursor, emit, emit_number};
+use text::output::{Sink, put_number};
 
-fn emit_spaces(out: &mut [u8], cursor: Cursor, n: usize) -> Cursor
+fn put_spaces<S: Sink>(n: usize, to: &mut S)
     requires { n ≤ line_width }
-    ensures { Puts out.old cursor (spaces n) out.new result }
+    ensures { to.new ≡ S.puts to.old (spaces n) }
 {
-    let blank = [32u8; LINE_WIDTH];
-    emit(out, cursor, &blank[..n])
+    let blank = [b' '; LINE_WIDTH];
+    to.put(&blank[..n]);
 }
 
 // The spaces before a number in four places.
@@ -22,77 +24,75 @@ fn indent(n: usize) -> usize
     requires { n ≤ max_number }
     ensures { result + length (decimal n) ≡ number_width }
 {
-    if n < 10 {
-        return 3;
+    match n {
+        0..=9 => 3,
+        10..=99 => 2,
+        100..=999 => 1,
+        _ => 0,
     }
-    if n < 100 {
-        return 2;
-    }
-    if n < 1000 {
-        return 1;
-    }
-    0
 }
 
 // A number right-aligned in four places.
-fn emit_right(out: &mut [u8], cursor: Cursor, n: usize) -> Cursor
+fn put_right<S: Sink>(n: usize, to: &mut S)
     requires { n ≤ max_number }
-    ensures { Adds out.old cursor (right_aligned number_width (decimal n)) out.new result }
+    ensures { Adds S.puts to.old (right_aligned number_width (decimal n)) to.new }
 {
-    let before = emit_spaces(out, cursor, indent(n));
-    emit_number(out, before, n)
+    put_spaces(indent(n), to);
+    put_number(to, n);
 }
 
 // A folder's number, four spaces for 0.
-fn emit_folder(out: &mut [u8], cursor: Cursor, number: usize) -> Cursor
+fn put_folder<S: Sink>(number: usize, to: &mut S)
     requires { number ≤ max_number }
-    ensures { Adds out.old cursor (right_aligned number_width (number_shown number)) out.new result }
+    ensures { Adds S.puts to.old (right_aligned number_width (number_shown number)) to.new }
 {
     if number == 0 {
-        return emit_spaces(out, cursor, 4);
+        put_spaces(4, to);
+    } else {
+        put_right(number, to);
     }
-    emit_right(out, cursor, number)
 }
 
 // A path left-aligned, one that is too long cut.
-fn emit_path(out: &mut [u8], cursor: Cursor, path: &[u8]) -> Cursor
-    ensures { Adds out.old cursor (left_aligned path_width (path_shown path.now)) out.new result }
+fn put_path<S: Sink>(path: &[u8], to: &mut S)
+    ensures { Adds S.puts to.old (left_aligned path_width (path_shown path.now)) to.new }
 {
     let size = path.len();
     if size <= PATH_WIDTH {
-        let shown = emit(out, cursor, path);
-        return emit_spaces(out, shown, PATH_WIDTH - size);
+        to.put(path);
+        put_spaces(PATH_WIDTH - size, to);
+    } else {
+        to.put(&path[..PATH_CUT]);
+        to.put(b"~");
     }
-    let cut = emit(out, cursor, &path[..PATH_CUT]);
-    emit(out, cut, b"~")
 }
 
 // The line of a row.
-pub fn emit_row(out: &mut [u8], cursor: Cursor, number: usize, path: &[u8]) -> Cursor
+pub fn put_row<S: Sink>(number: usize, path: &[u8], to: &mut S)
     requires { number ≤ max_number }
-    ensures { Adds out.old cursor (ended (body_line (row number path.now))) out.new result }
+    ensures { Adds S.puts to.old (ended (body_line (row number path.now))) to.new }
 {
-    let folder = emit_folder(out, cursor, number);
-    let gap = emit(out, folder, b"  ");
-    let shown = emit_path(out, gap, path);
-    emit(out, shown, b"\n")
+    put_folder(number, to);
+    to.put(b"  ");
+    put_path(path, to);
+    to.put(b"\n");
 }
 
 // A body line without a row.
-pub fn emit_blank(out: &mut [u8], cursor: Cursor) -> Cursor
-    ensures { Adds out.old cursor (ended (spaces line_width)) out.new result }
+pub fn put_blank<S: Sink>(to: &mut S)
+    ensures { Adds S.puts to.old (ended (spaces line_width)) to.new }
 {
-    let blank = emit_spaces(out, cursor, LINE_WIDTH);
-    emit(out, blank, b"\n")
+    put_spaces(LINE_WIDTH, to);
+    to.put(b"\n");
 }
 
 // The head line of a page, which has this number.
-pub fn emit_head(out: &mut [u8], cursor: Cursor, number: usize) -> Cursor
+pub fn put_head<S: Sink>(number: usize, to: &mut S)
     requires { number ≤ max_number }
-    ensures { Adds out.old cursor (ended (head_line number)) out.new result }
+    ensures { Adds S.puts to.old (ended (head_line number)) to.new }
 {
-    let word = emit(out, cursor, b"FILED");
-    let gap = emit_spaces(out, word, 63);
-    let page = emit_right(out, gap, number);
-    emit(out, page, b"\n")
+    to.put(b"FILED");
+    put_spaces(63, to);
+    put_right(number, to);
+    to.put(b"\n");
 }

@@ -1,26 +1,31 @@
 // The job of the program that prints the class sheet: a set is built, a report filed with it, and the sheet written.
-ghost use Rattle.std.specs.Prelude.{◌≤◌, length};
-ghost use Rattle.sheets.specs.Limits.{sheet_size};
 ghost use Rattle.sheets.specs.Printer.{PrintsSheet};
-ghost use Rattle.sheets.specs.Code.Printing.{OutcomeShown};
 
 use crate::limits::SHEET_SIZE;
 use crate::sheet::write_sheet;
-use filing::listing::compose_refused;
-use filing::shown::{file_text, too_small};
-use text::refusals::SHORT_BUFFER;
-use text::written::Written;
+use filing::shown::{Show, print_shown};
+use stored::counters::Counters;
+use text::refusals::Refusal;
 
-// The sheet of what filing left, or the line of its refusal.
-fn show_filed(a: &[u8], run: &[u8], refused: u8, out: &mut [u8]) -> Written
-    requires { sheet_size ≤ length out.old }
-    ensures { OutcomeShown refused a.now run.now out.old result out.new }
-{
-    if refused != 0 {
-        let cursor = compose_refused(refused, out);
-        return Written::Bytes(cursor.at);
+// The sheet is shown.
+pub struct Sheet;
+
+#[tactic(auto, unfolding(crate::specs::Limits::sheet_size, crate::specs::Limits::max_pages, crate::specs::Limits::page_size, crate::specs::Limits::body_lines, crate::specs::Limits::line_width, crate::specs::Limits::number_width, crate::specs::Limits::path_width))]
+impl Show for Sheet {
+    ghost use Rattle.sheets.specs.Limits.{sheet_size, line-within};
+    ghost use Rattle.sheets.specs.SheetIn.{SheetWritten};
+
+    const SIZE: usize = SHEET_SIZE;
+
+    ghost SIZE = { sheet_size };
+
+    ghost shows = { λ a run _ before answer after. SheetWritten a run before answer after };
+
+    fn show(a: &[u8], run: &[u8], _c: Counters, out: &mut [u8]) -> Result<usize, Refusal> {
+        write_sheet(a, run, out)
     }
-    write_sheet(a, run, out)
+
+    ghost line = { line-within };
 }
 
 // Writes the class sheet of a set's text and a report, or the line of a refusal, to the first bytes of `out` and answers its length, or 1
@@ -31,12 +36,8 @@ pub fn print_sheet(
     automaton: &mut [u8],
     run: &mut [u8],
     out: &mut [u8],
-) -> Written
+) -> Result<usize, Refusal>
     ensures { PrintsSheet text.now report.now automaton.old run.old out.old result automaton.new run.new out.new }
 {
-    if too_small(automaton, run, out, SHEET_SIZE) {
-        return Written::Refused(SHORT_BUFFER);
-    }
-    let done = file_text(text, report, automaton, run);
-    show_filed(automaton, run, done.refusal, out)
+    print_shown::<Sheet>(text, report, automaton, run, out)
 }

@@ -1,77 +1,40 @@
 // The rows of a sheet: the matched places in order, and the number of each place's folder.
-ghost use Rattle.std.specs.Prelude.{◌≡◌, ◌<◌, length};
+ghost use Rattle.std.specs.Prelude.{◌≡◌, length};
 ghost use Rattle.notation.specs.Limits.{max_paths};
-ghost use Rattle.stored.specs.HeldSet.{folders_held, folder_held};
-ghost use Rattle.sheets.specs.Code.Rows.{Filled, Entered, Numbered, Collected};
+ghost use Rattle.stored.specs.HeldSet.{folders_held};
+ghost use Rattle.sheets.specs.SheetIn.{matched_places};
+ghost use Rattle.sheets.specs.Code.Rows.{Numbered};
 
 use machine::run::matches;
 use machine::set;
 use notation::PathPlace;
 use notation::limits::MAX_PATHS;
-use notation::reads::FolderAt;
 
-// Puts the places of the matched paths into a table, in order, and answers how many there are.
-pub fn collect(a: &[u8], run: &[u8], at: &mut [u8]) -> usize
-    requires { length at.old ≡ max_paths }
-    ensures { Collected a.now run.now at.new result }
+// The places of the matched paths, in order, in the front of a table.
+pub fn matched_places<'t>(a: &[u8], run: &[u8], table: &'t mut [u8; MAX_PATHS]) -> &'t [u8]
+    ensures { result.now ≡ matched_places a.now run.now }
 {
     let mut count = 0;
-    let mut place = 0;
-    while place < MAX_PATHS {
+    for place in 0..MAX_PATHS {
         if matches::place_matched(a, run, PathPlace(place)) {
-            at[count] = place as u8;
+            table[count] = place as u8;
             count += 1;
         }
-        place += 1;
     }
-    count
+    &table[..count]
 }
 
-// A number for every place from `from` on.
-fn fill(numbers: &mut [u16], from: usize, number: u16)
-    requires { length numbers.old ≡ max_paths }
-    ensures { Filled numbers.old from number numbers.new }
+// The number of each place's folder. A folder's number stands from its first path on, until a later folder takes its place, so that no folder
+// is searched for each row; a fill is a few wide stores.
+pub fn folder_numbers(a: &[u8]) -> [u16; MAX_PATHS]
+    ensures { Numbered a.now (folders_held a.now) result }
 {
-    let mut i = from;
-    while i < MAX_PATHS {
-        numbers[i] = number;
-        i += 1;
+    let mut numbers = [0; MAX_PATHS];
+    for i in 0..set::folders(a) {
+        if let Some(folder) = set::folder_at(a, i) {
+            let from = folder.first.0.min(MAX_PATHS);
+            numbers[from..].fill(folder.number.0 as u16);
+        }
     }
-}
-
-fn narrow(number: usize) -> u16
-    requires { number < 65536 }
-    ensures { result ≡ number }
-{
-    number as u16
-}
-
-// One folder more.
-fn enter(a: &[u8], i: usize, numbers: &mut [u16])
-    requires { length numbers.old ≡ max_paths }
-    ensures { Entered (folder_held a.now i) numbers.old numbers.new }
-{
-    match set::folder_at(a, i) {
-        FolderAt::Folder {
-            number,
-            first,
-            paths: _,
-        } => fill(numbers, first.0, narrow(number.0)),
-        FolderAt::Missing => {}
-    }
-}
-
-// Makes the table of the number of each place's folder. A folder's number stands from its first path on, until a later folder takes its
-// place, so that no folder is searched for each row; a fill is a few wide stores.
-pub fn number_places(a: &[u8], numbers: &mut [u16])
-    requires { length numbers.old ≡ max_paths }
-    ensures { Numbered a.now (folders_held a.now) numbers.new }
-{
-    fill(numbers, 0, 0);
-    let top = set::folders(a);
-    let mut i = 0;
-    while i < top {
-        enter(a, i, numbers);
-        i += 1;
-    }
+    numbers
 }

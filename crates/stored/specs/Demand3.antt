@@ -1,15 +1,17 @@
 -- Demand 3 of the letter, as one statement: what holds after any list of open and close calls on a fresh run of any accepted set. The
 -- program's side is the calls' contracts alone; the machine's side is fed the calls alone.
-use Rattle.std.specs.Prelude.{ℕ, ◌+◌, ◌≤◌, ◌<◌, ◌≡◌, Bool, true, false, ◌↔◌, length}
+use Rattle.std.specs.Prelude.{ℕ, ◌+◌, ◌≤◌, ◌<◌, ◌≡◌, Bool, true, false, Result, ◌↔◌, length}
 use Rattle.std.proofs.Math.Option.{none, some}
 use mathlib.Core.List.{List, [], ◌∷◌, ◌++◌, map, Memᴰ}
 use Rattle.text.specs.Names.{Name}
 use Rattle.notation.specs.Sets.{Folder, FolderSet, folder_number}
 use Rattle.notation.specs.Form.{paths_of}
 use Rattle.notation.specs.Accepted.{Accepted}
-use Rattle.text.specs.Answers.{Answer, refused, value, number_said}
+use Rattle.text.specs.Answers.{Answer, refused, value, says, refusal_in}
 use Rattle.notation.specs.Fit.{name_at, Active}
-use Rattle.text.specs.Refusals.{Refusal, not_found, number_of}
+use Rattle.text.specs.declared.refusals.Refusal.{Refusal}
+use Rattle.text.specs.declared.refusals.Refusal.TheVariants.{NotFound}
+use Rattle.text.specs.Refusals.{number_of}
 use Rattle.notation.specs.declared.PathPlace.{PathPlace}
 use Rattle.notation.specs.declared.FolderNumber.{FolderNumber}
 use Rattle.model.specs.Words.{Word}
@@ -20,14 +22,12 @@ use Rattle.model.specs.History.{accepted_calls, opens_in, closes_in, still_open,
 use Rattle.model.specs.Moves.{OpenMoves, MovesCounted}
 use Rattle.model.specs.Elements.{elements_of, childless_depths}
 use Rattle.model.specs.Folders.{places_of}
-use Rattle.stored.specs.Answers.{opened_says}
 use Rattle.stored.specs.Build.{Built}
 use Rattle.stored.specs.Run.{run_size}
 use Rattle.stored.specs.RunCalls.{start_run, no_counters, shaped}
 use Rattle.stored.specs.RunContracts.{Starts, Opens, Closes}
 use Rattle.stored.specs.Asking.{ask_path, ask_folder, ask_step, ask_prefix, name_refusal, ask_name}
 use Rattle.stored.specs.declared.counters.Counters.{Counters}
-use Rattle.stored.specs.declared.answers.Opened.{Opened}
 
 -- run and counters as last left
 pub record Left : Type 0 where
@@ -40,7 +40,7 @@ started a buffer = record { bytes = start_run a buffer; counters = no_counters }
 
 -- a call that was made: what it was lent, its name and its answer
 pub data Made : Type 0 where
-  made_open : Lent → Name → Opened → Made
+  made_open : Lent → Name → Result ℕ Refusal → Made
   made_close : Lent → Name → ℕ → Made
 
 -- what the machine is fed of it
@@ -55,14 +55,14 @@ calls_of made = map call_of made
 -- last. One lent anything else is in the list only if it was refused
 pub data Calls (a : List ℕ) : Left → List Made → Left → Type 0 where
   no_calls : {t : Left} → Calls a t [] t
-  an_open : {t u v : Left} {e : Name} {answer : Opened} {later : List Made}
+  an_open : {t u v : Left} {e : Name} {answer : Result ℕ Refusal} {later : List Made}
       → Opens a t.bytes t.counters e answer u.bytes u.counters
       → Calls a u later v → Calls a t (made_open as_left e answer ∷ later) v
   a_close : {t u v : Left} {e : Name} {answer : ℕ} {later : List Made}
       → Closes a t.bytes t.counters e answer u.bytes u.counters
       → Calls a u later v → Calls a t (made_close as_left e answer ∷ later) v
-  other_open : {b run run' : List ℕ} {c c' : Counters} {t v : Left} {e : Name} {answer : Opened} {later : List Made}
-      → Opens b run c e answer run' c' → (number_said (opened_says answer) ≡ 0 → ⊥)
+  other_open : {b run run' : List ℕ} {c c' : Counters} {t v : Left} {e : Name} {answer : Result ℕ Refusal} {later : List Made}
+      → Opens b run c e answer run' c' → (refusal_in answer ≡ 0 → ⊥)
       → Calls a t later v → Calls a t (made_open otherwise e answer ∷ later) v
   other_close : {b run run' : List ℕ} {c c' : Counters} {t v : Left} {e : Name} {answer : ℕ} {later : List Made}
       → Closes b run c e answer run' c' → (answer ≡ 0 → ⊥)
@@ -77,7 +77,7 @@ pub data OpenAnswered (s : FolderSet) (before : List Call) (e : Name) : Answer �
 pub record Answers (there holds : Type 0) (answer : Answer Bool) : Type 0 where
   pub yes : (answer ≡ value true) ↔ holds
   pub no : (answer ≡ value false) ↔ (there × (holds → ⊥))
-  pub gone : (answer ≡ refused (number_of not_found)) ↔ (there → ⊥)
+  pub gone : (answer ≡ refused (number_of NotFound)) ↔ (there → ⊥)
 
 -- a folder of this number is in the set
 pub record HasFolder (s : FolderSet) (number : ℕ) : Type 0 where
@@ -113,8 +113,8 @@ pub record SameAsked (a one other : List ℕ) : Type 0 where
 pub record Holds (s : FolderSet) (a : List ℕ) (made : List Made) (calls : List Call) (still : List Name) (t : Left) : Type 0 where
   -- a call lent all as last left is refused as the machine refuses it, with the same number, and is else accepted; an accepted open
   -- answers its own failure moves: those of its walk from the current prefix of the names then open
-  pub open_answers : (before later : List Made) (e : Name) (answer : Opened) → before ++ (made_open as_left e answer ∷ later) ≡ made
-      → OpenAnswered s (calls_of before) e (opened_says answer)
+  pub open_answers : (before later : List Made) (e : Name) (answer : Result ℕ Refusal) → before ++ (made_open as_left e answer ∷ later) ≡ made
+      → OpenAnswered s (calls_of before) e (says answer)
   pub close_answers : (before later : List Made) (e : Name) (answer : ℕ) → before ++ (made_close as_left e answer ∷ later) ≡ made
       → answer ≡ number_in (refusal (run s (calls_of before)) (close_call as_left e))
   -- a path is matched exactly if it fitted right after some accepted open
@@ -123,7 +123,7 @@ pub record Holds (s : FolderSet) (a : List ℕ) (made : List Made) (calls : List
   pub folders : (number : FolderNumber) → Answers (HasFolder s number.0) (HasMatchedPath s a t.bytes number.0) (ask_folder a t.bytes number)
   -- open names, active steps and current prefix are those defined for the names opened and not yet closed
   pub names : (d : ℕ) → 1 ≤ d → d ≤ length still → (ask_name a t.bytes d ≡ name_at still d) × (name_refusal a t.bytes d ≡ 0)
-  pub no_names : (d : ℕ) → ((1 ≤ d) × (d ≤ length still) → ⊥) → (ask_name a t.bytes d ≡ []) × (name_refusal a t.bytes d ≡ number_of not_found)
+  pub no_names : (d : ℕ) → ((1 ≤ d) × (d ≤ length still) → ⊥) → (ask_name a t.bytes d ≡ []) × (name_refusal a t.bytes d ≡ number_of NotFound)
   pub steps : (place : PathPlace) (k : ℕ) → Answers (StepThere s place.0 k) (Active (path_of_place s place.0) k still) (ask_step a t.bytes place k)
   pub prefix : PrefixAnswered s still (ask_prefix a t.bytes)
   -- a fresh run on the same set, given only the opens of those names in order, answers the same

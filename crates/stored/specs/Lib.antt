@@ -1,6 +1,5 @@
 -- What is stored, in reading order: demand 3 and the contracts it is over, their equations, the bytes of automaton and run, and what they mean.
 pub mod Demand3
-pub mod Answers
 pub mod RunContracts
 pub mod Build
 pub mod RunCalls

@@ -13,7 +13,7 @@ use Rattle.stored.specs.Shape.{automaton_shaped, all_below}
 use Rattle.stored.specs.Run.{depth_at, matches_at, name_in, state_in, active_in, seen_in, row_at, row_size, run_size}
 use Rattle.stored.specs.declared.counters.Counters.{Counters}
 use Rattle.stored.specs.declared.walk.Walk.{Walk}
-use Rattle.text.specs.Refusals.{short_buffer, bad_shape, syntax_error, name_too_long, not_one_root, too_deep, over_capacity, mismatched_close}
+use Rattle.text.specs.declared.refusals.Refusal.TheVariants.{ShortBuffer, BadShape, SyntaxError, NameTooLong, NotOneRoot, TooDeep, OverCapacity, MismatchedClose}
 use Rattle.text.specs.Order.{Condition, gives, given}
 
 -- what is stored of a run
@@ -64,28 +64,28 @@ abbrev pub too_short : List ℕ → List ℕ → Bool
 too_short a run = ltb (length a) automaton_size || ltb (length run) run_size
 
 abbrev pub start_conditions : List ℕ → List ℕ → List Condition
-start_conditions a run = gives (too_short a run) short_buffer ∷ gives (not (automaton_shaped a)) bad_shape ∷ []
+start_conditions a run = gives (too_short a run) ShortBuffer ∷ gives (not (automaton_shaped a)) BadShape ∷ []
 
 abbrev pub root_closed : List ℕ → Counters → Bool
 root_closed run c = not (eqb c.opens 0) && eqb (depth_of run) 0
 
 -- those of what is lent, with which open and close begin
 abbrev pub lent_conditions : List ℕ → List ℕ → Counters → List Condition
-lent_conditions a run c = gives (too_short a run) short_buffer ∷ gives (not (shaped a run c)) bad_shape ∷ []
+lent_conditions a run c = gives (too_short a run) ShortBuffer ∷ gives (not (shaped a run c)) BadShape ∷ []
 
 -- those of the name, which are next
 abbrev pub name_conditions : Name → List Condition
-name_conditions e = gives (not (name_form e)) syntax_error ∷ gives (too_long e) name_too_long ∷ []
+name_conditions e = gives (not (name_form e)) SyntaxError ∷ gives (too_long e) NameTooLong ∷ []
 
 -- all others of an open, and of a close
 abbrev pub open_others : List ℕ → Counters → Name → List Condition
 open_others run c e =
     name_conditions e
-    ++ (gives (root_closed run c) not_one_root ∷ gives (leb max_depth (depth_of run)) too_deep ∷ gives (leb max_opens c.opens) over_capacity ∷ [])
+    ++ (gives (root_closed run c) NotOneRoot ∷ gives (leb max_depth (depth_of run)) TooDeep ∷ gives (leb max_opens c.opens) OverCapacity ∷ [])
 
 abbrev pub close_others : List ℕ → Name → List Condition
 close_others run e =
-    name_conditions e ++ (gives (eqb (depth_of run) 0) not_one_root ∷ gives (not (same_name (stored_name run (depth_of run)) e)) mismatched_close ∷ [])
+    name_conditions e ++ (gives (eqb (depth_of run) 0) NotOneRoot ∷ gives (not (same_name (stored_name run (depth_of run)) e)) MismatchedClose ∷ [])
 
 abbrev pub open_conditions : List ℕ → List ℕ → Counters → Name → List Condition
 open_conditions a run c e = lent_conditions a run c ++ open_others run c e
@@ -176,5 +176,5 @@ open_counters a run c e = after_open c (open_walk a run e).moves
 unfoldable pub close_run : List ℕ → List ℕ
 close_run run = sets (with_row run (depth_of run) (replicate row_size 0)) depth_at (le16 (pred (depth_of run)))
 
-unfoldable pub close_counters : Counters → Counters
+abbrev pub close_counters : Counters → Counters
 close_counters c = record { opens = c.opens; closes = c.closes + 1; moves = c.moves }

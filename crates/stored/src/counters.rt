@@ -22,27 +22,22 @@ impl Counters {
         }
     }
 
-    // Those after an open of so many failure moves.
-    pub fn after_open(self, moves: usize) -> Counters
-        requires { (self.opens ≤ max_opens) × ((self.moves ≤ max_depth * max_opens) × (moves ≤ max_depth)) }
-        ensures { result ≡ after_open self moves }
+    // Counts an open of so many failure moves.
+    #[tactic(auto, unfolding(model::specs::Limits::max_depth, model::specs::Limits::max_opens))]
+    pub fn count_open(&mut self, moves: usize)
+        requires { (self.old.opens ≤ max_opens) × ((self.old.moves ≤ max_depth * max_opens) × (moves ≤ max_depth)) }
+        ensures { self.new ≡ after_open self.old moves }
     {
-        Counters {
-            opens: self.opens + 1,
-            closes: self.closes,
-            moves: self.moves + moves,
-        }
+        self.opens += 1;
+        self.moves += moves;
     }
 
-    // Those after a close.
-    pub fn after_close(self) -> Counters
-        requires { self.closes ≤ max_opens }
-        ensures { result ≡ close_counters self }
+    // Counts a close.
+    #[tactic(auto, unfolding(model::specs::Limits::max_opens))]
+    pub fn count_close(&mut self)
+        requires { self.old.closes ≤ max_opens }
+        ensures { self.new ≡ close_counters self.old }
     {
-        Counters {
-            opens: self.opens,
-            closes: self.closes + 1,
-            moves: self.moves,
-        }
+        self.closes += 1;
     }
 }

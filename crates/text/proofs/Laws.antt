@@ -2,6 +2,7 @@ pub mod Tests
 pub mod Lists
 pub mod Said
 pub mod Numbers
+pub mod Results
 pub mod Order
 pub mod Bytes
 pub mod Decimal

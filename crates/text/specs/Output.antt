@@ -1,26 +1,31 @@
--- A text that is written piece by piece: the cursor stands after the last piece and knows whether all pieces had room. A dry one writes
--- nothing.
-use Rattle.std.specs.Prelude.{ℕ, ◌+◌, ◌≡◌, Bool, true, not, ◌&&◌, cond, List, [], ◌++◌, leb, length}
+-- A text that is put into a sink piece by piece: one that measures it, or the front of a lent buffer.
+use Rattle.std.specs.Prelude.{ℕ, ◌+◌, ◌-◌, ◌^◌, ◌≡◌, min, cond, List, [], ◌++◌, leb, length, Option, None, Some}
 use Rattle.std.proofs.lemmas.List.Edits.{sets}
-use Rattle.text.specs.declared.output.Cursor.{Cursor}
+use Rattle.text.specs.declared.output.Length.{Length}
+use Rattle.text.specs.declared.output.Front.{Front}
 
--- at the buffer's start
-abbrev pub start : Bool → Cursor
-start dry = record { at = 0; fits = true; dry = dry }
+module _ {S : Type 0} (puts : S → List ℕ → S) where
+  -- these bytes, as pieces one after the other. Where the bytes are cut into pieces is the program's choice
+  pub data Adds : S → List ℕ → S → Type 0 where
+    no_pieces : {s : S} → Adds s [] s
+    a_piece : {s t u : S} {piece bytes : List ℕ} → t ≡ puts s piece → Adds t bytes u → Adds s (piece ++ bytes) u
 
-abbrev pub writes : Cursor → Bool
-writes cursor = not cursor.dry && cursor.fits
+-- a measured length, which stays at the largest number
+abbrev pub measured : Length → List ℕ → Length
+measured s piece = record { bytes = min (s.bytes + length piece) (2 ^ 64 - 1) }
 
--- one piece: the whole of it is written, or the buffer is left as it was
-pub record Puts (out : List ℕ) (cursor : Cursor) (piece out' : List ℕ) (cursor' : Cursor) : Type 0 where
-  pub fits : cursor'.fits ≡ (cursor.fits && leb (cursor.at + length piece) (length out))
-  pub at : cursor'.at ≡ cond cursor'.fits (cursor.at + length piece) cursor.at
-  pub dry : cursor'.dry ≡ cursor.dry
-  pub leaves : out' ≡ cond (writes cursor') (sets out cursor.at piece) out
+-- where a piece ends in a buffer of this size, if it has room
+abbrev pub put_at : ℕ → ℕ → List ℕ → Option ℕ
+put_at size at piece = cond (leb (at + length piece) size) (Some (at + length piece)) None
 
--- these bytes, as pieces one after the other: where not all had room the first ones stand in the buffer, and nothing of the others. Where
--- the bytes are cut into pieces is the program's choice
-pub data Adds : List ℕ → Cursor → List ℕ → List ℕ → Cursor → Type 0 where
-  no_pieces : {out : List ℕ} {cursor : Cursor} → Adds out cursor [] out cursor
-  a_piece : {out out₁ out₂ piece bytes : List ℕ} {cursor cursor₁ cursor₂ : Cursor} → Puts out cursor piece out₁ cursor₁ → Adds out₁ cursor₁ bytes out₂ cursor₂
-      → Adds out cursor (piece ++ bytes) out₂ cursor₂
+-- the whole of it is written, or the buffer is left as it was
+abbrev pub written_to : Option ℕ → List ℕ → ℕ → List ℕ → List ℕ
+written_to (Some end) out at piece = sets out at piece
+written_to None out at piece = out
+
+-- a piece into the front of a buffer: none once one had no room
+abbrev pub fronted : Front → List ℕ → Front
+fronted s piece = elim s.end [
+  | Some at ↦ let end = put_at (length s.out.now) at piece in record { out = record s.out { now = written_to end s.out.now at piece }; end = end }
+  | None ↦ s
+]

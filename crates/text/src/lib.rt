@@ -1,7 +1,6 @@
 // Text: names and numbers, reading and writing them, and what an answer says. Every format of the product stands on it.
 #![tactic(auto)]
 
-pub mod arith;
 pub mod names;
 pub mod numbers;
 pub mod output;

@@ -1,161 +1,108 @@
-// Byte classes, and the name test, which goes by them; readers test the same bytes by comparisons.
+// Byte classes, and names, whose test goes by them.
 ghost use Rattle.std.specs.Prelude.{◌≡◌, ◌+◌, length, drop};
 ghost use Rattle.text.specs.Read.{front};
-ghost use Rattle.text.specs.Classes.{class_of};
+ghost use Rattle.text.specs.Classes.{class_of, can_begin, can_follow};
 ghost use Rattle.text.specs.Names.{begins_name, in_name, name_form, too_long, same_name};
-
-use crate::truth::both;
 
 // Bytes of a name at most.
 pub const MAX_NAME: usize = 32;
 
-// The classes; their numbers are those of specs/Classes.antt. The name classes come first: one up to START can begin a name, one up to
-// DOT can be in it. The blanks are BLANK (9, 13), LINE_END and SPACE.
-pub const START: u8 = 0;
+#[derive(Clone, Copy, Debug, PartialEq, Eq)]
+pub enum Class {
+    // A letter or `_`.
+    Start,
+    Digit,
+    Hyphen,
+    Dot,
+    // A tab or a carriage return.
+    Blank,
+    LineEnd,
+    Space,
+    DoubleQuote,
+    SingleQuote,
+    Less,
+    Greater,
+    // Round brackets.
+    Open,
+    Close,
+    Slash,
+    Star,
+    Ampersand,
+    Equals,
+    Exclamation,
+    Question,
+    Semicolon,
+    // `]`.
+    Square,
+    // Any other that a report may have.
+    Other,
+    // A byte that no report may have.
+    Invalid,
+}
 
-pub const DIGIT: u8 = 1;
+impl Class {
+    fn begins_name(self) -> bool
+        ensures { result ≡ can_begin self }
+    {
+        self == Class::Start
+    }
 
-pub const HYPHEN: u8 = 2;
+    fn in_name(self) -> bool
+        ensures { result ≡ can_follow self }
+    {
+        matches!(
+            self,
+            Class::Start | Class::Digit | Class::Hyphen | Class::Dot
+        )
+    }
+}
 
-pub const DOT: u8 = 3;
-
-pub const BLANK: u8 = 4;
-
-pub const LINE_END: u8 = 5;
-
-pub const SPACE: u8 = 6;
-
-pub const DOUBLE_QUOTE: u8 = 7;
-
-pub const SINGLE_QUOTE: u8 = 8;
-
-pub const LESS: u8 = 9;
-
-pub const GREATER: u8 = 10;
-
-pub const OPEN: u8 = 11;
-
-pub const CLOSE: u8 = 12;
-
-pub const SLASH: u8 = 13;
-
-pub const STAR: u8 = 14;
-
-pub const AMPERSAND: u8 = 15;
-
-pub const EQUALS: u8 = 16;
-
-pub const EXCLAMATION: u8 = 17;
-
-pub const QUESTION: u8 = 18;
-
-pub const SEMICOLON: u8 = 19;
-
-pub const SQUARE: u8 = 20;
-
-pub const OTHER: u8 = 21;
-
-pub const INVALID: u8 = 22;
-
-// Bytes of 128 and more are answered, not looked up.
-pub fn class_of(b: u8) -> u8
+// Bytes of 128 and more have no entry.
+pub fn class_of(b: u8) -> Class
     ensures { result ≡ class_of b }
 {
-    if b < 128 {
-        let i = b as usize;
-        CLASSES[i]
-    } else {
-        INVALID
-    }
+    CLASSES
+        .get(usize::from(b))
+        .copied()
+        .unwrap_or(Class::Invalid)
 }
 
-// The name test (paper 01), by the table: of its first byte, and how far the name bytes go from an offset. The table is taken once for the scan.
-fn begins_class(b: u8) -> bool
-    ensures { result ≡ begins_name b }
-{
-    class_of(b) <= START
-}
-
-fn class_end(s: &[u8], at: usize) -> usize
-    ensures { result ≡ at + length (front in_name (drop at s.now)) }
-{
-    let classes = CLASSES;
-    let mut i = at;
-    while i < s.len() {
-        let b = s[i];
-        if 128 <= b {
-            return i;
-        }
-        let k = b as usize;
-        if DOT < classes[k] {
-            return i;
-        }
-        i += 1;
-    }
-    i
-}
-
-// Name form, length aside.
-pub fn name_form(s: &[u8]) -> bool
-    ensures { result ≡ name_form s.now }
-{
-    if s.len() == 0 {
-        return false;
-    }
-    if !begins_class(s[0]) {
-        return false;
-    }
-    class_end(s, 1) == s.len()
-}
-
-// The same for readers, who meet many names. A letter or `_`: by comparisons, small letters first, since most bytes of names are those and
-// the table would be laid out for each name.
+// A letter or `_`. Small letters, which most bytes of names are, are not looked up.
 pub fn begins_name(b: u8) -> bool
     ensures { result ≡ begins_name b }
 {
-    if 97 <= b {
-        return b <= 122;
-    }
-    if b <= 64 {
-        return false;
-    }
-    if b == 95 {
-        return true;
-    }
-    b <= 90
+    b.is_ascii_lowercase() || class_of(b).begins_name()
 }
 
 // A letter, a digit, `_`, `-` or `.`.
 pub fn in_name(b: u8) -> bool
     ensures { result ≡ in_name b }
 {
-    if both(97 <= b, b <= 122) {
-        return true;
-    }
-    if 65 <= b {
-        return begins_name(b);
-    }
-    if 58 <= b {
-        return false;
-    }
-    if b == 47 {
-        return false;
-    }
-    45 <= b
+    b.is_ascii_lowercase() || class_of(b).in_name()
 }
 
 // Where the name bytes that begin at an offset end.
 pub fn name_end(s: &[u8], at: usize) -> usize
     ensures { result ≡ at + length (front in_name (drop at s.now)) }
 {
-    let mut i = at;
-    while i < s.len() {
+    for i in at..s.len() {
         if !in_name(s[i]) {
             return i;
         }
-        i += 1;
     }
-    i
+    at.max(s.len())
+}
+
+// Name form, length aside, by the table.
+pub fn name_form(s: &[u8]) -> bool
+    ensures { result ≡ name_form s.now }
+{
+    match s.split_first() {
+        Some((first, rest)) => {
+            class_of(*first).begins_name() && rest.iter().all(|b| class_of(*b).in_name())
+        }
+        None => false,
+    }
 }
 
 // Over the limit of a name's length.
@@ -169,163 +116,153 @@ pub fn too_long(s: &[u8]) -> bool
 pub fn same_name(a: &[u8], b: &[u8]) -> bool
     ensures { result ≡ same_name a.now b.now }
 {
-    if a.len() != b.len() {
-        return false;
-    }
-    let mut i = 0;
-    while i < a.len() {
-        if a[i] != b[i] {
-            return false;
-        }
-        i += 1;
-    }
-    true
+    a == b
 }
 
-// The class of each byte below 128 (paper 01: the constant table).
-const CLASSES: [u8; 128] = [
+// The class of each byte below 128.
+const CLASSES: [Class; 128] = [
     // 0
-    INVALID,
-    INVALID,
-    INVALID,
-    INVALID,
-    INVALID,
-    INVALID,
-    INVALID,
-    INVALID,
+    Class::Invalid,
+    Class::Invalid,
+    Class::Invalid,
+    Class::Invalid,
+    Class::Invalid,
+    Class::Invalid,
+    Class::Invalid,
+    Class::Invalid,
     // 8
-    INVALID,
-    BLANK,
-    LINE_END,
-    INVALID,
-    INVALID,
-    BLANK,
-    INVALID,
-    INVALID,
+    Class::Invalid,
+    Class::Blank,
+    Class::LineEnd,
+    Class::Invalid,
+    Class::Invalid,
+    Class::Blank,
+    Class::Invalid,
+    Class::Invalid,
     // 16
-    INVALID,
-    INVALID,
-    INVALID,
-    INVALID,
-    INVALID,
-    INVALID,
-    INVALID,
-    INVALID,
+    Class::Invalid,
+    Class::Invalid,
+    Class::Invalid,
+    Class::Invalid,
+    Class::Invalid,
+    Class::Invalid,
+    Class::Invalid,
+    Class::Invalid,
     // 24
-    INVALID,
-    INVALID,
-    INVALID,
-    INVALID,
-    INVALID,
-    INVALID,
-    INVALID,
-    INVALID,
+    Class::Invalid,
+    Class::Invalid,
+    Class::Invalid,
+    Class::Invalid,
+    Class::Invalid,
+    Class::Invalid,
+    Class::Invalid,
+    Class::Invalid,
     // 32: space ! " # $ % & '
-    SPACE,
-    EXCLAMATION,
-    DOUBLE_QUOTE,
-    OTHER,
-    OTHER,
-    OTHER,
-    AMPERSAND,
-    SINGLE_QUOTE,
+    Class::Space,
+    Class::Exclamation,
+    Class::DoubleQuote,
+    Class::Other,
+    Class::Other,
+    Class::Other,
+    Class::Ampersand,
+    Class::SingleQuote,
     // 40: ( ) * + , - . /
-    OPEN,
-    CLOSE,
-    STAR,
-    OTHER,
-    OTHER,
-    HYPHEN,
-    DOT,
-    SLASH,
+    Class::Open,
+    Class::Close,
+    Class::Star,
+    Class::Other,
+    Class::Other,
+    Class::Hyphen,
+    Class::Dot,
+    Class::Slash,
     // 48: 0 1 2 3 4 5 6 7
-    DIGIT,
-    DIGIT,
-    DIGIT,
-    DIGIT,
-    DIGIT,
-    DIGIT,
-    DIGIT,
-    DIGIT,
+    Class::Digit,
+    Class::Digit,
+    Class::Digit,
+    Class::Digit,
+    Class::Digit,
+    Class::Digit,
+    Class::Digit,
+    Class::Digit,
     // 56: 8 9 : ; < = > ?
-    DIGIT,
-    DIGIT,
-    OTHER,
-    SEMICOLON,
-    LESS,
-    EQUALS,
-    GREATER,
-    QUESTION,
+    Class::Digit,
+    Class::Digit,
+    Class::Other,
+    Class::Semicolon,
+    Class::Less,
+    Class::Equals,
+    Class::Greater,
+    Class::Question,
     // 64: @ A B C D E F G
-    OTHER,
-    START,
-    START,
-    START,
-    START,
-    START,
-    START,
-    START,
+    Class::Other,
+    Class::Start,
+    Class::Start,
+    Class::Start,
+    Class::Start,
+    Class::Start,
+    Class::Start,
+    Class::Start,
     // 72: H I J K L M N O
-    START,
-    START,
-    START,
-    START,
-    START,
-    START,
-    START,
-    START,
+    Class::Start,
+    Class::Start,
+    Class::Start,
+    Class::Start,
+    Class::Start,
+    Class::Start,
+    Class::Start,
+    Class::Start,
     // 80: P Q R S T U V W
-    START,
-    START,
-    START,
-    START,
-    START,
-    START,
-    START,
-    START,
+    Class::Start,
+    Class::Start,
+    Class::Start,
+    Class::Start,
+    Class::Start,
+    Class::Start,
+    Class::Start,
+    Class::Start,
     // 88: X Y Z [ \ ] ^ _
-    START,
-    START,
-    START,
-    OTHER,
-    OTHER,
-    SQUARE,
-    OTHER,
-    START,
+    Class::Start,
+    Class::Start,
+    Class::Start,
+    Class::Other,
+    Class::Other,
+    Class::Square,
+    Class::Other,
+    Class::Start,
     // 96: ` a b c d e f g
-    OTHER,
-    START,
-    START,
-    START,
-    START,
-    START,
-    START,
-    START,
+    Class::Other,
+    Class::Start,
+    Class::Start,
+    Class::Start,
+    Class::Start,
+    Class::Start,
+    Class::Start,
+    Class::Start,
     // 104: h i j k l m n o
-    START,
-    START,
-    START,
-    START,
-    START,
-    START,
-    START,
-    START,
+    Class::Start,
+    Class::Start,
+    Class::Start,
+    Class::Start,
+    Class::Start,
+    Class::Start,
+    Class::Start,
+    Class::Start,
     // 112: p q r s t u v w
-    START,
-    START,
-    START,
-    START,
-    START,
-    START,
-    START,
-    START,
+    Class::Start,
+    Class::Start,
+    Class::Start,
+    Class::Start,
+    Class::Start,
+    Class::Start,
+    Class::Start,
+    Class::Start,
     // 120: x y z { | } ~
-    START,
-    START,
-    START,
-    OTHER,
-    OTHER,
-    OTHER,
-    OTHER,
-    INVALID,
+    Class::Start,
+    Class::Start,
+    Class::Start,
+    Class::Other,
+    Class::Other,
+    Class::Other,
+    Class::Other,
+    Class::Invalid,
 ];

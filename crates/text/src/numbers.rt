@@ -3,9 +3,7 @@ ghost use Rattle.std.specs.Prelude.{◌≡◌, length, drop};
 ghost use Rattle.text.specs.Read.{number_ahead, read_number};
 ghost use Rattle.text.specs.Numbers.{number_found};
 
-use crate::truth::between;
-
-#[derive(Clone, Copy)]
+#[derive(Clone, Copy, Debug, PartialEq, Eq)]
 pub struct Number {
     pub value: usize,
     // After its last digit.
@@ -16,44 +14,30 @@ pub struct Number {
 pub fn number_ahead(s: &[u8], at: usize) -> bool
     ensures { result ≡ number_ahead (drop at s.now) }
 {
-    if s.len() <= at {
-        return false;
-    }
-    let b = s[at] as usize;
-    between(49, 57, b)
+    matches!(s.get(at), Some(b'1'..=b'9'))
 }
 
-// The number from 1 to `most` that stands at an offset; 0, and the end 0, where none does. A digit is added only if `most` allows it, so no
-// sum is too large.
-pub fn number_at(s: &[u8], at: usize, most: usize) -> Number
+// The number from 1 to `most` that stands at an offset. A digit is added only if `most` allows it, so no sum is too large.
+pub fn number_at(s: &[u8], at: usize, most: usize) -> Option<Number>
     ensures { result ≡ number_found (length s.now) (read_number most (drop at s.now)) }
 {
-    let none = Number { value: 0, end: 0 };
     if !number_ahead(s, at) {
-        return none;
+        return None;
     }
     let mut value = 0;
-    let mut i = at;
-    while i < s.len() {
-        let b = s[i] as usize;
-        if !between(48, 57, b) {
-            return Number {
-                value: value,
-                end: i,
-            };
+    for i in at..s.len() {
+        let b = s[i];
+        if !b.is_ascii_digit() {
+            return Some(Number { value, end: i });
         }
-        let d = b - 48;
-        if most < d {
-            return none;
-        }
-        if (most - d) / 10 < value {
-            return none;
+        let d = usize::from(b - b'0');
+        if most.checked_sub(d)? / 10 < value {
+            return None;
         }
         value = 10 * value + d;
-        i += 1;
     }
-    Number {
-        value: value,
-        end: i,
-    }
+    Some(Number {
+        value,
+        end: s.len(),
+    })
 }

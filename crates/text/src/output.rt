@@ -1,93 +1,98 @@
-// A text that is written piece by piece into a lent buffer. A piece that has no room is left out, and so are all after it.
-ghost use Rattle.std.specs.Prelude.{◌≡◌, [], ◌∷◌, ◌++◌, ◌+◌, ◌<◌, leb};
+// A text that is put together piece by piece: measured first, or written into a lent buffer.
+ghost use Rattle.std.specs.Prelude.{◌≡◌, [], ◌∷◌, ◌++◌, ◌+◌, ◌<◌, length, None, Some};
 ghost use Rattle.text.specs.Decimal.{decimal};
-ghost use Rattle.text.specs.Output.{start, Puts, Adds};
+ghost use Rattle.text.specs.Output.{Adds, put_at, written_to};
 
-use crate::store::copy;
+// Where the pieces of a text go, one after the other.
+pub trait Sink {
+    ghost use Rattle.std.specs.Prelude.{ℕ, List};
 
-#[derive(Clone, Copy)]
-pub struct Cursor {
-    // After the last piece.
-    pub at: usize,
-    // Every piece had room.
-    pub fits: bool,
-    // Only how far the text goes is found out; nothing is written.
-    pub dry: bool,
+    // What a piece makes of it.
+    ghost puts: { Self → List ℕ → Self };
+
+    fn put(&mut self, piece: &[u8])
+        ensures { self.new ≡ puts self.old piece.now };
 }
 
-// Whether so many bytes have room at an offset.
-fn has_room(size: usize, at: usize, n: usize) -> bool
-    ensures { result ≡ leb (at + n) size }
-{
-    if size < at {
-        return false;
-    }
-    n <= size - at
+// How long a text is; nothing is written.
+#[derive(Clone, Copy, Debug)]
+pub struct Length {
+    pub bytes: usize,
 }
 
-pub fn emit(out: &mut [u8], cursor: Cursor, piece: &[u8]) -> Cursor
-    ensures { Puts out.old cursor piece.now out.new result }
-{
-    if !cursor.fits {
-        return cursor;
+impl Sink for Length {
+    ghost use Rattle.text.specs.Output.{measured};
+
+    ghost puts = { measured };
+
+    fn put(&mut self, piece: &[u8]) {
+        self.bytes = self.bytes.saturating_add(piece.len());
     }
-    let at = cursor.at;
-    let size = piece.len();
-    if !has_room(out.len(), at, size) {
-        return Cursor {
-            at: at,
-            fits: false,
-            dry: cursor.dry,
-        };
-    }
-    let to = Cursor {
-        at: at + size,
-        fits: true,
-        dry: cursor.dry,
-    };
-    if cursor.dry {
-        return to;
-    }
-    copy(out, at, piece);
-    to
 }
 
-// The first piece, at the buffer's start.
-pub fn begin(out: &mut [u8], dry: bool, piece: &[u8]) -> Cursor
-    ensures { Puts out.old (start dry) piece.now out.new result }
+// The front of a lent buffer. A piece that has no room is left out, and so are all after it.
+#[derive(Drop)]
+pub struct Front<'a> {
+    pub out: &'a mut [u8],
+    // After the last piece; none once one had no room.
+    pub end: Option<usize>,
+}
+
+impl<'a> Front<'a> {
+    pub fn new(out: &'a mut [u8]) -> Front<'a>
+        ensures { result ≡ record { out = out.entry; end = Some 0 } }
+    {
+        Front { out, end: Some(0) }
+    }
+}
+
+impl Sink for Front<'_> {
+    ghost use Rattle.text.specs.Output.{fronted};
+
+    ghost puts = { fronted };
+
+    fn put(&mut self, piece: &[u8]) {
+        if let Some(at) = self.end {
+            self.end = put_piece(self.out, at, piece);
+        }
+    }
+}
+
+// A piece from an offset on, if it has room there, and where it ends.
+fn put_piece(out: &mut [u8], at: usize, piece: &[u8]) -> Option<usize>
+    ensures end { result ≡ put_at (length out.old) at piece.now }
+    ensures leaves { out.new ≡ written_to result out.old at piece.now }
 {
-    let start = Cursor {
-        at: 0,
-        fits: true,
-        dry: dry,
-    };
-    emit(out, start, piece)
+    let end = at.saturating_add(piece.len());
+    if end > out.len() {
+        return None;
+    }
+    out[at..end].copy_from_slice(piece);
+    Some(end)
 }
 
 // A digit.
-fn emit_digit(out: &mut [u8], cursor: Cursor, d: usize) -> Cursor
+fn put_digit<S: Sink>(to: &mut S, d: usize)
     requires { d < 10 }
-    ensures { Puts out.old cursor ((48 + d) ∷ []) out.new result }
+    ensures { to.new ≡ S.puts to.old ((48 + d) ∷ []) }
 {
-    let digit = [48 + d as u8];
-    emit(out, cursor, &digit)
+    to.put(&[48 + d as u8]);
 }
 
 // A number's decimal digits, a piece each.
-pub fn emit_number(out: &mut [u8], cursor: Cursor, n: usize) -> Cursor
-    ensures { Adds out.old cursor (decimal n) out.new result }
+pub fn put_number<S: Sink>(to: &mut S, n: usize)
+    ensures { Adds S.puts to.old (decimal n) to.new }
 {
-    if n < 10 {
-        return emit_digit(out, cursor, n);
+    if n >= 10 {
+        put_number(to, n / 10);
     }
-    let first = emit_number(out, cursor, n / 10);
-    emit_digit(out, first, n % 10)
+    put_digit(to, n % 10);
 }
 
 // A word, then a number's decimal digits.
-pub fn emit_numbered(out: &mut [u8], cursor: Cursor, word: &[u8], n: usize) -> Cursor
-    ensures { Adds out.old cursor (word.now ++ decimal n) out.new result }
+pub fn put_numbered<S: Sink>(to: &mut S, word: &[u8], n: usize)
+    ensures { Adds S.puts to.old (word.now ++ decimal n) to.new }
 {
-    let to = emit(out, cursor, word);
-    emit_number(out, to, n)
+    to.put(word);
+    put_number(to, n);
 }

@@ -3,49 +3,37 @@ ghost use Rattle.std.specs.Prelude.{◌≡◌, ◌++◌, min, length, drop, repl
 ghost use Rattle.std.proofs.lemmas.List.Edits.{sets};
 ghost use Rattle.text.specs.Bytes.{le16};
 
-use crate::arith::{least, minus};
-
 // Zeros in the first n bytes.
 pub fn clear(part: &mut [u8], n: usize)
     ensures { part.new ≡ replicate (min n (length part.old)) 0 ++ drop n part.old }
 {
-    let end = least(n, part.len());
-    let mut i = 0;
-    while i < end {
-        part[i] = 0;
-        i += 1;
-    }
+    let end = n.min(part.len());
+    part[..end].fill(0);
 }
 
 // The bytes of a slice, from `at` on.
 pub fn copy(part: &mut [u8], at: usize, bytes: &[u8])
     ensures { part.new ≡ sets part.old at bytes.now }
 {
-    let n = least(bytes.len(), minus(part.len(), at));
-    let mut i = 0;
-    while i < n {
-        part[at + i] = bytes[i];
-        i += 1;
+    if part.len() <= at {
+        return;
     }
+    let n = (part.len() - at).min(bytes.len());
+    part[at..at + n].copy_from_slice(&bytes[..n]);
 }
 
 // A number of two bytes, the lower first.
 pub fn put16(part: &mut [u8], at: usize, v: usize)
     ensures { part.new ≡ sets part.old at (le16 v) }
 {
-    let number = [(v % 256) as u8, (v / 256 % 256) as u8];
-    copy(part, at, &number);
+    copy(part, at, &((v % 65536) as u16).to_le_bytes());
 }
 
 // Two such numbers, one after the other.
 pub fn put_pair(part: &mut [u8], at: usize, v: usize, w: usize)
     ensures { part.new ≡ sets part.old at (le16 v ++ le16 w) }
 {
-    let numbers = [
-        (v % 256) as u8,
-        (v / 256 % 256) as u8,
-        (w % 256) as u8,
-        (w / 256 % 256) as u8,
-    ];
-    copy(part, at, &numbers);
+    let [a, b] = ((v % 65536) as u16).to_le_bytes();
+    let [c, d] = ((w % 65536) as u16).to_le_bytes();
+    copy(part, at, &[a, b, c, d]);
 }

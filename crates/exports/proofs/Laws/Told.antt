@@ -5,7 +5,8 @@ use mathlib.Core.Path.{◌≡◌, refl, sym, ap, ◌∙◌}
 use mathlib.Core.Bool.{Bool}
 use mathlib.Core.Logic.{◌⊎◌, inl, inr}
 use mathlib.Core.List.{List}
-use Rattle.text.specs.Refusals.{Refusal, number_of}
+use Rattle.text.specs.declared.refusals.Refusal.{Refusal}
+use Rattle.text.specs.Refusals.{number_of}
 use Rattle.text.specs.Answers.{Answer, refused, value, number_said}
 use Rattle.text.specs.Order.{Condition, Unmet, GivenBy, AnswersBy}
 use Rattle.text.proofs.Laws.Numbers.{some_number}

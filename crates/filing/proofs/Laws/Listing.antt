@@ -1,7 +1,7 @@
 pub mod PrintedOnce
 pub mod PrintedText
 pub mod PrintedXPath
-pub mod Printing
+pub mod Faithful
 pub mod Same
 pub mod Showing
 pub mod Shown

@@ -1,7 +1,7 @@
 -- Filing a report, computed: its conditions tested, its tokens as the reader finds them (laws tie it to what filing gives).
 use Rattle.std.specs.Prelude.{ℕ, Bool, true, false, not, List, [], ◌∷◌, ◌++◌, ltb, length}
 use Rattle.text.specs.Lists.{every}
-use Rattle.text.specs.Refusals.{too_large, invalid_byte, syntax_error, repeated_attribute}
+use Rattle.text.specs.declared.refusals.Refusal.TheVariants.{TooLarge, InvalidByte, SyntaxError, RepeatedAttribute}
 use Rattle.notation.specs.Sets.{FolderSet}
 use Rattle.text.specs.Order.{Condition, gives, first}
 use Rattle.model.specs.Calls.{State, fresh}
@@ -22,10 +22,10 @@ tokens_in (got ts r) = ts
 
 abbrev pub report_tests : List ℕ → List Condition
 report_tests report =
-    gives (ltb max_report_bytes (length report)) too_large
-    ∷ gives (not (every listed report)) invalid_byte
-    ∷ gives (is_no_run (read_report report)) syntax_error
-    ∷ gives (repeats_in (tokens_in (read_report report))) repeated_attribute
+    gives (ltb max_report_bytes (length report)) TooLarge
+    ∷ gives (not (every listed report)) InvalidByte
+    ∷ gives (is_no_run (read_report report)) SyntaxError
+    ∷ gives (repeats_in (tokens_in (read_report report))) RepeatedAttribute
     ∷ []
 
 unfoldable pub file_report : {S : Type 0} → Machine S → S → List Condition → List ℕ → Outcome S

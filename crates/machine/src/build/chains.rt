@@ -1,4 +1,6 @@
 // Labels by name: the chains of the hashes, and the labels of each name.
+#![tactic(auto, unfolding(notation::specs::Limits::max_labels, stored::specs::Automaton::automaton_size, stored::specs::Automaton::hashes, stored::specs::Automaton::heads_at, stored::specs::Automaton::links_at, stored::specs::Automaton::link_size))]
+
 ghost use Rattle.std.specs.Prelude.{◌≡◌, ◌≤◌, ◌<◌, min, length};
 ghost use Rattle.notation.specs.Limits.{max_labels};
 ghost use Rattle.notation.specs.Reads.{label_count};
@@ -6,10 +8,10 @@ ghost use Rattle.stored.specs.Automaton.{automaton_size, hashes};
 ghost use Rattle.stored.specs.Usable.{Lookable};
 ghost use Rattle.stored.specs.Code.Chains.{entered, preceded, linked, chained, Linkable};
 
+use crate::automaton::Automaton;
 use crate::hash::hash_of;
-use crate::labels::word;
 use crate::layout::{FIRST_IN, HEADS_AT, LINK_SIZE, LINKS_AT, OTHER_IN};
-use crate::lookup::look_up;
+use crate::words::word;
 use notation::layout::WORD_SIZE;
 use notation::limits::MAX_LABELS;
 use notation::reads;
@@ -44,19 +46,18 @@ fn link_label(part: &mut [u8], l: usize)
 {
     let e = reads::label_name(part, l);
     let h = hash_of(e);
-    let last = look_up(part, e, h);
-    if last == 0 {
-        enter_name(part, h, l);
-    } else {
-        precede(part, last - 1, l);
+    let automaton = Automaton { bytes: part };
+    match automaton.look_up(e, h) {
+        None => enter_name(part, h, l),
+        Some(last) => precede(part, last.number(), l),
     }
 }
 
+// The stored count, or the limit if that is smaller.
 pub fn label_count(part: &[u8]) -> usize
     ensures { (result ≡ min (label_count part.now) max_labels) × (result ≤ max_labels) }
 {
-    let n = reads::labels(part);
-    if n < MAX_LABELS { n } else { MAX_LABELS }
+    reads::labels(part).min(MAX_LABELS)
 }
 
 // Every label, from the last to the first.
@@ -64,9 +65,7 @@ pub fn chain(part: &mut [u8])
     requires { Linkable (min (label_count part.old) max_labels) part.old × (automaton_size ≤ length part.old) }
     ensures { part.new ≡ chained (min (label_count part.old) max_labels) part.old }
 {
-    let mut l = label_count(part);
-    while 0 < l {
-        l -= 1;
+    for l in (0..label_count(part)).rev() {
         link_label(part, l);
     }
 }

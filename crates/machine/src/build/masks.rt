@@ -1,41 +1,39 @@
 // The masks: for each step in set order a bit in each of them. And the initial state.
+#![tactic(auto, unfolding(stored::specs::Automaton::automaton_size, stored::specs::Automaton::mask_size, stored::specs::Automaton::masks_at, stored::specs::Automaton::start_at))]
+
 ghost use Rattle.std.specs.Prelude.{◌≡◌, true, ◌+◌, ◌*◌, ◌≤◌, ◌<◌, length};
-ghost use Rattle.stored.specs.Automaton.{mask_size, mask_count, automaton_size, bit};
+ghost use Rattle.stored.specs.Automaton.{mask_size, automaton_size, bit};
 ghost use Rattle.stored.specs.Code.Masks.{flagged, axis_mask, flag_role, flag_step, flag_steps, flag_path, with_masks, child_at, rooted, any_rooted, with_start};
 ghost use Rattle.notation.specs.Reads.{step_at, path_count};
+ghost use Rattle.machine.specs.Masks.{mask_number};
 
-use crate::bits::{wide, with_bit};
-use crate::layout::{
-    ANYWHERE_MASK, CHILD_MASK, DESCENDANT_MASK, LAST_MASK, MASK_SIZE, MASKS_AT, ROOT_MASK,
-    STAR_MASK, START_AT,
-};
-use notation::reads::{PathAt, StepAt};
+use crate::layout::{MASK_SIZE, MASKS_AT, Mask, START_AT};
 use notation::{PathPlace, reads};
 use text::store::put16;
-use text::truth::negated;
 
 const STEP_BITS: usize = 8 * MASK_SIZE;
 
-// Bit i of mask m.
-fn flag(part: &mut [u8], on: bool, m: usize, i: usize)
-    requires { (m < mask_count) × (i < 8 * mask_size) × (automaton_size ≤ length part.old) }
-    ensures { part.new ≡ flagged on m i part.old }
+// Bit i of a mask.
+fn flag(part: &mut [u8], on: bool, mask: Mask, i: usize)
+    requires { (i < 8 * mask_size) × (automaton_size ≤ length part.old) }
+    ensures { part.new ≡ flagged on (mask_number mask) i part.old }
 {
     if on {
-        let j = STEP_BITS * m + i;
+        let j = STEP_BITS * mask as usize + i;
         let at = MASKS_AT + j / 8;
-        part[at] = with_bit(wide(part[at]), j % 8) as u8;
+        part[at] |= 1 << (j % 8);
     }
 }
 
 // The mask of a step's axis.
-fn axis_mask(first: bool, deep: bool) -> usize
-    ensures { (result ≡ axis_mask first deep) × (result < mask_count) }
+fn axis_mask(first: bool, deep: bool) -> Mask
+    ensures { mask_number result ≡ axis_mask first deep }
 {
-    if first {
-        if deep { ANYWHERE_MASK } else { ROOT_MASK }
-    } else {
-        if deep { DESCENDANT_MASK } else { CHILD_MASK }
+    match (first, deep) {
+        (true, true) => Mask::Anywhere,
+        (true, false) => Mask::Root,
+        (false, true) => Mask::Descendant,
+        (false, false) => Mask::Child,
     }
 }
 
@@ -45,9 +43,9 @@ fn flag_role(part: &mut [u8], i: usize, deep: bool, star: bool, first: bool, las
     ensures { part.new ≡ flag_role i deep star first last part.old }
 {
     let axis = axis_mask(first, deep);
-    flag(part, star, STAR_MASK, i);
+    flag(part, star, Mask::Star, i);
     flag(part, true, axis, i);
-    flag(part, last, LAST_MASK, i);
+    flag(part, last, Mask::Last, i);
 }
 
 fn flag_step(part: &mut [u8], i: usize, first: bool, last: bool)
@@ -57,9 +55,8 @@ fn flag_step(part: &mut [u8], i: usize, first: bool, last: bool)
     if STEP_BITS <= i {
         return;
     }
-    match reads::step_at(part, i) {
-        StepAt::Step { descendant, star } => flag_role(part, i, descendant, star, first, last),
-        StepAt::Missing => {}
+    if let Some(step) = reads::step_at(part, i) {
+        flag_role(part, i, step.descendant, step.star, first, last);
     }
 }
 
@@ -68,10 +65,8 @@ fn flag_steps(part: &mut [u8], from: usize, steps: usize)
     requires { (from < 65536) × (steps < 65536) × (automaton_size ≤ length part.old) }
     ensures { part.new ≡ flag_steps steps from true part.old }
 {
-    let mut k = 0;
-    while k < steps {
+    for k in 0..steps {
         flag_step(part, from + k, k == 0, k + 1 == steps);
-        k += 1;
     }
 }
 
@@ -79,14 +74,8 @@ fn flag_path(part: &mut [u8], place: usize)
     requires { automaton_size ≤ length part.old }
     ensures { part.new ≡ flag_path place part.old }
 {
-    match reads::path_at(part, PathPlace(place)) {
-        PathAt::Path {
-            first,
-            steps,
-            at: _,
-            size: _,
-        } => flag_steps(part, first, steps),
-        PathAt::Missing => {}
+    if let Some(path) = reads::path_at(part, PathPlace(place)) {
+        flag_steps(part, path.first, path.steps);
     }
 }
 
@@ -95,53 +84,29 @@ pub fn write_masks(part: &mut [u8])
     requires { automaton_size ≤ length part.old }
     ensures { part.new ≡ with_masks part.old }
 {
-    let n = reads::paths(part);
-    let mut place = 0;
-    while place < n {
+    for place in 0..reads::paths(part) {
         flag_path(part, place);
-        place += 1;
     }
 }
 
 fn is_child(part: &[u8], i: usize) -> bool
     ensures { result ≡ child_at (step_at part.now i) }
 {
-    match reads::step_at(part, i) {
-        StepAt::Step {
-            descendant,
-            star: _,
-        } => negated(descendant),
-        StepAt::Missing => false,
-    }
+    reads::step_at(part, i).is_some_and(|step| !step.descendant)
 }
 
 // The path of this place begins with `/`.
 fn is_rooted(part: &[u8], place: usize) -> bool
     ensures { result ≡ rooted part.now place }
 {
-    match reads::path_at(part, PathPlace(place)) {
-        PathAt::Path {
-            first,
-            steps: _,
-            at: _,
-            size: _,
-        } => is_child(part, first),
-        PathAt::Missing => false,
-    }
+    reads::path_at(part, PathPlace(place)).is_some_and(|path| is_child(part, path.first))
 }
 
 fn start_state(part: &[u8]) -> usize
     ensures { result ≡ bit (any_rooted (path_count part.now) 0 part.now) }
 {
-    let n = reads::paths(part);
-    let mut place = 0;
-    while place < n {
-        if is_rooted(part, place) {
-            return 1;
-        }
-        place += 1;
-    }
-    0
+    let rooted = (0..reads::paths(part)).any(|place| is_rooted(part, place));
+    usize::from(rooted)
 }
 
 // The state of a fresh run.

@@ -1,18 +1,18 @@
 // Each label's parent and the length of its word, step by step in set order.
+#![tactic(auto, unfolding(notation::specs::Limits::max_labels, stored::specs::Automaton::automaton_size, stored::specs::Automaton::links_at, stored::specs::Automaton::link_size))]
+
 ghost use Rattle.std.specs.Prelude.{◌≡◌, suc, ◌+◌, ◌≤◌, ◌<◌, length};
 ghost use Rattle.notation.specs.Limits.{max_labels};
 ghost use Rattle.notation.specs.Reads.{path_at, step_count, label_count, label_name};
 ghost use Rattle.stored.specs.Automaton.{automaton_size};
 ghost use Rattle.stored.specs.Tables.{goto};
 ghost use Rattle.stored.specs.Usable.{Searchable};
-ghost use Rattle.stored.specs.Code.Parents.{starts_at, entered, word_stored, labelled, passed, parented, before_paths, Sound};
+ghost use Rattle.stored.specs.Code.Parents.{starts_at, word_stored, labelled, passed, parented, before_paths, Sound};
 
-use crate::hash::hash_of;
+use crate::automaton::Automaton;
 use crate::layout::{LINK_SIZE, LINKS_AT, PARENT_IN, SIZE_IN};
-use crate::lookup::first_label;
-use crate::walk::{goto_state, size_of};
+use crate::walk::size_of;
 use notation::limits::MAX_LABELS;
-use notation::reads::{PathAt, StepAt};
 use notation::{PathPlace, reads};
 use stored::place::Place;
 use text::store::put16;
@@ -21,43 +21,7 @@ use text::store::put16;
 fn starts_path(part: &[u8], p: usize, i: usize) -> bool
     ensures { result ≡ starts_at (path_at part.now (record { 0 = p })) i }
 {
-    match reads::path_at(part, PathPlace(p)) {
-        PathAt::Path {
-            first,
-            steps: _,
-            at: _,
-            size: _,
-        } => first == i,
-        PathAt::Missing => false,
-    }
-}
-
-fn enter(at: Place, first: bool, deep: bool) -> Place
-    requires { at.paths < 65536 }
-    ensures { result ≡ entered first deep at }
-{
-    if first {
-        if deep {
-            return Place {
-                labels: at.labels,
-                paths: at.paths + 1,
-                state: 0,
-            };
-        }
-        return Place {
-            labels: at.labels,
-            paths: at.paths + 1,
-            state: 1,
-        };
-    }
-    if deep {
-        return Place {
-            labels: at.labels,
-            paths: at.paths,
-            state: 0,
-        };
-    }
-    at
+    reads::path_at(part, PathPlace(p)).is_some_and(|path| path.first == i)
 }
 
 fn store_word(part: &mut [u8], l: usize, q: usize)
@@ -75,48 +39,46 @@ fn follow(part: &[u8], q: usize, l: usize) -> usize
     requires { Searchable part.now × (automaton_size ≤ length part.now) }
     ensures { (result ≡ goto part.now q (label_name part.now l)) × (result ≤ suc (label_count part.now)) }
 {
-    let e = reads::label_name(part, l);
-    goto_state(part, q, first_label(part, e, hash_of(e)))
+    let automaton = Automaton { bytes: part };
+    let first = automaton.first_label(reads::label_name(part, l));
+    automaton.goto_state(q, first).unwrap_or(0)
 }
 
 // A label's step: its parent and length are stored, and its word's state is the next one.
 fn put_word(part: &mut [u8], at: Place) -> Place
     requires { Searchable part.old × ((at.state < 65536) × (automaton_size ≤ length part.old)) }
-    ensures { (part.new ≡ (labelled at part.old).bytes) × ((result ≡ (labelled at part.old).place) × (Sound at.paths result part.new)) }
+    ensures bytes { part.new ≡ (labelled at part.old).bytes }
+    ensures place { result ≡ (labelled at part.old).place }
+    ensures sound { Sound at.paths result part.new }
 {
     let l = at.labels;
-    let q = at.state;
     if MAX_LABELS <= l {
         return at;
     }
-    store_word(part, l, q);
+    store_word(part, l, at.state);
     Place {
         labels: l + 1,
-        paths: at.paths,
-        state: follow(part, q, l),
+        state: follow(part, at.state, l),
+        ..at
     }
 }
 
 // One step.
 fn pass_step(part: &mut [u8], i: usize, at: Place) -> Place
     requires { (Sound i at part.old) × ((i < 65536) × (automaton_size ≤ length part.old)) }
-    ensures { (part.new ≡ (passed i at part.old).bytes) × ((result ≡ (passed i at part.old).place) × (Sound (i + 1) result part.new)) }
+    ensures bytes { part.new ≡ (passed i at part.old).bytes }
+    ensures place { result ≡ (passed i at part.old).place }
+    ensures sound { Sound (i + 1) result part.new }
 {
     let first = starts_path(part, at.paths, i);
-    let x = reads::step_at(part, i);
-    match x {
-        StepAt::Step { descendant, star } => {
-            let on = enter(at, first, descendant);
-            if star {
-                return Place {
-                    labels: on.labels,
-                    paths: on.paths,
-                    state: 0,
-                };
-            }
-            put_word(part, on)
-        }
-        StepAt::Missing => at,
+    let Some(step) = reads::step_at(part, i) else {
+        return at;
+    };
+    let on = at.enter(first, step.descendant);
+    if step.star {
+        on.emptied()
+    } else {
+        put_word(part, on)
     }
 }
 
@@ -125,15 +87,8 @@ pub fn parents(part: &mut [u8])
     requires { Searchable part.old × (automaton_size ≤ length part.old) }
     ensures { part.new ≡ parented (step_count part.old) 0 before_paths part.old }
 {
-    let n = reads::steps(part);
-    let mut at = Place {
-        labels: 0,
-        paths: 0,
-        state: 0,
-    };
-    let mut i = 0;
-    while i < n {
+    let mut at = Place::default();
+    for i in 0..reads::steps(part) {
         at = pass_step(part, i, at);
-        i += 1;
     }
 }

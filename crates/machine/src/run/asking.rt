@@ -1,68 +1,38 @@
 // The calls that ask a run, and change nothing.
+#![tactic(auto, unfolding(text::specs::Order::given, text::specs::Order::first, stored::specs::Asking::ask_refusal, stored::specs::Asking::ask_path, stored::specs::Asking::ask_folder, stored::specs::Asking::ask_step, stored::specs::Asking::ask_prefix, stored::specs::Asking::name_refusal, stored::specs::Asking::place_matched, stored::specs::Run::active_in, stored::specs::Run::row_size, stored::specs::Run::run_size, stored::specs::RunCalls::run_shaped))]
+
 ghost use Rattle.std.specs.Prelude.{◌≡◌, ◌+◌, ◌-◌, ◌≤◌};
-ghost use Rattle.text.specs.Names.{within};
-ghost use Rattle.text.specs.Answers.{said};
-ghost use Rattle.notation.specs.Reads.{path_at};
-ghost use Rattle.stored.specs.Answers.{asked_says, length_says};
+ghost use Rattle.text.specs.Answers.{says, refusal_in};
 ghost use Rattle.stored.specs.Usable.{Ready};
 ghost use Rattle.stored.specs.RunCalls.{depth_of, active_at};
-ghost use Rattle.stored.specs.Asking.{has_path, ask_refusal, ask_path, ask_folder, ask_step, ask_prefix, name_refusal, OpenName};
+ghost use Rattle.stored.specs.Asking.{ask_path, ask_folder, ask_step, ask_prefix, name_refusal, OpenName};
 
 use crate::bits::bit_in;
 use crate::run::layout::ACTIVE_IN;
-use crate::run::{matches, refusals, rows, shape};
+use crate::run::lent::pair_refusal;
+use crate::run::refusals::stored_name;
+use crate::run::rows::Run;
+use crate::run::{matches, rows};
 use crate::walk::size_of;
-use notation::reads::{FolderIndex, PathAt};
 use notation::{FolderNumber, PathPlace, reads};
-use stored::answers::{Asked, Length};
-use text::arith::minus;
-use text::truth::between;
-
-fn answer(refused: u8, yes: bool) -> Asked
-    ensures { asked_says result ≡ said refused yes }
-{
-    if refused != 0 {
-        return Asked::Refused(refused);
-    }
-    if yes {
-        return Asked::Yes;
-    }
-    Asked::No
-}
-
-fn has_path(a: &[u8], place: PathPlace) -> bool
-    ensures { result ≡ has_path (path_at a.now place) }
-{
-    match reads::path_at(a, place) {
-        PathAt::Path {
-            first: _,
-            steps: _,
-            at: _,
-            size: _,
-        } => true,
-        PathAt::Missing => false,
-    }
-}
+use text::refusals::Refusal;
 
 // Is a path matched?
-pub fn path_matched(a: &[u8], run: &[u8], place: PathPlace) -> Asked
-    ensures { asked_says result ≡ ask_path a.now run.now place }
+pub fn path_matched(a: &[u8], run: &[u8], place: PathPlace) -> Result<bool, Refusal>
+    ensures { says result ≡ ask_path a.now run.now place }
 {
-    let refused = refusals::ask_refusal(a, run, has_path(a, place));
-    answer(refused, matches::place_matched(a, run, place))
+    pair_refusal(a, run)?;
+    let path = reads::path_at(a, place).ok_or(Refusal::NotFound)?;
+    Ok(matches::last_matched(run, path))
 }
 
 // Is a folder, by its number, matched?
-pub fn folder_matched(a: &[u8], run: &[u8], number: FolderNumber) -> Asked
-    ensures { asked_says result ≡ ask_folder a.now run.now number }
+pub fn folder_matched(a: &[u8], run: &[u8], number: FolderNumber) -> Result<bool, Refusal>
+    ensures { says result ≡ ask_folder a.now run.now number }
 {
-    match reads::folder_of(a, number) {
-        FolderIndex::At(i) => answer(
-            refusals::ask_refusal(a, run, true),
-            matches::folder_paths_matched(a, run, i),
-        ),
-        FolderIndex::Missing => answer(refusals::ask_refusal(a, run, false), false),
-    }
+    pair_refusal(a, run)?;
+    let i = reads::folder_of(a, number).ok_or(Refusal::NotFound)?;
+    Ok(matches::folder_paths_matched(a, run, i))
 }
 
 // Step s, from 1, of a path that begins with step `first`, on the innermost element.
@@ -70,60 +40,48 @@ fn bit_active(a: &[u8], run: &[u8], first: usize, s: usize) -> bool
     requires { (Ready a.now run.now) × ((first ≤ 65536) × (s ≤ 65536)) }
     ensures { result ≡ active_at run.now (depth_of run.now) (first + s - 1) }
 {
-    let at = rows::row_at(shape::depth(run));
-    bit_in(run, at + ACTIVE_IN, minus(first + s, 1))
-}
-
-fn ask_step(a: &[u8], run: &[u8], first: usize, steps: usize, s: usize) -> Asked
-    requires { (first ≤ 65536) × (steps ≤ 65536) }
-    ensures { asked_says result ≡ said (ask_refusal a.now run.now (within 1 steps s)) (active_at run.now (depth_of run.now) (first + s - 1)) }
-{
-    let refused = refusals::ask_refusal(a, run, between(1, steps, s));
-    if refused != 0 {
-        return Asked::Refused(refused);
-    }
-    answer(0, bit_active(a, run, first, s))
+    let at = rows::row_at(Run { bytes: run }.depth());
+    bit_in(run, at + ACTIVE_IN, (first + s).saturating_sub(1))
 }
 
 // Is step s, from 1, of a path active on the innermost element?
-pub fn step_active(a: &[u8], run: &[u8], place: PathPlace, s: usize) -> Asked
-    ensures { asked_says result ≡ ask_step a.now run.now place s }
+pub fn step_active(a: &[u8], run: &[u8], place: PathPlace, s: usize) -> Result<bool, Refusal>
+    ensures { says result ≡ ask_step a.now run.now place s }
 {
-    match reads::path_at(a, place) {
-        PathAt::Path {
-            first,
-            steps,
-            at: _,
-            size: _,
-        } => ask_step(a, run, first, steps, s),
-        PathAt::Missing => answer(refusals::ask_refusal(a, run, false), false),
+    pair_refusal(a, run)?;
+    let path = reads::path_at(a, place).ok_or(Refusal::NotFound)?;
+    if s < 1 || path.steps < s {
+        return Err(Refusal::NotFound);
     }
+    Ok(bit_active(a, run, path.first, s))
 }
 
-// The length of the current prefix (paper 01: the held word).
-pub fn prefix_length(a: &[u8], run: &[u8]) -> Length
-    ensures { length_says result ≡ ask_prefix a.now run.now }
+// The length of the current prefix.
+pub fn prefix_length(a: &[u8], run: &[u8]) -> Result<usize, Refusal>
+    ensures { says result ≡ ask_prefix a.now run.now }
 {
-    let refused = refusals::ask_refusal(a, run, true);
-    if refused != 0 {
-        return Length::Refused(refused);
-    }
-    Length::Symbols(size_of(a, rows::state_at(run, shape::depth(run))))
+    pair_refusal(a, run)?;
+    let run = Run { bytes: run };
+    Ok(size_of(a, run.state(run.depth())))
 }
 
-// The refusal of the open name at a depth, 0 for none.
-pub fn name_refusal(a: &[u8], run: &[u8], d: usize) -> u8
-    ensures { result ≡ name_refusal a.now run.now d }
+// The refusal of the open name at a depth.
+pub fn name_refusal(a: &[u8], run: &[u8], d: usize) -> Result<(), Refusal>
+    ensures { refusal_in result ≡ name_refusal a.now run.now d }
 {
-    refusals::ask_refusal(a, run, between(1, shape::depth(run), d))
+    pair_refusal(a, run)?;
+    if d < 1 || (Run { bytes: run }).depth() < d {
+        return Err(Refusal::NotFound);
+    }
+    Ok(())
 }
 
 // The open name at a depth, from 1: a part of the run, empty if refused.
 pub fn open_name<'a, 'r>(a: &'a [u8], run: &'r [u8], d: usize) -> &'r [u8]
     ensures { OpenName a.now run.entry d result }
 {
-    if name_refusal(a, run, d) != 0 {
+    if name_refusal(a, run, d).is_err() {
         return &run[..0];
     }
-    refusals::stored_name(a, run, d)
+    stored_name(a, run, d)
 }

@@ -6,9 +6,11 @@ ghost use Rattle.stored.specs.Automaton.{mask_size, automaton_size};
 ghost use Rattle.stored.specs.Bits.{bit_at};
 ghost use Rattle.stored.specs.Marked.{has_bit, marked_from};
 ghost use Rattle.stored.specs.Usable.{Openable};
+ghost use Rattle.machine.specs.Places.{place_of};
 
-use crate::labels::word;
+use crate::automaton::{Automaton, Label};
 use crate::layout::{BITS_IN, FAR_IN, LINK_SIZE, LINKS_AT};
+use crate::words::word;
 
 // The bits of a label, joined to those that are there.
 fn flag_label(out: &mut [u8], a: &[u8], l: usize)
@@ -20,14 +22,16 @@ fn flag_label(out: &mut [u8], a: &[u8], l: usize)
     out[j] = out[j] | (bits % 256) as u8;
 }
 
-// The bits of the labels of a name. `first` is the place of the first one.
-pub fn flag_labels(out: &mut [u8], a: &[u8], first: usize)
-    requires { (mask_size ≤ length out.old) × ((Openable a.now) × (first ≤ label_count a.now)) }
-    ensures { (i : ℕ) → bit_at out.new i ≡ (bit_at out.old i || marked_from max_labels a.now first i) }
+// The bits of the labels of a name. `first` is the first one.
+pub fn flag_labels(out: &mut [u8], a: &[u8], first: Option<Label>)
+    requires { (mask_size ≤ length out.old) × ((Openable a.now) × (place_of first ≤ label_count a.now)) }
+    ensures { (i : ℕ) → bit_at out.new i ≡ (bit_at out.old i || marked_from max_labels a.now (place_of first) i) }
 {
-    let mut k = first;
-    while k != 0 {
-        flag_label(out, a, k - 1);
-        k = word(a, LINKS_AT + LINK_SIZE * (k - 1) + FAR_IN);
+    let automaton = Automaton { bytes: a };
+    let mut next = first;
+    while let Some(label) = next {
+        let l = label.number();
+        flag_label(out, a, l);
+        next = automaton.linked(l, FAR_IN);
     }
 }

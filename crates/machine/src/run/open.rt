@@ -9,18 +9,17 @@ ghost use Rattle.stored.specs.Usable.{Openable, Ready, Usable};
 ghost use Rattle.stored.specs.Run.{run_size};
 ghost use Rattle.stored.specs.RunCalls.{depth_of, with_row, open_run, open_walk};
 ghost use Rattle.stored.specs.Code.OpenSteps.{blank_row};
+ghost use Rattle.machine.specs.Places.{place_of};
 
-use crate::hash::hash_of;
+use crate::automaton::{Automaton, Label};
 use crate::layout::MASK_SIZE;
-use crate::lookup::first_label;
 use crate::run::layout::{DEPTH_AT, ROW_SIZE};
+use crate::run::rows::Run;
 use crate::run::{candidates, lent, refusals, row, rows, steps};
-use crate::walk;
-use stored::answers::{Opened, OpenedBy};
 use stored::counters::Counters;
 use stored::walk::Walk;
 use text::names::name_form;
-use text::refusals::SYNTAX_ERROR;
+use text::refusals::Refusal;
 
 // The new element's row before its bits: a part from the middle of the run, lent to the function that writes it. d is the depth before.
 fn store(run: &mut [u8], d: usize, e: &[u8], state: usize)
@@ -32,11 +31,11 @@ fn store(run: &mut [u8], d: usize, e: &[u8], state: usize)
     row::write_row(&mut run[at..end], e, state);
 }
 
-// What an open writes: the new row, the matches, the depth, which was d. `first` is the place of the first label with the name, `state`
+// What an open writes: the new row, the matches, the depth, which was d. `first` is the first label with the name, `state`
 // the state that the walk ends in.
-fn write(a: &[u8], run: &mut [u8], e: &[u8], first: usize, d: usize, state: usize)
+fn write(a: &[u8], run: &mut [u8], e: &[u8], first: Option<Label>, d: usize, state: usize)
     requires openable { (Openable a.now) × ((run_size ≤ length run.old) × ((d < max_depth) × (length e.now ≤ max_name))) }
-    requires first_value { (first ≡ first_of a.now e.now) × ((d ≡ depth_of run.old) × (state ≡ (open_walk a.now run.old e.now).state)) }
+    requires first_value { (place_of first ≡ first_of a.now e.now) × ((d ≡ depth_of run.old) × (state ≡ (open_walk a.now run.old e.now).state)) }
     ensures { run.new ≡ open_run a.now run.old e.now }
 {
     let mut taken = [0; MASK_SIZE];
@@ -51,58 +50,39 @@ fn open_on(a: &[u8], run: &mut [u8], e: &[u8]) -> Walk
     requires { (Ready a.now run.old) × ((depth_of run.old < max_depth) × (length e.now ≤ max_name)) }
     ensures { (result ≡ open_walk a.now run.old e.now) × ((result.moves ≤ suc max_steps) × (run.new ≡ open_run a.now run.old e.now)) }
 {
-    let first = first_label(a, e, hash_of(e));
-    let d = rows::depth_in(run);
-    let walked = walk::walk_from(a, rows::state_in(run, d), first);
+    let automaton = Automaton { bytes: a };
+    let first = automaton.first_label(e);
+    let before = Run { bytes: run };
+    let d = before.depth();
+    let walked = automaton.walk_from(before.state(d), first);
     write(a, run, e, first, d, walked.state);
     walked
 }
 
 // The open, for callers that know that automaton, run and counters pass the shape test, and that the name has name form.
-pub fn open_usable(a: &[u8], run: &mut [u8], counters: Counters, e: &[u8]) -> OpenedBy
-    requires { (Usable a.now run.old counters) × (name_form e.now ≡ true) }
-    ensures { Opens a.now run.old counters e.now result.answer run.new result.counters }
-{
-    let refused = refusals::open_others(run, counters, e);
-    if refused != 0 {
-        return OpenedBy {
-            answer: Opened::Refused(refused),
-            counters: counters,
-        };
-    }
-    let walked = open_on(a, run, e);
-    let moves = walked.moves;
-    OpenedBy {
-        answer: Opened::Accepted(moves),
-        counters: counters.after_open(moves),
-    }
-}
-
-// The open, with the counters by value.
-pub fn open_by(a: &[u8], run: &mut [u8], counters: Counters, e: &[u8]) -> OpenedBy
-    ensures { Opens a.now run.old counters e.now result.answer run.new result.counters }
-{
-    let refused = lent::refusal(a, run, counters);
-    if refused != 0 {
-        return OpenedBy {
-            answer: Opened::Refused(refused),
-            counters: counters,
-        };
-    }
-    if !name_form(e) {
-        return OpenedBy {
-            answer: Opened::Refused(SYNTAX_ERROR),
-            counters: counters,
-        };
-    }
-    open_usable(a, run, counters, e)
-}
-
-// The open, on counters that are lent.
-pub fn open(a: &[u8], run: &mut [u8], counters: &mut Counters, e: &[u8]) -> Opened
+pub fn open_usable(
+    a: &[u8],
+    run: &mut [u8],
+    counters: &mut Counters,
+    e: &[u8],
+) -> Result<usize, Refusal>
+    requires { (Usable a.now run.old counters.old) × (name_form e.now ≡ true) }
     ensures { Opens a.now run.old counters.old e.now result run.new counters.new }
 {
-    let done = open_by(a, run, *counters, e);
-    *counters = done.counters;
-    done.answer
+    refusals::open_others(&Run { bytes: run }, *counters, e)?;
+    let walked = open_on(a, run, e);
+    let moves = walked.moves;
+    counters.count_open(moves);
+    Ok(moves)
+}
+
+// The open. It answers its own failure moves.
+pub fn open(a: &[u8], run: &mut [u8], counters: &mut Counters, e: &[u8]) -> Result<usize, Refusal>
+    ensures { Opens a.now run.old counters.old e.now result run.new counters.new }
+{
+    lent::refusal(a, run, *counters)?;
+    if !name_form(e) {
+        return Err(Refusal::SyntaxError);
+    }
+    open_usable(a, run, counters, e)
 }

@@ -1,4 +1,6 @@
 // The shape test of a run and of its counters.
+#![tactic(auto, unfolding(text::specs::Names::max_name, model::specs::Limits::max_depth, model::specs::Limits::max_opens, stored::specs::RunCalls::depth_of, stored::specs::RunCalls::run_shaped, stored::specs::RunCalls::counters_shaped))]
+
 ghost use Rattle.std.specs.Prelude.{◌≡◌, ◌<◌, ◌≤◌};
 ghost use Rattle.model.specs.Limits.{max_depth};
 ghost use Rattle.stored.specs.RunCalls.{depth_of, row_shaped, run_shaped, counters_shaped};
@@ -20,10 +22,7 @@ fn row_shaped(a: &[u8], run: &[u8], d: usize) -> bool
     requires { d ≤ max_depth }
     ensures { result ≡ row_shaped a.now run.now d }
 {
-    if MAX_NAME < name_length(run, d) {
-        return false;
-    }
-    state_at(run, d) <= reads::labels(a) + 1
+    name_length(run, d) <= MAX_NAME && state_at(run, d) <= reads::labels(a) + 1
 }
 
 // A row for each depth, with numbers in range.
@@ -31,34 +30,15 @@ pub fn run_shaped(a: &[u8], run: &[u8]) -> bool
     ensures { result ≡ run_shaped a.now run.now }
 {
     let deepest = depth(run);
-    if MAX_DEPTH < deepest {
-        return false;
-    }
-    let mut d = 0;
-    while d <= deepest {
-        if !row_shaped(a, run, d) {
-            return false;
-        }
-        d += 1;
-    }
-    true
+    deepest <= MAX_DEPTH && (0..deepest + 1).all(|d| row_shaped(a, run, d))
 }
 
 // opens = closes + depth, and at most 64 failure moves an open.
 pub fn counters_shaped(run: &[u8], c: Counters) -> bool
     ensures { result ≡ counters_shaped run.now c }
 {
-    let opens = c.opens;
-    let closes = c.closes;
-    let moves = c.moves;
-    if MAX_OPENS < opens {
-        return false;
-    }
-    if MAX_OPENS < closes {
-        return false;
-    }
-    if opens != closes + depth(run) {
-        return false;
-    }
-    moves <= MAX_DEPTH * opens
+    c.opens <= MAX_OPENS
+        && c.closes <= c.opens
+        && c.opens - c.closes == depth(run)
+        && c.moves <= MAX_DEPTH * c.opens
 }

@@ -1,72 +1,48 @@
 // A start: a fresh run, whatever the run held.
+#![tactic(auto, unfolding(text::specs::Order::given, text::specs::Order::first, stored::specs::Automaton::automaton_size, stored::specs::Run::run_size, stored::specs::RunCalls::start_refusal))]
+
 ghost use Rattle.std.specs.Prelude.{◌≡◌, ◌++◌, ◌≤◌, length, drop, replicate};
+ghost use Rattle.text.specs.Answers.{refusal_in};
 ghost use Rattle.stored.specs.Run.{run_size};
 ghost use Rattle.stored.specs.RunCalls.{start_run, start_refusal};
 ghost use Rattle.stored.specs.RunContracts.{Starts};
 
-use crate::layout::{AUTOMATON_SIZE, START_AT};
+use crate::layout::START_AT;
 use crate::run::layout::{ROWS_AT, RUN_SIZE, STATE_IN};
-use crate::shape;
+use crate::run::lent::too_short;
+use crate::run::row::put_word;
+use crate::shape::automaton_shaped;
 use notation::reads;
-use stored::answers::Started;
 use stored::counters::Counters;
-use text::refusals::{BAD_SHAPE, SHORT_BUFFER};
-use text::store::{clear, put16};
-
-fn clear_run(run: &mut [u8])
-    requires { run_size ≤ length run.old }
-    ensures { run.new ≡ replicate run_size 0 ++ drop run_size run.old }
-{
-    clear(run, RUN_SIZE);
-}
+use text::refusals::Refusal;
 
 // A fresh run.
 pub fn start_on(a: &[u8], run: &mut [u8])
     requires { run_size ≤ length run.old }
     ensures { run.new ≡ start_run a.now run.old }
 {
-    clear_run(run);
-    put16(run, ROWS_AT + STATE_IN, reads::word_at(a, START_AT));
+    run[..RUN_SIZE].fill(0);
+    put_word(run, ROWS_AT + STATE_IN, reads::word_at(a, START_AT));
 }
 
-fn start_refusal(a: &[u8], run: &[u8]) -> u8
-    ensures { result ≡ start_refusal a.now run.now }
+fn start_refusal(a: &[u8], run: &[u8]) -> Result<(), Refusal>
+    ensures { refusal_in result ≡ start_refusal a.now run.now }
 {
-    if a.len() < AUTOMATON_SIZE {
-        return SHORT_BUFFER;
+    if too_short(a, run) {
+        return Err(Refusal::ShortBuffer);
     }
-    if run.len() < RUN_SIZE {
-        return SHORT_BUFFER;
+    if !automaton_shaped(a) {
+        return Err(Refusal::BadShape);
     }
-    if shape::automaton_shaped(a) {
-        return 0;
-    }
-    BAD_SHAPE
+    Ok(())
 }
 
-// The start, with the counters by value.
-pub fn start_by(a: &[u8], run: &mut [u8], counters: Counters) -> Started
-    ensures { Starts a.now run.old counters result.refusal run.new result.counters }
+// The start.
+pub fn start(a: &[u8], run: &mut [u8], counters: &mut Counters) -> Result<(), Refusal>
+    ensures { Starts a.now run.old counters.old (refusal_in result) run.new counters.new }
 {
-    let refused = start_refusal(a, run);
-    if refused != 0 {
-        return Started {
-            refusal: refused,
-            counters: counters,
-        };
-    }
+    start_refusal(a, run)?;
     start_on(a, run);
-    Started {
-        refusal: 0,
-        counters: Counters::none(),
-    }
-}
-
-// The start, on counters that are lent.
-pub fn start(a: &[u8], run: &mut [u8], counters: &mut Counters) -> u8
-    ensures { Starts a.now run.old counters.old result run.new counters.new }
-{
-    let done = start_by(a, run, *counters);
-    *counters = done.counters;
-    done.refusal
+    *counters = Counters::none();
+    Ok(())
 }

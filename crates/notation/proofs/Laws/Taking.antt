@@ -1,7 +1,8 @@
+pub mod Ahead
 pub mod Grown
 pub mod FirstFault
-pub mod Steps
 pub mod Found
-pub mod Levels
+pub mod Steps
+pub mod Readings
 pub mod Paths
 pub mod Folders

@@ -3,3 +3,4 @@ pub mod Same
 pub mod Selected
 pub mod SetRows
 pub mod Shown
+pub mod Faithful

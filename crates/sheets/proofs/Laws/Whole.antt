@@ -1,11 +1,12 @@
 -- All that is promised of the class sheet.
+use Rattle.std.specs.Prelude.{Result}
+use Rattle.text.specs.declared.refusals.Refusal.{Refusal}
 use Prim.Native.Nat.{ℕ, ◌≤◌}
 use native.Mathlib.Omega.{arith}
 use mathlib.Core.Path.{◌≡◌, refl, sym, ◌∙◌, ap}
 use mathlib.Core.Bool.{true, false}
 use mathlib.Core.List.{List, map}
 use lib.ListN.{length, drop}
-use Rattle.text.specs.declared.written.Written.{Written}
 use Rattle.notation.specs.Limits.{max_number, max_paths}
 use Rattle.notation.specs.Sets.{FolderSet}
 use Rattle.notation.specs.Accepted.{Accepted}
@@ -38,7 +39,7 @@ use Rattle.sheets.proofs.Laws.Filed.Selected.{sheet-once, sheet-shown, sheet-tot
 use Rattle.sheets.proofs.Laws.Filed.Same.{rows_from, none_from}
 use Rattle.sheets.proofs.Laws.Filed.SetRows.{sheet-plain, blank_none}
 use Rattle.sheets.proofs.Laws.Page.Content.{of-rows}
-use Rattle.sheets.proofs.Laws.Filed.Shown.{sheet-printed}
+use Rattle.sheets.proofs.Laws.Filed.Faithful.{of-filed}
 
 of-shaped : (a run : List ℕ) → automaton_shaped a ≡ true → OfShaped a run
 unfolding sheet_in max_pages max_number
@@ -52,18 +53,6 @@ of-shaped a run h =
       size = sheet-length rows (rows-small a run h) (omega arith);
       most = sheet-fits a run h;
     }
-
--- of a filed report
-of-filed : (text before a : List ℕ) (s : FolderSet) → Accepted text s → Built text before 0 a
-    → (report run : List ℕ) → run_size ≤ length run → (c : Counters) (run' : List ℕ) (c' : Counters) → Files a run c report 0 run' c'
-    → (out : List ℕ) → sheet_size ≤ length out → (answer : Written) (out' : List ℕ) → SheetWritten a run' out answer out'
-    → (bytes : List ℕ) × SheetFor s report bytes × PrintsText sheet_size bytes out answer out'
-of-filed text before a s acc built report run long c run' c' files out room answer out' w =
-    let means = built-means text s acc before a built in
-    let (m, e) = given-filed (file_with s report) (sym (answer-is s a means run long c report 0 run' c' files)) in
-    let (few, r, k) = left-filed s a means run long c report 0 run' c' files m e in
-    let printed = sheet-printed s a means m few (drop run_size run) out room answer out' (rw r at w) in
-    (sheet (rows_from m.matched 0 s), sheet-shown s report m ((filing-is s report (filed m)).1 e), printed)
 
 -- nothing matched
 none-matched : (a run : List ℕ) → ((p : ℕ) → place_matched a run (record { 0 = p }) ≡ false) → sheet_in a run ≡ blank_sheet

@@ -7,5 +7,7 @@ pub mod MaskRows
 pub mod Tabulate
 pub mod Stores
 pub mod AllBelow
+pub mod Ranges
 pub mod Finding
 pub mod Beside
+pub mod Vectors

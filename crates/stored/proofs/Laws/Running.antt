@@ -20,3 +20,4 @@ pub mod MadeCalls
 pub mod Following
 pub mod Demand3
 pub mod Restart
+pub mod CallAnswers

@@ -1,11 +1,11 @@
 -- The pass that writes the masks and the initial state behind a read set. It follows the code; laws say that on a set's bytes it gives
 -- the set's masks.
-use Rattle.std.specs.Prelude.{ℕ, zero, suc, ◌+◌, ◌*◌, ◌/◌, ◌%◌, Bool, true, false, not, ◌||◌, cond, List, ltb, eqb, get_or, set}
+use Rattle.std.specs.Prelude.{ℕ, zero, suc, ◌+◌, ◌*◌, ◌/◌, ◌%◌, Bool, true, false, not, ◌||◌, cond, List, ltb, eqb, get_or, set, Option, Some, None}
 use Rattle.std.proofs.lemmas.List.Edits.{sets}
 use Rattle.text.specs.Bytes.{le16}
 use Rattle.notation.specs.Reads.{path_at, step_at, path_count}
-use Rattle.notation.specs.declared.reads.PathAt.{PathAt}
-use Rattle.notation.specs.declared.reads.StepAt.{StepAt}
+use Rattle.notation.specs.declared.reads.StoredPath.{StoredPath}
+use Rattle.notation.specs.declared.reads.StoredStep.{StoredStep}
 use Rattle.stored.specs.Bits.{with_bit}
 use Rattle.stored.specs.Automaton.{mask_size, star_mask, child_mask, descendant_mask, anywhere_mask, root_mask, last_mask, masks_at, start_at, bit}
 
@@ -26,9 +26,9 @@ axis_mask false false = child_mask
 unfoldable pub flag_role : ℕ → Bool → Bool → Bool → Bool → List ℕ → List ℕ
 flag_role i deep star first last part = flagged last last_mask i (flagged true (axis_mask first deep) i (flagged star star_mask i part))
 
-abbrev pub flag_step_at : StepAt → ℕ → Bool → Bool → List ℕ → List ℕ
-flag_step_at (StepAt.Step deep star) i first last part = flag_role i deep star first last part
-flag_step_at StepAt.Missing i first last part = part
+abbrev pub flag_step_at : Option StoredStep → ℕ → Bool → Bool → List ℕ → List ℕ
+flag_step_at (Some x) i first last part = flag_role i x.descendant x.star first last part
+flag_step_at None i first last part = part
 
 unfoldable pub flag_step : ℕ → Bool → Bool → List ℕ → List ℕ
 flag_step i first last part = cond (ltb i (8 * mask_size)) (flag_step_at (step_at part i) i first last part) part
@@ -38,9 +38,9 @@ unfoldable pub flag_steps : ℕ → ℕ → Bool → List ℕ → List ℕ
 flag_steps zero i first part = part
 flag_steps (suc left) i first part = flag_steps left (suc i) false (flag_step i first (eqb left 0) part)
 
-abbrev pub flag_path_at : PathAt → List ℕ → List ℕ
-flag_path_at (PathAt.Path first steps at size) part = flag_steps steps first true part
-flag_path_at PathAt.Missing part = part
+abbrev pub flag_path_at : Option StoredPath → List ℕ → List ℕ
+flag_path_at (Some p) part = flag_steps p.steps p.first true part
+flag_path_at None part = part
 
 unfoldable pub flag_path : ℕ → List ℕ → List ℕ
 flag_path place part = flag_path_at (path_at part (record { 0 = place })) part
@@ -51,13 +51,13 @@ flag_paths zero place part = part
 flag_paths (suc left) place part = flag_paths left (suc place) (flag_path place part)
 
 -- a path's first step is `/`
-abbrev pub child_at : StepAt → Bool
-child_at (StepAt.Step deep star) = not deep
-child_at StepAt.Missing = false
+abbrev pub child_at : Option StoredStep → Bool
+child_at (Some x) = not x.descendant
+child_at None = false
 
-abbrev pub rooted_at : List ℕ → PathAt → Bool
-rooted_at part (PathAt.Path first steps at size) = child_at (step_at part first)
-rooted_at part PathAt.Missing = false
+abbrev pub rooted_at : List ℕ → Option StoredPath → Bool
+rooted_at part (Some p) = child_at (step_at part p.first)
+rooted_at part None = false
 
 unfoldable pub rooted : List ℕ → ℕ → Bool
 rooted part place = rooted_at part (path_at part (record { 0 = place }))

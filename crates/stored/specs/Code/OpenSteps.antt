@@ -1,5 +1,5 @@
 -- The bits of an open, from those of the labels that the code marked first. Laws say that they are the bits that `RunCalls.open_run` has.
-use Rattle.std.specs.Prelude.{ℕ, suc, ◌+◌, Bool, ◌&&◌, ◌||◌, List, ◌∷◌, ◌++◌, length, replicate}
+use Rattle.std.specs.Prelude.{ℕ, suc, ◌+◌, ◌≡◌, Bool, ◌&&◌, ◌||◌, List, ◌∷◌, ◌++◌, length, replicate}
 use Rattle.std.proofs.lemmas.List.Edits.{sets}
 use Rattle.text.specs.Names.{Name, max_name}
 use Rattle.text.specs.Bytes.{le16, padded}
@@ -17,6 +17,10 @@ taken_seen a run taken d i = seen_at run d i || taken_active a run taken d i
 
 abbrev pub taken_matched : List ℕ → List ℕ → List ℕ → ℕ → ℕ → Bool
 taken_matched a run taken d i = matched_at run i || (taken_active a run taken d i && mask_bit a last_mask i)
+
+-- a block of bits, sixteen bytes
+pub record Block (f : ℕ → Bool) (bytes : List ℕ) : Type 0 where
+  pub is : bytes ≡ bit_bytes f 16
 
 -- a new row before its bits
 abbrev pub blank_row : Name → ℕ → List ℕ

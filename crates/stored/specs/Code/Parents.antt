@@ -1,12 +1,12 @@
 -- The pass over an automaton's bytes that stores each label's parent and the length of its word, step by step in set order. It follows the
 -- code; a law says that it stores those of the automaton's definition.
-use Rattle.std.specs.Prelude.{ℕ, zero, suc, ◌+◌, ◌≤◌, ◌<◌, Bool, true, false, cond, List, eqb, ltb}
+use Rattle.std.specs.Prelude.{ℕ, zero, suc, ◌+◌, ◌≤◌, ◌<◌, Bool, true, false, cond, List, eqb, ltb, Option, Some, None}
 use Rattle.std.proofs.lemmas.List.Edits.{sets}
 use Rattle.notation.specs.Limits.{max_labels}
 use Rattle.text.specs.Bytes.{le16}
 use Rattle.notation.specs.Reads.{label_name, path_at, step_at}
-use Rattle.notation.specs.declared.reads.PathAt.{PathAt}
-use Rattle.notation.specs.declared.reads.StepAt.{StepAt}
+use Rattle.notation.specs.declared.reads.StoredPath.{StoredPath}
+use Rattle.notation.specs.declared.reads.StoredStep.{StoredStep}
 use Rattle.stored.specs.Automaton.{parent_in, size_in, link_entry_at}
 use Rattle.stored.specs.Tables.{size_of, goto}
 use Rattle.stored.specs.Usable.{Searchable}
@@ -18,9 +18,9 @@ pub record Passed : Type 0 where
   pub place : Place
 
 -- the path begins with step i
-abbrev pub starts_at : PathAt → ℕ → Bool
-starts_at (PathAt.Path first steps at size) i = eqb first i
-starts_at PathAt.Missing i = false
+abbrev pub starts_at : Option StoredPath → ℕ → Bool
+starts_at (Some p) i = eqb p.first i
+starts_at None i = false
 
 -- before a step's test: a path's first step starts from `#` or, by `//`, from nothing; `//` starts from nothing
 abbrev pub root_state : Bool → ℕ
@@ -54,9 +54,9 @@ abbrev pub tested : Bool → Place → List ℕ → Passed
 tested true at a = record { bytes = a; place = emptied at }
 tested false at a = labelled at a
 
-abbrev pub passed_by : StepAt → Bool → Place → List ℕ → Passed
-passed_by (StepAt.Step deep star) first at a = tested star (entered first deep at) a
-passed_by StepAt.Missing first at a = record { bytes = a; place = at }
+abbrev pub passed_by : Option StoredStep → Bool → Place → List ℕ → Passed
+passed_by (Some x) first at a = tested x.star (entered first x.descendant at) a
+passed_by None first at a = record { bytes = a; place = at }
 
 unfoldable pub passed : ℕ → Place → List ℕ → Passed
 passed i at a = passed_by (step_at a i) (starts_at (path_at a (record { 0 = at.paths })) i) at a

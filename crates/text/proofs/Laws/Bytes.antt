@@ -1,5 +1,3 @@
-pub mod Table
 pub mod Classes
-pub mod Names
 pub mod SameName
 pub mod Cut

@@ -2,12 +2,13 @@
 use Prim.Native.Nat.{ℕ, ◌+◌, ◌*◌, ◌-◌, ◌≤◌, ◌<◌}
 use native.Mathlib.Omega.{arith}
 use native.Mathlib.Numerals.{add-one}
-use mathlib.Core.Path.{◌≡◌, refl, ap, ◌∙◌}
-use mathlib.Core.Bool.{true, false, false≢true, and-false}
-use mathlib.Core.List.{List, [], ◌∷◌}
+use mathlib.Core.Path.{◌≡◌, ap, ◌∙◌}
+use mathlib.Core.Bool.{true, false, and-false}
+use mathlib.Core.List.{List}
 use borrow.Author.Tests.{le-leb, lt-leb}
 use lib.ListN.{length, get_or, drop, length-drop, drop_of_length-le}
 use lib.Seq.{drop-cons}
+use Rattle.std.specs.Prelude.{Option, Some, None}
 use Rattle.text.specs.Names.{digit}
 use Rattle.text.specs.Read.{front, back, value_of, number_ahead, read_number}
 use Rattle.text.specs.Numbers.{number_found}
@@ -15,15 +16,11 @@ use Rattle.text.specs.declared.numbers.Number.{Number}
 use Rattle.text.proofs.Laws.Fronts.{stops, front-stop, back-stop}
 use Rattle.text.proofs.Laws.ReadNumber.{value_grows}
 
-some_byte : (l : List ℕ) → number_ahead l ≡ true → 1 ≤ length l
-some_byte [] t = absurd (false≢true t)
-some_byte (b ∷ l) t = omega arith
-
 module _ (s : List ℕ) (at most : ℕ) where
-  abbrev pub Found : Number → Type 0
+  abbrev pub Found : Option Number → Type 0
   Found n = n ≡ number_found (length s) (read_number most (drop at s))
 
-  pub no_number : number_ahead (drop at s) ≡ false → Found (record { value = 0; end = 0 })
+  pub no_number : number_ahead (drop at s) ≡ false → Found None
   unfolding read_number
   no_number f = rw f
 
@@ -35,12 +32,8 @@ module _ (s : List ℕ) (at most : ℕ) where
     pub values : value_of 0 (front digit (drop at s)) ≡ value_of value (front digit (drop i s))
     pub backs : back digit (drop at s) ≡ back digit (drop i s)
 
-  pub nothing_yet : number_ahead (drop at s) ≡ true → Scanned at 0
-  nothing_yet t =
-      record { ahead = t; on = omega (arith, some_byte (drop at s) t, length-drop at s); small = omega arith; values = refl; backs = refl }
-
   module _ (i value : ℕ) (k : Scanned i value) where
-    pub stopped : stops digit (drop i s) ≡ true → Found (record { value = value; end = i })
+    pub stopped : stops digit (drop i s) ≡ true → Found (Some (record { value = value; end = i }))
     unfolding read_number value_of
     stopped e =
         let all : value_of 0 (front digit (drop at s)) ≡ value = k.values ∙ ap (value_of value) (front-stop digit (drop i s) e) in
@@ -48,11 +41,11 @@ module _ (s : List ℕ) (at most : ℕ) where
         let end : length s - length (drop i s) ≡ i = omega (arith, length-drop i s, k.on) in
         rw (k.ahead, all, rest, le-leb value most k.small, end)
 
-    pub ended : length s ≤ i → Found (record { value = value; end = i })
-    ended h = stopped (rw (drop_of_length-le s h))
+    pub ended : length s ≤ i → Found (Some (record { value = value; end = length s }))
+    ended h = let e : i ≡ length s = omega (arith, k.on) in rw e at (stopped (rw (drop_of_length-le s h)))
 
     module _ (h : i < length s) where
-      pub foreign : digit (get_or s i 0) ≡ false → Found (record { value = value; end = i })
+      pub foreign : digit (get_or s i 0) ≡ false → Found (Some (record { value = value; end = i }))
       foreign f = stopped (rw (drop-cons s i 0 h, f))
 
       module _ (t : digit (get_or s i 0) ≡ true) where
@@ -60,7 +53,7 @@ module _ (s : List ℕ) (at most : ℕ) where
         unfolding value_of front
         further = k.values ∙ rw (drop-cons s i 0 h, t, add-one i)
 
-        pub over : most < 10 * value + (get_or s i 0 - 48) → Found (record { value = 0; end = 0 })
+        pub over : most < 10 * value + (get_or s i 0 - 48) → Found None
         unfolding read_number
         over o =
             let large : most < value_of 0 (front digit (drop at s)) =

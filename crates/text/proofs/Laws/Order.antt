@@ -1,17 +1,21 @@
 -- The computed first refusal is the first whose condition holds, and there is none exactly where no condition holds. The number that an
 -- order gives is its number.
+use Prim.Native.Nat.{ℕ}
 use mathlib.Core.Path.{◌≡◌, refl, sym, ◌∙◌, ap}
 use mathlib.Core.Bool.{Bool, true, false, cond}
 use mathlib.Core.Logic.{◌⊎◌, inl, inr, ◌↔◌}
 use mathlib.Core.Option.{Option, none, some, none-ne-some, some-injective, some-ne-none}
 use mathlib.Core.List.Memᴰ
 use mathlib.Core.List.{List, [], ◌∷◌, ◌++◌, Memᴰ}
+use Rattle.std.specs.Prelude.{Result, Ok, Err}
 use lib.Dec.{eqb}
 use borrow.Author.Tests.{ne_eqb}
 use Rattle.text.specs.Lists.{every}
-use Rattle.text.specs.Refusals.{Refusal, number_of}
-use Rattle.text.specs.Answers.{Answer, refused, said}
+use Rattle.text.specs.declared.refusals.Refusal.{Refusal}
+use Rattle.text.specs.Refusals.{number_of}
+use Rattle.text.specs.Answers.{Answer, refused, value, said, number_said, says, refusal_in}
 use Rattle.text.proofs.Laws.Numbers.{one-refusal, some_number}
+use Rattle.text.proofs.Laws.Results.{err_says, ok_says, handed_number, handed_says}
 use Rattle.text.proofs.Laws.Said.{said-value, said-refused, value-said, refused-said}
 use Rattle.text.specs.Order.{Condition, gives, holds, FirstOf, first, is_none, number_in, given, GivenBy, AnswersBy}
 use Rattle.text.proofs.Laws.Tests.{clash, and_left, and_right}
@@ -111,6 +115,17 @@ answers_by order v says is =
       ];
     }
 
+-- a `Result` that refuses with the number that an order gives
+pub answers_in : {A : Type 0} (order : List Condition) (r : Result A Refusal) → refusal_in r ≡ given order → AnswersBy order (says r)
+answers_in order (Ok v) e = answers_by order v (value v) (ok_says (given order) v e)
+answers_in order (Err q) e =
+    let g = given_by order in
+    record {
+      refusals = λ p. (λ h. (g.refusals p).0 (sym e ∙ ap number_said h), λ f. ap refused (e ∙ (g.refusals p).1 f));
+      answered = (λ h. absurd (some_number q (ap number_said h.1)), λ u. absurd (some_number q (e ∙ g.accepted.1 u)));
+      either = inr (q, refl);
+    }
+
 -- condition by condition
 pub given-none : given [] ≡ 0
 unfolding given first
@@ -166,3 +181,14 @@ given-first order later n = go (first order) refl
     go : (o : Option Refusal) → first order ≡ o → number_in (first (order ++ later)) ≡ number_in (first order)
     go none e = absurd (n (ap number_in e))
     go (some r) e = ap number_in (first-before order later r e ∙ sym e)
+
+-- the same of a refusal that one order gives: that of the two is the same
+pub refused_first : (order later : List Condition) (q : Refusal) → number_of q ≡ given order → number_of q ≡ given (order ++ later)
+refused_first order later q e = e ∙ sym (given-first order later (λ z. some_number q (e ∙ z)))
+
+-- and where the first gives none, the number is the later one's
+pub then_given : (order later : List Condition) (n : ℕ) → 0 ≡ given order → n ≡ given later → n ≡ given (order ++ later)
+then_given order later n z e = e ∙ sym (given-then order later (sym z))
+
+-- for the exits of a function that returns a `Result`: `#[tactic(auto, using(text::proofs::Laws::Order::refusing))]`
+pub ruleset refusing = (refused_first, then_given, given-cons, given-none, err_says, ok_says, handed_number, handed_says)

@@ -1,14 +1,16 @@
 -- Calls whose refusal is given by an order of conditions: what they answer, and that a refusal changes nothing.
-use Prim.Native.Nat.{ℕ, zero, suc}
-use mathlib.Core.Path.{◌≡◌, refl, ap, ◌∙◌}
+use Rattle.std.specs.Prelude.{Result}
+use Rattle.text.specs.declared.refusals.Refusal.{Refusal}
+use Prim.Native.Nat.{ℕ}
+use mathlib.Core.Path.{◌≡◌, ap, ◌∙◌}
 use mathlib.Core.Bool.{cond}
 use mathlib.Core.List.{List}
 use lib.Dec.{eqb}
 use lib.ListN.{length}
 use borrow.Author.Tests.{ne_eqb}
-use Rattle.text.specs.Answers.{Answer, said, number_said}
-use Rattle.text.specs.Written.{written_says, written_into, TextWritten}
-use Rattle.text.specs.declared.written.Written.{Written}
+use Rattle.text.specs.Answers.{Answer, said, number_said, says}
+use Rattle.text.specs.Written.{TextWritten}
+use Rattle.text.proofs.Laws.Output.{into-kept}
 use Rattle.text.proofs.Laws.Said.{said-number}
 use Rattle.text.specs.Order.{Condition, given, GivenBy}
 use Rattle.text.proofs.Laws.Order.{given_by, answers_by}
@@ -29,12 +31,8 @@ pub some-said : {A : Type 0} (n : ℕ) (v : A) (says : Answer A) → says ≡ sa
 some-said n v says e h z = h (ap number_said e ∙ said-number n v ∙ z)
 
 -- a text that is written
-into-kept : (n : ℕ) (text before : List ℕ) → (n ≡ 0 → ⊥) → written_into n text before ≡ before
-into-kept zero text before h = absurd (h refl)
-into-kept (suc n) text before h = refl
-
-pub written-by : (order : List Condition) (text before : List ℕ) (answer : Written) (after : List ℕ) → TextWritten order text before answer after → WrittenBy order before answer after
+pub written-by : (order : List Condition) (text before : List ℕ) (answer : Result ℕ Refusal) (after : List ℕ) → TextWritten order text before answer after → WrittenBy order before answer after
 written-by order text before answer after w = (
-  answers_by order (length text) (written_says answer) w.answers,
-  λ n. w.leaves ∙ into-kept (given order) text before (some-said (given order) (length text) (written_says answer) w.answers n),
+  answers_by order (length text) (says answer) w.answers,
+  λ n. w.leaves ∙ into-kept (given order) text before (some-said (given order) (length text) (says answer) w.answers n),
 )

@@ -6,7 +6,9 @@ use mathlib.Core.List.{List}
 use lib.Dec.{ltb}
 use lib.ListN.{length}
 use borrow.Author.Tests.{ltb-true, ltb-false}
-use Rattle.text.specs.Refusals.{Refusal, short_buffer, number_of}
+use Rattle.text.specs.declared.refusals.Refusal.{Refusal}
+use Rattle.text.specs.declared.refusals.Refusal.TheVariants.{ShortBuffer}
+use Rattle.text.specs.Refusals.{number_of}
 use Rattle.notation.specs.Sets.{FolderSet}
 use Rattle.notation.specs.Accepted.{Accepted}
 use Rattle.notation.specs.Judged.{RefusedText, Verdict, refuses, accepts, Judged, verdict_number}
@@ -17,7 +19,7 @@ use Rattle.filing.specs.Demand1.{SetRefused, short_first, of_text, SetJudged}
 
 -- `into` is what an accepted set leaves
 module _ (size : ℕ) (text before : List ℕ) (answer : ℕ) (after : List ℕ) (into : Verdict → List ℕ) (kept : (r : Refusal) → into (refuses r) ≡ before)
-    (short : length before < size → (answer ≡ number_of short_buffer) × (after ≡ before))
+    (short : length before < size → (answer ≡ number_of ShortBuffer) × (after ≡ before))
     (judged : size ≤ length before → (v : Verdict) → Judged text v → (answer ≡ verdict_number v) × (after ≡ into v)) where
   -- the buffer is short, or the text is refused, or accepted
   data Outcome : Type 0 where
@@ -35,7 +37,7 @@ module _ (size : ℕ) (text before : List ℕ) (answer : ℕ) (after : List ℕ)
       (λ n. let (v, j) = some-verdict text in by-verdict (ltb-false (length before) size n) v j)
 
   refused_why : (r : Refusal) → answer ≡ number_of r → Outcome → SetRefused size text before r
-  refused_why r e (is_short h) = short_first (one-refusal r short_buffer (sym e ∙ (short h).0)) h
+  refused_why r e (is_short h) = short_first (one-refusal r ShortBuffer (sym e ∙ (short h).0)) h
   refused_why r e (is_refused h q j) = of_text h (subst (RefusedText text) (one-refusal q r (sym (judged h (refuses q) j).0 ∙ e)) j)
   refused_why r e (is_accepted h s a) = absurd (some_number r (sym e ∙ (judged h (accepts s) a).0))
 
@@ -44,12 +46,12 @@ module _ (size : ℕ) (text before : List ℕ) (answer : ℕ) (after : List ℕ)
   why-refused r (of_text h j) = (judged h (refuses r) j).0
 
   accepted-why : answer ≡ 0 → Outcome → (size ≤ length before) × ((s : FolderSet) × Accepted text s)
-  accepted-why e (is_short h) = absurd (some_number short_buffer (sym (short h).0 ∙ e))
+  accepted-why e (is_short h) = absurd (some_number ShortBuffer (sym (short h).0 ∙ e))
   accepted-why e (is_refused h r j) = absurd (some_number r (sym (judged h (refuses r) j).0 ∙ e))
   accepted-why e (is_accepted h s a) = (h, (s, a))
 
   either-of : Outcome → (answer ≡ 0) ⊎ ((r : Refusal) × (answer ≡ number_of r))
-  either-of (is_short h) = inr (short_buffer, (short h).0)
+  either-of (is_short h) = inr (ShortBuffer, (short h).0)
   either-of (is_refused h r j) = inr (r, (judged h (refuses r) j).0)
   either-of (is_accepted h s a) = inl (judged h (accepts s) a).0
 

@@ -1,48 +1,43 @@
--- Demand 1.
+-- Every public call, of any bytes.
 use Prim.Native.Nat.{ℕ}
 use mathlib.Core.Path.{◌≡◌, refl, sym, ap, ◌∙◌, subst}
-use mathlib.Core.Bool.{Bool, true, false, cond}
+use mathlib.Core.Bool.{true, cond}
 use mathlib.Core.Logic.{◌↔◌, ◌⊎◌, inl, inr}
-use mathlib.Core.List.{List, [], ◌∷◌}
-use lib.ListN.{length}
+use mathlib.Core.List.{List}
 use borrow.Author.Tests.{ne_eqb}
-use Rattle.text.specs.Refusals.{Refusal, short_buffer, bad_shape, repeated_attribute, number_of}
-use Rattle.text.specs.Answers.{value, number_said}
+use Rattle.text.specs.declared.refusals.Refusal.{Refusal}
+use Rattle.text.specs.declared.refusals.Refusal.TheVariants.{ShortBuffer, BadShape, RepeatedAttribute}
+use Rattle.text.specs.Refusals.{number_of}
+use Rattle.text.specs.Answers.{says}
 use Rattle.notation.specs.Layout.{set_size}
 use Rattle.notation.specs.Reads.{text_of, path_at, folder_of}
 use Rattle.notation.specs.ReadSet.{read_into}
 use Rattle.notation.specs.WriteText.{text_conditions}
 use Rattle.text.proofs.Laws.Numbers.{one-refusal, fifteen-numbers}
-use Rattle.text.specs.Order.{gives, Unmet, given, AnswersBy}
-use Rattle.text.proofs.Laws.Tests.{cases}
-use Rattle.text.proofs.Laws.Order.{answers_by, given-none, given-cons}
+use Rattle.text.specs.Order.{Unmet}
+use Rattle.text.proofs.Laws.Order.{answers_by}
 use Rattle.stored.specs.Automaton.{automaton_size}
-use Rattle.stored.specs.Answers.{opened_says}
-use Rattle.text.specs.Written.{written_says}
 use Rattle.stored.specs.Build.{built_into, write_conditions}
 use Rattle.stored.specs.RunCalls.{start_conditions, start_refusal, start_run, no_counters, open_conditions, open_refusal, open_walk, close_conditions, close_refusal}
 use Rattle.stored.specs.Asking.{ask_conditions, ask_refusal, has_path, has_folder, has_step, has_depth, ask_path, ask_folder, ask_step, ask_prefix, name_refusal}
 use Rattle.stored.specs.Demand3.{Left, started}
 use Rattle.stored.proofs.Laws.Running.OpenName.{no_name}
 use Rattle.stored.specs.declared.counters.Counters.{Counters}
-use Rattle.text.specs.declared.written.Written.{Written}
 use Rattle.filing.specs.Filing.{Outcome, refused, filed, number_given}
 use Rattle.filing.specs.ReportRefusals.{ReportGives, of_lent, left_by, Files}
 use Rattle.filing.specs.FiledReport.{RepeatsAttribute}
 use Rattle.filing.specs.Listing.{refused_line}
 use Rattle.filing.specs.Listed.{listing_conditions, listing_in, refused_conditions}
-use Rattle.filing.specs.Filer.{too_small, Prints}
+use Rattle.filing.specs.Limits.{listing_size}
+use Rattle.filing.specs.Printed.{PrintedFor}
 use Rattle.filing.specs.Demand1.{ReportJudged, Demand1}
 use Rattle.filing.proofs.Laws.Filing.FilingParts.{given-refused, given-filed}
 use Rattle.filing.proofs.Laws.Filing.FilingOrder.{report-only}
 use Rattle.filing.proofs.Laws.Filing.FilingRepeats.{repeats-given}
-use Rattle.filing.proofs.Laws.Listing.PrintedText.{printed-text-some}
+use Rattle.filing.proofs.Laws.Listing.PrintedText.{listing-total}
+use Rattle.filing.proofs.Laws.Demand1.Shown.{printed-by}
 use Rattle.filing.proofs.Laws.Demand1.Sets.{set-judged}
 use Rattle.filing.proofs.Laws.Demand1.Calls.{given_is, kept, some-given, some-said, written-by}
-
--- one condition alone
-alone : (b : Bool) (r : Refusal) → given (gives b r ∷ []) ≡ cond b (number_of r) 0
-alone b r = given-cons b r [] ∙ rw given-none
 
 -- a report
 module _ (a run : List ℕ) (c : Counters) (report : List ℕ) (answer : ℕ) (run' : List ℕ) (c' : Counters) (f : Files a run c report answer run' c') where
@@ -60,50 +55,36 @@ module _ (a run : List ℕ) (c : Counters) (report : List ℕ) (answer : ℕ) (r
       let all : left_by a run c f.outcome ≡ t = ap (left_by a run c) e ∙ h in
       (f.run_after ∙ ap (λ (t : Left). t.bytes) all, f.counters_after ∙ ap (λ (t : Left). t.counters) all)
 
-  left-untouched : (answer ≡ number_of short_buffer) ⊎ (answer ≡ number_of bad_shape) → (run' ≡ run) × (c' ≡ c)
-  left-untouched (inl e) = left_by-is short_buffer (record { bytes = run; counters = c }) (why short_buffer e) refl
-  left-untouched (inr e) = left_by-is bad_shape (record { bytes = run; counters = c }) (why bad_shape e) refl
+  left-untouched : (answer ≡ number_of ShortBuffer) ⊎ (answer ≡ number_of BadShape) → (run' ≡ run) × (c' ≡ c)
+  left-untouched (inl e) = left_by-is ShortBuffer (record { bytes = run; counters = c }) (why ShortBuffer e) refl
+  left-untouched (inr e) = left_by-is BadShape (record { bytes = run; counters = c }) (why BadShape e) refl
 
   -- it is filed, or refused
   either-of : (o : Outcome Left) → f.outcome ≡ o → (answer ≡ 0) ⊎ ((r : Refusal) × (answer ≡ number_of r) × (f.outcome ≡ refused r))
   either-of (refused r) e = inr (r, f.answers ∙ ap number_given e, e)
   either-of (filed t) e = inl (f.answers ∙ ap number_given e)
 
-  left-fresh : (answer ≡ number_of short_buffer → ⊥) → (answer ≡ number_of bad_shape → ⊥) → (answer ≡ 0 → ⊥) → (run' ≡ start_run a run) × (c' ≡ no_counters)
+  left-fresh : (answer ≡ number_of ShortBuffer → ⊥) → (answer ≡ number_of BadShape → ⊥) → (answer ≡ 0 → ⊥) → (run' ≡ start_run a run) × (c' ≡ no_counters)
   left-fresh h k n = elim (either-of f.outcome refl) [
     | inl e ↦ absurd (n e)
-    | inr (r, is, e) ↦ left_by-is r (started a run) e (rw (ne_eqb (number_of r) (number_of short_buffer) (λ x. h (is ∙ x)), ne_eqb (number_of r) (number_of bad_shape) (λ x. k (is ∙ x))))
+    | inr (r, is, e) ↦ left_by-is r (started a run) e (rw (ne_eqb (number_of r) (number_of ShortBuffer) (λ x. h (is ∙ x)), ne_eqb (number_of r) (number_of BadShape) (λ x. k (is ∙ x))))
   ]
 
   refusals-of : (r : Refusal) → (answer ≡ number_of r) ↔ ReportGives a run report (refused r)
   refusals-of r = (λ e. subst (ReportGives a run report) (why r e) f.given, number (refused r))
 
-  again : ReportGives a run report (refused repeated_attribute) ↔ (Unmet (start_conditions a run) × RepeatsAttribute report)
+  again : ReportGives a run report (refused RepeatedAttribute) ↔ (Unmet (start_conditions a run) × RepeatsAttribute report)
   again = repeats-given a run report
 
   report-judged : ReportJudged a run c report answer run' c'
   report-judged = record {
     refusals = refusals-of;
-    repeats = (λ e. again.0 ((refusals-of repeated_attribute).0 e), λ h. (refusals-of repeated_attribute).1 (again.1 h));
+    repeats = (λ e. again.0 ((refusals-of RepeatedAttribute).0 e), λ h. (refusals-of RepeatedAttribute).1 (again.1 h));
     accepted = (taken, λ t. number (filed t.0) t.1);
     either = elim (either-of f.outcome refl) [ inl e ↦ inl e | inr (r, is, e) ↦ inr (r, is) ];
     untouched = left-untouched;
     fresh = left-fresh;
   }
-
--- the program's one call
-module _ (text report a run out : List ℕ) (answer : Written) (a' run' out' : List ℕ) (p : Prints text report a run out answer a' run' out') where
-  printed-says : too_small a run out ≡ false → (n : ℕ) × (written_says answer ≡ value n)
-  printed-says h = let (bytes, t) = printed-text-some text report in (length bytes, (p.printed h bytes t).answers)
-
-  print-answers : AnswersBy (gives (too_small a run out) short_buffer ∷ []) (written_says answer)
-  print-answers =
-      cases (too_small a run out)
-      (λ y. answers_by (gives (too_small a run out) short_buffer ∷ []) 0 (written_says answer) ((p.short y).0 ∙ rw (alone (too_small a run out) short_buffer, y)))
-      (λ n. let (k, e) = printed-says n in answers_by (gives (too_small a run out) short_buffer ∷ []) k (written_says answer) (e ∙ rw (alone (too_small a run out) short_buffer, n)))
-
-  print-left : (number_said (written_says answer) ≡ 0 → ⊥) → (a' ≡ a) × ((run' ≡ run) × (out' ≡ out))
-  print-left h = cases (too_small a run out) (λ y. (p.short y).1) (λ n. absurd (h (ap number_said (printed-says n).1)))
 
 pub demand1 : Demand1
 unfolding start_refusal open_refusal close_refusal ask_refusal ask_path ask_folder ask_step ask_prefix name_refusal
@@ -119,8 +100,8 @@ demand1 = record {
     λ n. let h = some-given (start_refusal a run) answer s.answers n in (s.run_after ∙ kept (start_refusal a run) _ run h, s.counters_after ∙ kept (start_refusal a run) _ c h),
   );
   opens = λ a run c e answer run' c' o. (
-    answers_by (open_conditions a run c e) (open_walk a run e).moves (opened_says answer) o.answers,
-    λ n. let h = some-said (open_refusal a run c e) (open_walk a run e).moves (opened_says answer) o.answers n in
+    answers_by (open_conditions a run c e) (open_walk a run e).moves (says answer) o.answers,
+    λ n. let h = some-said (open_refusal a run c e) (open_walk a run e).moves (says answer) o.answers n in
         (o.run_after ∙ kept (open_refusal a run c e) _ run h, o.counters_after ∙ kept (open_refusal a run c e) _ c h),
   );
   closes = λ a run c e answer run' c' s. (
@@ -135,5 +116,5 @@ demand1 = record {
   files = report-judged;
   lists = λ a run c before answer after w. written-by (listing_conditions a run c before) (listing_in a run c) before answer after w;
   lists_refusal = λ n before answer after w. written-by (refused_conditions before) (refused_line n) before answer after w;
-  prints = λ text report a run out answer a' run' out' p. (print-answers text report a run out answer a' run' out' p, print-left text report a run out answer a' run' out' p);
+  prints = printed-by listing_size PrintedFor listing-total;
 }

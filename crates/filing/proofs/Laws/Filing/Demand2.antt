@@ -1,4 +1,4 @@
--- Demand 2, whole: of every set, an accepted one too, and of all bytes.
+-- Filing by XPath 1.0, whole: of every set, an accepted one too, and of all bytes.
 use Prim.Native.Nat.{ℕ, ◌≤◌}
 use mathlib.Core.Path.{◌≡◌, refl, sym, ap, ◌∙◌, subst}
 use mathlib.Core.Logic.{◌↔◌}
@@ -13,7 +13,7 @@ use Rattle.text.specs.Lists.{non_empty, any}
 use Rattle.notation.specs.Sets.{FolderSet}
 use Rattle.notation.specs.Activity.{fits}
 use Rattle.notation.proofs.Laws.Meaning.Fit.{fits-is}
-use Rattle.text.specs.Refusals.{not_one_root}
+use Rattle.text.specs.declared.refusals.Refusal.TheVariants.{NotOneRoot}
 use Rattle.text.specs.Order.{first}
 use Rattle.model.specs.Calls.{Call, Level, State, open_names, path_of_place, fresh, run}
 use Rattle.model.specs.Folders.{folder_matched}
@@ -122,7 +122,7 @@ module _ (set : FolderSet) (bytes : List ℕ) (m : State) (f : FiledWith set byt
   closes : m.closes ≡ count_in (document_in report)
   closes =
       let g : Sound set m = subst (Sound set) after-calls (sound set (calls_in events)) in
-      let shut : length m.levels ≡ 0 = none_open m.levels (neither (eqb m.opens 0) (not (not (non_empty m.levels))) (unmet _ not_one_root [] ended.1)).1 in
+      let shut : length m.levels ≡ 0 = none_open m.levels (neither (eqb m.opens 0) (not (not (non_empty m.levels))) (unmet _ NotOneRoot [] ended.1)).1 in
       omega (arith, g.balance, shut, opens)
 
   moves : m.moves ≤ childless_in 0 (document_in report)

@@ -1,17 +1,17 @@
--- Demand 2, from the bytes of a set's text on.
+-- Filing by XPath 1.0, from the bytes of a set's text on.
+use Rattle.std.specs.Prelude.{Result}
+use Rattle.text.specs.declared.refusals.Refusal.{Refusal}
 use mathlib.Core.Path.{◌≡◌, sym, ap₂, ◌∙◌, subst}
 use mathlib.Core.List.{List, ◌++◌}
 use lib.ListN.{length, take, drop, take-append-drop}
 use Prim.Native.Nat.{ℕ, ◌≤◌}
 use Rattle.notation.specs.Limits.{max_set_bytes}
 use Rattle.notation.specs.Sets.{FolderSet}
-use Rattle.text.specs.Answers.{value}
+use Rattle.text.specs.Answers.{value, says}
 use Rattle.notation.specs.Accepted.{Accepted}
 use Rattle.notation.specs.Judged.{accepts}
 use Rattle.stored.specs.Automaton.{automaton_size}
-use Rattle.text.specs.Written.{written_says}
 use Rattle.stored.specs.Build.{Built, SetWritten}
-use Rattle.text.specs.declared.written.Written.{Written}
 use Rattle.stored.proofs.Laws.Building.WriteSet.{written-length, written-text, written-rest}
 use Rattle.filing.specs.Demand2Whole.{Demand2Whole}
 use Rattle.stored.proofs.Laws.Building.BuiltSet.{automaton-taken, built-automaton, built-means}
@@ -21,8 +21,8 @@ module _ (text before a : List ℕ) (s : FolderSet) (acc : Accepted text s) (b :
   abbrev rest : List ℕ
   rest = drop automaton_size before
 
-  written_back-is : (out : List ℕ) → max_set_bytes ≤ length out → (w : Written) (out' : List ℕ) → SetWritten a out w out'
-      → (written_says w ≡ value (length text)) × (out' ≡ text ++ drop (length text) out)
+  written_back-is : (out : List ℕ) → max_set_bytes ≤ length out → (w : Result ℕ Refusal) (out' : List ℕ) → SetWritten a out w out'
+      → (says w ≡ value (length text)) × (out' ≡ text ++ drop (length text) out)
   written_back-is out room w out' h =
       let k = subst (λ (x : List ℕ). SetWritten x out w out') (built-automaton text s acc before a b) h in (
         written-length text s acc rest out room w out' k,

@@ -3,7 +3,7 @@ use Prim.Native.Nat.{ℕ}
 use mathlib.Core.Path.{◌≡◌, refl, subst}
 use mathlib.Core.Option.{Option, none, some}
 use mathlib.Core.List.{List, [], ◌∷◌, ◌++◌}
-use Rattle.text.specs.Refusals.{Refusal}
+use Rattle.text.specs.declared.refusals.Refusal.{Refusal}
 use Rattle.text.specs.Order.{Condition, first}
 use Rattle.documents.specs.Document.{Event, events_of}
 use Rattle.documents.specs.Reading.{read_report}

@@ -12,7 +12,9 @@ use borrow.Author.Tests.{lt-leb, eqb-true}
 use native.Mathlib.Omega.{arith}
 use Rattle.text.specs.Names.{Name}
 use Rattle.notation.specs.Sets.{FolderSet}
-use Rattle.text.specs.Refusals.{Refusal, too_large, invalid_byte, syntax_error, over_capacity, repeated_attribute, number_of}
+use Rattle.text.specs.declared.refusals.Refusal.{Refusal}
+use Rattle.text.specs.declared.refusals.Refusal.TheVariants.{TooLarge, InvalidByte, SyntaxError, OverCapacity, RepeatedAttribute}
+use Rattle.text.specs.Refusals.{number_of}
 use Rattle.text.specs.Lists.{every, any}
 use Rattle.model.specs.Limits.{max_opens}
 use Rattle.text.specs.Order.{Condition, holds, refusal_of, first}
@@ -108,22 +110,22 @@ module _ (set : FolderSet) where
     refused-among r h =
         let is : (q : Refusal) → among (number_of q) ≡ true → ◌≡◌ {A = Outcome State} (refused r) (refused q) → among (number_of r) ≡ true = λ q k e. let same : r ≡ q = cc in ap (λ (x : Refusal). among (number_of x)) same ∙ k in
         elim h [
-          | inl (l, e) ↦ is too_large refl e
+          | inl (l, e) ↦ is TooLarge refl e
           | inr (short, d) ↦ elim d [
-            | inl (l, e) ↦ is invalid_byte refl e
+            | inl (l, e) ↦ is InvalidByte refl e
             | inr (l, d) ↦ elim d [
-              | inl (l, e) ↦ is syntax_error refl e
+              | inl (l, e) ↦ is SyntaxError refl e
               | inr (l, d) ↦ elim d [
-                | inl (l, e) ↦ is repeated_attribute refl e
+                | inl (l, e) ↦ is RepeatedAttribute refl e
                 | inr (l, (run, f)) ↦ tokens-among r (omega arith) run f
               ]
             ]
           ]
         ]
 
-    pub never-full : Refused set bytes over_capacity → ⊥
+    pub never-full : Refused set bytes OverCapacity → ⊥
     unfolding any
-    never-full h = clash (refused-among over_capacity h) refl
+    never-full h = clash (refused-among OverCapacity h) refl
 
     -- the number given is 0 or one with which a report is refused
     pub given-among : Memᴰ (number_given (file_with set bytes)) report_numbers

@@ -9,7 +9,8 @@ use lib.ListN.{length}
 use borrow.Author.Tests.{ltb-true, lt-ltb, not-true}
 use Rattle.text.specs.Lists.{every, any}
 use Rattle.notation.specs.Sets.{FolderSet}
-use Rattle.text.specs.Refusals.{Refusal, syntax_error, repeated_attribute}
+use Rattle.text.specs.declared.refusals.Refusal.{Refusal}
+use Rattle.text.specs.declared.refusals.Refusal.TheVariants.{SyntaxError, RepeatedAttribute}
 use Rattle.text.specs.Order.{Condition, gives, refusal_of, FirstOf, first, given}
 use Rattle.model.specs.Calls.{State, fresh}
 use Rattle.text.proofs.Laws.Tests.{clash, zero_one}
@@ -72,7 +73,7 @@ unfolding Decided
 filed-run set report m f = decided-later (λ o. (run : RunOfTokens report) × (file_tokens (shared_machine set) (fresh set) run.tokens ≡ o)) m (report_order report) [] f
 
 pub filed-unrepeated : (set : FolderSet) (report : List ℕ) (m : State) → FiledWith set report m → (run : RunOfTokens report) → Repeats run.tokens → ⊥
-filed-unrepeated set report m f run again = decided-unmet _ m _ repeated_attribute [] (decided-later _ m (_ ∷ _ ∷ _ ∷ []) (_ ∷ []) f) (run, again)
+filed-unrepeated set report m f run again = decided-unmet _ m _ RepeatedAttribute [] (decided-later _ m (_ ∷ _ ∷ _ ∷ []) (_ ∷ []) f) (run, again)
 
 both-tests : {order later : List Reason} {tests more : List Condition} → Tests order tests → Tests later more → Tests (order ++ later) (tests ++ more)
 both-tests no_tests u = u
@@ -119,7 +120,7 @@ outcome-is : {S : Type 0} (k : Machine S) (s : S) {before : List Reason} (tests 
 unfolding file_report
 outcome-is k s tests t report o =
     decided s (λ t. file_tokens k t (tokens_in (read_report report))) _ o (both-tests t (report-tests report))
-    (λ n. tokens-found k s report o (read_report report) refl (unmet _ syntax_error _ (later-unmet (_ ∷ _ ∷ []) _ (later-unmet tests (report_tests report) n))))
+    (λ n. tokens-found k s report o (read_report report) refl (unmet _ SyntaxError _ (later-unmet (_ ∷ _ ∷ []) _ (later-unmet tests (report_tests report) n))))
 
 -- with the shared machine of a set, and on what is stored
 pub filing-is : (set : FolderSet) (report : List ℕ) (o : Outcome State) → FilingGives set report o ↔ (file_with set report ≡ o)

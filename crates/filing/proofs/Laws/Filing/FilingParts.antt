@@ -3,7 +3,8 @@ use mathlib.Core.Path.{◌≡◌, refl, sym, ap, ◌∙◌}
 use mathlib.Core.Bool.{Bool, true}
 use mathlib.Core.Option.{Option, none, some}
 use mathlib.Core.List.{List, [], ◌∷◌, ◌++◌}
-use Rattle.text.specs.Refusals.{Refusal, number_of}
+use Rattle.text.specs.declared.refusals.Refusal.{Refusal}
+use Rattle.text.specs.Refusals.{number_of}
 use Rattle.text.proofs.Laws.Numbers.{one-refusal, some_number}
 use Rattle.text.specs.Order.{first}
 use Rattle.text.proofs.Laws.Tests.{zero_one}

@@ -9,7 +9,9 @@ use mathlib.Core.List.{List, [], ◌∷◌}
 use lib.Dec.{eqb}
 use Rattle.notation.specs.Sets.{FolderSet}
 use Rattle.text.specs.Lists.{every}
-use Rattle.text.specs.Refusals.{Refusal, short_buffer, bad_shape, repeated_attribute, number_of}
+use Rattle.text.specs.declared.refusals.Refusal.{Refusal}
+use Rattle.text.specs.declared.refusals.Refusal.TheVariants.{ShortBuffer, BadShape, RepeatedAttribute}
+use Rattle.text.specs.Refusals.{number_of}
 use Rattle.text.specs.Order.{Condition, gives, refusal_of, Unmet, first, given}
 use Rattle.text.proofs.Laws.Tests.{cases, clash, zero_one}
 use Rattle.text.proofs.Laws.Order.{first-has, given_by, not-given}
@@ -24,7 +26,7 @@ use Rattle.filing.specs.FiledReport.{RepeatsAttribute}
 use Rattle.filing.proofs.Laws.Filing.FilingParts.{unless-refused, either-refused, events-refused}
 
 abbrev other : Refusal → Bool
-other r = not (eqb (number_of r) (number_of repeated_attribute))
+other r = not (eqb (number_of r) (number_of RepeatedAttribute))
 
 abbrev other_given : Condition → Bool
 other_given c = other (refusal_of c)
@@ -38,7 +40,7 @@ module _ {S : Type 0} (k : Machine S) (s : S) (event-other : (t : S) (e : Event)
       (λ e. events-refused k (λ t es. Unit {0}) other (λ t e es q p k. first-has other_given _ q (event-other t e) k) (λ t e es p k. tt) (events_of ts) s r tt e)
       (λ t e. first-has other_given (end_order k t) r refl (unless-refused _ t r e))
 
-  repeats-decided : (report : List ℕ) → OutcomeOf k s [] report (refused repeated_attribute) ↔ RepeatsAttribute report
+  repeats-decided : (report : List ℕ) → OutcomeOf k s [] report (refused RepeatedAttribute) ↔ RepeatsAttribute report
   unfolding Decided
   repeats-decided report = (
     λ h. elim h [
@@ -49,7 +51,7 @@ module _ {S : Type 0} (k : Machine S) (s : S) (event-other : (t : S) (e : Event)
           | inl (l, e) ↦ zero_one (cc)
           | inr (l, d) ↦ elim d [
             | inl ((run, again), e) ↦ (omega arith, cases (every listed report) (λ t. t) (λ f. absurd (known f)), (run, again))
-            | inr (l, (run, f)) ↦ clash (tokens-other run.tokens repeated_attribute f) refl
+            | inr (l, (run, f)) ↦ clash (tokens-other run.tokens RepeatedAttribute f) refl
           ]
         ]
       ]
@@ -65,7 +67,7 @@ shared-other set m (closing n) = refl
 shared-other set m (text_here b) = refl
 shared-other set m (comment_here b) = refl
 
-pub repeats-refused : (set : FolderSet) (report : List ℕ) → Refused set report repeated_attribute ↔ RepeatsAttribute report
+pub repeats-refused : (set : FolderSet) (report : List ℕ) → Refused set report RepeatedAttribute ↔ RepeatsAttribute report
 repeats-refused set = repeats-decided (shared_machine set) (fresh set) (shared-other set)
 
 -- on what is stored, with any automaton and run: where the start is not refused
@@ -82,14 +84,14 @@ none-given true d q r f g = absurd (f refl)
 none-given false true q r f g = absurd (g refl)
 none-given false false q r f g = refl
 
-pub repeats-given : (a run report : List ℕ) → ReportGives a run report (refused repeated_attribute) ↔ (Unmet (start_conditions a run) × RepeatsAttribute report)
+pub repeats-given : (a run report : List ℕ) → ReportGives a run report (refused RepeatedAttribute) ↔ (Unmet (start_conditions a run) × RepeatsAttribute report)
 unfolding Decided
 repeats-given a run report = (
   λ h. elim h [
     | inl (l, e) ↦ zero_one (cc)
     | inr (sized, d) ↦ elim d [
       | inl (l, e) ↦ zero_one (cc)
-      | inr (formed, d) ↦ ((given_by (start_conditions a run)).accepted.0 (none-given _ _ short_buffer bad_shape sized formed), own.0 d)
+      | inr (formed, d) ↦ ((given_by (start_conditions a run)).accepted.0 (none-given _ _ ShortBuffer BadShape sized formed), own.0 d)
     ]
   ],
   λ (unmet, again).
@@ -98,5 +100,5 @@ repeats-given a run report = (
       inr (λ t. clash t sized, inr (λ t. clash t formed, own.1 again)),
 )
   where
-    own : OutcomeOf (stored_machine a) (started a run) [] report (refused repeated_attribute) ↔ RepeatsAttribute report
+    own : OutcomeOf (stored_machine a) (started a run) [] report (refused RepeatedAttribute) ↔ RepeatsAttribute report
     own = repeats-decided (stored_machine a) (started a run) (stored_other a) report

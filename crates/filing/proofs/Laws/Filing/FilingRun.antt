@@ -11,7 +11,7 @@ use native.Mathlib.Omega.{arith}
 use Rattle.text.specs.Names.{Name}
 use Rattle.text.specs.Lists.{every, non_empty, any}
 use Rattle.notation.specs.Sets.{FolderSet}
-use Rattle.text.specs.Refusals.{not_one_root}
+use Rattle.text.specs.declared.refusals.Refusal.TheVariants.{NotOneRoot}
 use Rattle.notation.specs.Activity.{fits}
 use Rattle.text.proofs.Laws.Bytes.SameName.{same_name-is}
 use Rattle.text.specs.Order.{first}
@@ -39,7 +39,7 @@ module _ (set : FolderSet) (P : State → List Event → State → Type 0)
   unfolding refusal
   at-event (opening e) es m n ok p = at_open m n e es ((open-accepted-is m e).1 ok) p
   at-event (closing e) es m n ok p = at-close m n e es ((close-accepted-is m e).1 ok) p
-  at-event (text_here b) es m n ok p = at-text m n b es (unmet (nothing_open m && not (every blank b)) not_one_root [] ok) p
+  at-event (text_here b) es m n ok p = at-text m n b es (unmet (nothing_open m && not (every blank b)) NotOneRoot [] ok) p
   at-event (comment_here b) es m n ok p = at-comment m n b es p
 
   pub taken : (es : List Event) (m n : State) → file_events (shared_machine set) m es ≡ filed n → P m es n
@@ -129,7 +129,7 @@ balance-close set m n e es a p g u =
 
 taken-balanced : (set : FolderSet) (es : List Event) (m n : State) → file_events (shared_machine set) m es ≡ filed n → Balances set m es n
 taken-balanced set =
-    taken set (Balances set) (λ n g u. end-balanced n.levels n.opens (unmet _ not_one_root [] u)) (balance-open set) (balance-close set)
+    taken set (Balances set) (λ n g u. end-balanced n.levels n.opens (unmet _ NotOneRoot [] u)) (balance-open set) (balance-close set)
     (λ m n b es l p g u. text-balanced m.levels (ltb 0 m.opens) b es l (p g u))
     (λ m n b es p g u. comment-balanced m.levels (ltb 0 m.opens) b es (p g u))
 

@@ -11,7 +11,7 @@ use native.Mathlib.Omega.{arith}
 use Rattle.text.specs.Names.{Name}
 use Rattle.text.specs.Lists.{non_empty}
 use Rattle.notation.specs.Sets.{FolderSet}
-use Rattle.text.specs.Refusals.{Refusal}
+use Rattle.text.specs.declared.refusals.Refusal.{Refusal}
 use Rattle.text.specs.Order.{first, number_in, given}
 use Rattle.model.specs.Calls.{as_left, open_call, close_call, Level, State, opened, closed, nothing_open, open_order, close_order, fresh, refusal, step}
 use Rattle.model.proofs.Laws.Machine.Moves.{Few, fresh-few}

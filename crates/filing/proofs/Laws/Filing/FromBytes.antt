@@ -1,4 +1,4 @@
--- Demand 2 of the call itself: what it answers and leaves, and what is then asked, by the report's document.
+-- Filing by XPath 1.0, of the call itself: what it answers and leaves, and what is then asked, by the report's document.
 use Prim.Native.Nat.{ℕ, ◌≤◌, ◌<◌}
 use mathlib.Core.Path.{◌≡◌, refl, sym, ap, ◌∙◌, subst}
 use mathlib.Core.Bool.{Bool, true}
@@ -9,7 +9,9 @@ use lib.ListN.{length, drop}
 use borrow.Author.Tests.{eq-eqb}
 use Rattle.notation.specs.Sets.{Folder, FolderSet, folder_number}
 use Rattle.notation.specs.Form.{paths_of}
-use Rattle.text.specs.Refusals.{Refusal, repeated_attribute, number_of}
+use Rattle.text.specs.declared.refusals.Refusal.{Refusal}
+use Rattle.text.specs.declared.refusals.Refusal.TheVariants.{RepeatedAttribute}
+use Rattle.text.specs.Refusals.{number_of}
 use Rattle.text.specs.Answers.{Answer, value}
 use Rattle.notation.specs.declared.PathPlace.{PathPlace}
 use Rattle.notation.specs.declared.FolderNumber.{FolderNumber}
@@ -161,7 +163,7 @@ demand2-bytes s a w lent long c report answer run' c' f =
     let again = repeats-refused s report in
     record {
       refusals = refusals;
-      repeats = (λ e. again.0 ((refusals repeated_attribute).0 e), λ h. (refusals repeated_attribute).1 (again.1 h));
+      repeats = (λ e. again.0 ((refusals RepeatedAttribute).0 e), λ h. (refusals RepeatedAttribute).1 (again.1 h));
       filings = (
         λ e. let (m, h) = given-filed (file_with s report) (sym is ∙ e) in (m, (filing-is s report (filed m)).1 h),
         λ h. is ∙ ap number_given ((filing-is s report (filed h.0)).0 h.1),

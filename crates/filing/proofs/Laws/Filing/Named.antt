@@ -4,7 +4,6 @@ use mathlib.Core.Path.{◌≡◌, refl, sym}
 use mathlib.Core.Bool.{true}
 use mathlib.Core.List.{List}
 use lib.ListN.{length, drop}
-use Rattle.text.specs.Names.{Name, name_form}
 use Rattle.text.specs.Read.{Read, fail, got}
 use Rattle.text.proofs.Laws.Tests.{and_left}
 use Rattle.text.proofs.Laws.Reads.{WhenRead, holds-got}
@@ -12,21 +11,11 @@ use Rattle.documents.specs.Tokens.{Token, declaration, comment, start_tag, empty
 use Rattle.documents.specs.Reading.{read_token}
 use Rattle.documents.proofs.Laws.Read.ReadSound.{Good, token-sound}
 use Rattle.reports.specs.declared.tokens.Found.{Found}
-use Rattle.reports.specs.declared.tokens.Found.TheVariants.{Nothing, Declaration, Comment, Start, Empty, End, Text}
 use Rattle.documents.proofs.Laws.Printed.TagAt.{Cut}
 use Rattle.reports.specs.Seen.{shown, found_of, name_from, name_to}
+use Rattle.filing.specs.Code.Taking.{Named}
 use Rattle.reports.specs.Code.Seen.{tag_name, name_of_token}
 use Rattle.reports.proofs.Laws.Read.TagName.{spans}
-
--- a tag's name has name form
-abbrev pub Named : Found → Name → Type 0
-Named Nothing e = Unit {0}
-Named (Declaration end) e = Unit {0}
-Named (Comment end) e = Unit {0}
-Named (Start from to end twice) e = name_form e ≡ true
-Named (Empty from to end twice) e = name_form e ≡ true
-Named (End from to end) e = name_form e ≡ true
-Named (Text all end) e = Unit {0}
 
 named : (total : ℕ) (t : Token) (at end : ℕ) → formed_token t ≡ true → Named (shown total t at end) (name_of_token t)
 unfolding formed_token formed_tag

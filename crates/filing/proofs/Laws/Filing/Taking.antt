@@ -7,22 +7,25 @@ use mathlib.Core.Option.{Option, none, some}
 use mathlib.Core.List.{List, [], ◌∷◌}
 use lib.Dec.{eqb}
 use lib.ListN.{length, drop}
-use borrow.Author.Tests.{eq-eqb, ne_eqb, lt-ltb, le-ltb, le-leb, not-false}
-use Rattle.text.proofs.Laws.Tests.{cases, clash, neither, or_left}
+use borrow.Author.Tests.{eq-eqb, ne_eqb, lt-ltb, le-ltb, le-leb, not-true, not-false}
+use Rattle.text.proofs.Laws.Tests.{clash, neither}
 use Rattle.text.specs.Names.{Name}
-use Rattle.text.specs.Refusals.{Refusal, too_large, invalid_byte, syntax_error, not_one_root, repeated_attribute, number_of}
+use Rattle.text.specs.declared.refusals.Refusal.{Refusal}
+use Rattle.text.specs.declared.refusals.Refusal.TheVariants.{TooLarge, InvalidByte, SyntaxError, NotOneRoot, RepeatedAttribute}
+use Rattle.text.specs.Refusals.{number_of}
 use Rattle.text.proofs.Laws.Numbers.{some_number}
 use Rattle.text.specs.Lists.{every, any}
-use Rattle.text.specs.Answers.{number_said}
-use Rattle.text.proofs.Laws.Said.{said-number}
+use Rattle.std.specs.Prelude.{Result, Ok, Err, Option as Maybe, Some, None}
+use Rattle.std.specs.Option.{is_none, ok_or}
+use Rattle.std.specs.Result.{is_err}
+use Rattle.text.specs.Answers.{refusal_in}
 use Rattle.text.specs.Order.{gives, first, number_in, given}
-use Rattle.stored.specs.Answers.{opened_says}
 use Rattle.stored.specs.RunCalls.{depth_of, start_conditions, start_refusal, start_run, open_others, open_refusal, open_walk, open_run, open_counters, close_others, close_run, close_counters, no_counters}
 use Rattle.stored.specs.RunContracts.{Starts, Opens, Closes}
 use Rattle.stored.specs.Usable.{Usable}
 use Rattle.stored.specs.Demand3.{Left, started}
 use Rattle.stored.specs.declared.counters.Counters.{Counters}
-use Rattle.stored.specs.declared.answers.Opened.{Opened}
+use Rattle.text.proofs.Laws.Results.{number_in_said}
 use Rattle.stored.proofs.Laws.Shapes.Given.{open-others, close-others}
 use Rattle.stored.proofs.Laws.Shapes.Kept.{start-usable, open-usable, close-usable}
 use Rattle.stored.proofs.Laws.Running.Restart.{start-restart, open-restart, close-restart}
@@ -37,10 +40,10 @@ use Rattle.documents.specs.Repeats.{attributes_of, names_repeat, repeats_in}
 use Rattle.documents.proofs.Laws.Repeats.{none-repeat}
 use Rattle.reports.specs.Seen.{shown, found_of}
 use Rattle.reports.specs.Code.Seen.{tag_name, name_of_token}
-use Rattle.filing.specs.Filing.{Outcome, refused, filed, and_then, unless, file_events}
+use Rattle.filing.specs.Filing.{Outcome, refused, filed, number_given, and_then, unless, file_events}
 use Rattle.filing.specs.ReportRefusals.{stored_machine, left_by, Files}
 use Rattle.filing.specs.Code.Filing.{is_no_run, tokens_in, file_report}
-use Rattle.filing.specs.Code.Taking.{Answered, Taking, left_in, Leaves, file_open, file_close, file_text, with_repeat, step_found, next_of, Stepping, file_last, run_from}
+use Rattle.filing.specs.Code.Taking.{Answered, Taking, file_open, file_close, file_text, late_declaration, end_of, with_repeat, file_found, repeats, step_found, file_last, run_from}
 use Rattle.filing.proofs.Laws.Filing.FilingParts.{then-filed, then_same, then-more, events-append}
 use Rattle.filing.proofs.Laws.Filing.FilingOrder.{report-is, start-refused, start-lent, once-started, report-own}
 use Rattle.reports.proofs.Laws.Read.Next.{tokens_from, token-next, from_end, from-none, from-late, from_next}
@@ -53,6 +56,24 @@ stops (filed l) n run c t k h = absurd (h t.0)
 pub goes_on : (o : Outcome Left) (n : ℕ) (run : List ℕ) (c : Counters) → Answered o n run c → n ≡ 0 → o ≡ filed (record { bytes = run; counters = c })
 goes_on (refused r) n run c t z = absurd (some_number r (sym t ∙ z))
 goes_on (filed l) n run c t z = ap filed t.1
+
+-- what is missing is refused
+pub missing : {A : Type 0} (m : Maybe A) (q r : Refusal) → ok_or m q ≡ Err r → (m ≡ None) × (q ≡ r)
+missing None q r e = (refl, cc)
+missing (Some x) q r e = cc
+
+pub there_is : {A : Type 0} (m : Maybe A) (q : Refusal) (x : A) → ok_or m q ≡ Ok x → m ≡ Some x
+there_is None q x e = cc
+there_is (Some y) q x e = cc
+
+-- a result is an error where its number is not 0
+pub err_number : {A : Type 0} (r : Result A Refusal) → is_err r ≡ true → refusal_in r ≡ 0 → ⊥
+err_number (Ok v) h z = clash h refl
+err_number (Err q) h z = some_number q z
+
+pub ok_number : {A : Type 0} (r : Result A Refusal) → is_err r ≡ false → refusal_in r ≡ 0
+ok_number (Ok v) h = refl
+ok_number (Err q) h = clash refl h
 
 -- the calls
 
@@ -68,23 +89,24 @@ restarted : (a : List ℕ) (n : ℕ) (run' run₁ run₀ : List ℕ) → run' �
 restarted a zero run' run₁ run₀ h k = ap (start_run a) h ∙ k refl
 restarted a (suc n) run' run₁ run₀ h k = ap (start_run a) (rw (ne_eqb (suc n) 0 (λ z. omega arith)) at h)
 
-module _ (a run : List ℕ) (c : Counters) (e : Name) (u : Usable a run c) (run' : List ℕ) (c' : Counters) (n : ℕ) where
+module _ (a run : List ℕ) (c : Counters) (e : Name) (u : Usable a run c) (run' : List ℕ) (c' : Counters) where
   abbrev t : Left
   t = record { bytes = run; counters = c }
 
-  pub open-taken : (answer : Opened) → n ≡ number_said (opened_says answer) → Opens a run c e answer run' c' → Taking a run (file_open a t e) n run' c'
+  pub open-taken : (answer : Result ℕ Refusal) → Opens a run c e answer run' c' → Taking a run (file_open a t e) (refusal_in answer) run' c'
   unfolding given
-  open-taken answer is o =
-      let same : n ≡ open_refusal a run c e = is ∙ ap number_said o.answers ∙ said-number (open_refusal a run c e) (open_walk a run e).moves in
+  open-taken answer o =
+      let n = refusal_in answer in
+      let same : n ≡ open_refusal a run c e = number_in_said answer (open_refusal a run c e) (open_walk a run e).moves o.answers in
       let r = rw (← same) at o.run_after in
       record {
         answered = settled (first (open_others run c e)) n run' (open_run a run e) run c' (open_counters a run c e) c (same ∙ open-others a run c e u) r (rw (← same) at o.counters_after);
         restarts = restarted a n run' (open_run a run e) run r (λ z. open-restart a run c e (sym same ∙ z));
       }
 
-  pub close-taken : Closes a run c e n run' c' → Taking a run (file_close a t e) n run' c'
+  pub close-taken : (n : ℕ) → Closes a run c e n run' c' → Taking a run (file_close a t e) n run' c'
   unfolding given
-  close-taken o =
+  close-taken n o =
       let r = rw (← o.answers) at o.run_after in
       record {
         answered = settled (first (close_others run e)) n run' (close_run run) run c' (close_counters c) c (o.answers ∙ close-others a run c e u) r (rw (← o.answers) at o.counters_after);
@@ -105,16 +127,6 @@ taken_here a run o n c' t = record { answered = t; restarts = refl }
 
 -- a tag that repeats an attribute's name
 
-pub repeat-answered : (twice : Bool) (o : Outcome Left) (n n' : ℕ) (run : List ℕ) (c : Counters) → n' ≡ cond twice (number_of repeated_attribute) n → Answered o n run c
-    → Answered (with_repeat twice o) n' run c
-repeat-answered true o n n' run c e t = e
-repeat-answered false (refused r) n n' run c e t = e ∙ t
-repeat-answered false (filed l) n n' run c e t = (e ∙ t.0, t.1)
-
-pub repeat-zero : (twice : Bool) (n n' : ℕ) → n' ≡ cond twice (number_of repeated_attribute) n → n' ≡ 0 → n ≡ 0
-repeat-zero true n n' e z = absurd (some_number repeated_attribute (sym e ∙ z))
-repeat-zero false n n' e z = sym e ∙ z
-
 -- in one token or in a later one
 repeat-then : (b later : Bool) (o : Outcome Left) (k l m : Left → Outcome Left) → ((t : Left) → k t ≡ and_then (l t) m)
     → and_then (with_repeat (b || later) o) k ≡ and_then (with_repeat later (and_then (with_repeat b o) l)) m
@@ -131,8 +143,8 @@ token_taken a o x = and_then (with_repeat (names_repeat (attributes_of x)) o) (�
 found-events : (total : ℕ) → total ≤ max_report_bytes → (a : List ℕ) (o : Outcome Left) (x : Token) (at end : ℕ) → (eqb at 0 || not (is_declaration x)) ≡ true
     → step_found a at o (shown total x at end) (name_of_token x) ≡ token_taken a o x
 unfolding file_events first
-found-events total short a o declaration at end h = rw (sym (or-false (eqb at 0)) ∙ h, none-repeat) (sym (then-filed o))
-found-events total short a o (comment c) at end h = rw none-repeat (sym (then-filed o))
+found-events total short a o declaration at end h = rw (sym (or-false (eqb at 0)) ∙ h, none-repeat)
+found-events total short a o (comment c) at end h = rw none-repeat
 found-events total short a o (start_tag n l b) at end h = rw (le-leb total max_report_bytes short) (then_same (with_repeat (names_repeat l) o) _ _ (λ t. sym (then-filed _)))
 found-events total short a o (empty_tag n l b) at end h =
     rw (le-leb total max_report_bytes short)
@@ -140,31 +152,27 @@ found-events total short a o (empty_tag n l b) at end h =
 found-events total short a o (end_tag n b) at end h = rw none-repeat (then_same o _ _ (λ t. sym (then-filed _)))
 found-events total short a o (text ps) at end h = rw none-repeat (then_same o _ _ (λ t. sym (then-filed _)))
 
--- a declaration that is not the first token
-found-late : (total : ℕ) (a : List ℕ) (o : Outcome Left) (x : Token) (at end : ℕ) (e : Name) → (eqb at 0 || not (is_declaration x)) ≡ false
-    → step_found a at o (shown total x at end) e ≡ refused syntax_error
-found-late total a o declaration at end e h = rw (or_left (eqb at 0) false h)
-found-late total a o (comment c) at end e h = clash (or-true (eqb at 0)) h
-found-late total a o (start_tag n l b) at end e h = clash (or-true (eqb at 0)) h
-found-late total a o (empty_tag n l b) at end e h = clash (or-true (eqb at 0)) h
-found-late total a o (end_tag n b) at end e h = clash (or-true (eqb at 0)) h
-found-late total a o (text ps) at end e h = clash (or-true (eqb at 0)) h
+abbrev late : ℕ → Found → Bool
+late at f = is_none (end_of f) || late_declaration at f
 
-shown-next : (total : ℕ) (x : Token) (at end : ℕ) → (eqb at 0 || not (is_declaration x)) ≡ true → next_of total at (shown total x at end) ≡ end
-shown-next total declaration at end h = rw (sym (or-false (eqb at 0)) ∙ h)
-shown-next total (comment c) at end h = refl
-shown-next total (start_tag n l b) at end h = refl
-shown-next total (empty_tag n l b) at end h = refl
-shown-next total (end_tag n b) at end h = refl
-shown-next total (text ps) at end h = refl
+late-shown : (total : ℕ) (x : Token) (at end : ℕ) → late at (shown total x at end) ≡ not (eqb at 0 || not (is_declaration x))
+late-shown total declaration at end = rw or-false
+late-shown total (comment c) at end = rw or-true
+late-shown total (start_tag n l b) at end = rw or-true
+late-shown total (empty_tag n l b) at end = rw or-true
+late-shown total (end_tag n b) at end = rw or-true
+late-shown total (text ps) at end = rw or-true
 
-late-next : (total : ℕ) (x : Token) (at end : ℕ) → (eqb at 0 || not (is_declaration x)) ≡ false → next_of total at (shown total x at end) ≡ total
-late-next total declaration at end h = rw (or_left (eqb at 0) false h)
-late-next total (comment c) at end h = clash (or-true (eqb at 0)) h
-late-next total (start_tag n l b) at end h = clash (or-true (eqb at 0)) h
-late-next total (empty_tag n l b) at end h = clash (or-true (eqb at 0)) h
-late-next total (end_tag n b) at end h = clash (or-true (eqb at 0)) h
-late-next total (text ps) at end h = clash (or-true (eqb at 0)) h
+shown-end : (total : ℕ) (x : Token) (at end : ℕ) → end_of (shown total x at end) ≡ Some end
+shown-end total declaration at end = refl
+shown-end total (comment c) at end = refl
+shown-end total (start_tag n l b) at end = refl
+shown-end total (empty_tag n l b) at end = refl
+shown-end total (end_tag n b) at end = refl
+shown-end total (text ps) at end = refl
+
+same-some : {n m : ℕ} → Some n ≡ Some m → n ≡ m
+same-some e = cc
 
 -- the rest of the tokens after one
 after : (a : List ℕ) (o : Outcome Left) (x : Token) (m : Read (List Token))
@@ -186,14 +194,7 @@ module _ (a s : List ℕ) (short : length s ≤ max_report_bytes) (i : ℕ) (ins
   abbrev Goes : ℕ → Outcome Left → Type 0
   Goes next p = (i < next) × ((next ≤ length s) × (RunAt a p s next ≡ RunAt a o s i))
 
-  goes_same : (next end : ℕ) (p q : Outcome Left) → next ≡ end → p ≡ q → Goes end q → Goes next p
-  goes_same next end p q e f g = rw (e, f) g
-
-  -- 9 ends the reading
-  goes_none : RunAt a o s i ≡ refused syntax_error → Goes (length s) (refused syntax_error)
-  goes_none h = (inside, (omega arith, taken-end a s (length s) (refused syntax_error) (omega arith) ∙ sym h))
-
-  goes-late : (t : Token) (r : List ℕ) → read_token (drop i s) ≡ got t r → (eqb i 0 || not (is_declaration t)) ≡ false → RunAt a o s i ≡ refused syntax_error
+  goes-late : (t : Token) (r : List ℕ) → read_token (drop i s) ≡ got t r → (eqb i 0 || not (is_declaration t)) ≡ false → RunAt a o s i ≡ refused SyntaxError
   goes-late t r e h =
       let (first, d) = neither (eqb i 0) (not (is_declaration t)) h in
       rw first (ap (run_from a o) (from-late s i t r inside e (not-false (is_declaration t) d)))
@@ -205,65 +206,58 @@ module _ (a s : List ℕ) (short : length s ≤ max_report_bytes) (i : ℕ) (ins
       let past : eqb end 0 ≡ false = ne_eqb end 0 (omega (arith, next.1)) in
       (next.1, (next.2, rw past (sym (ap (run_from a o) (from_next s i (eqb i 0) t r inside e h) ∙ after a o t (tokens_from s false end)))))
 
-  -- of a token that was read, or none
-  goes : (m : Read Token) → read_token (drop i s) ≡ m → Goes (next_of (length s) i (found_of (length s) i m)) (step_found a i o (found_of (length s) i m) (tag_name m))
-  goes fail e = goes_none (ap (run_from a o) (from-none s i (eqb i 0) inside e))
-  goes (got t r) e =
-      let end = length s - length r in
-      cases (eqb i 0 || not (is_declaration t))
-      (λ h. goes_same _ end _ (token_taken a o t) (shown-next (length s) t i end h) (found-events (length s) short a o t i end h) (goes-next t r e h))
-      (λ h. goes_same _ (length s) _ (refused syntax_error) (late-next (length s) t i end h) (found-late (length s) a o t i end (name_of_token t) h) (goes_none (goes-late t r e h)))
+  -- where there is none, or one that is a declaration past offset 0, 9 is given
+  late-at : (m : Read Token) → read_token (drop i s) ≡ m → late i (found_of (length s) i m) ≡ true → RunAt a o s i ≡ refused SyntaxError
+  late-at fail e h = ap (run_from a o) (from-none s i (eqb i 0) inside e)
+  late-at (got t r) e h = goes-late t r e (not-true (eqb i 0 || not (is_declaration t)) (sym (late-shown (length s) t i (length s - length r)) ∙ h))
 
--- a fresh run for a refusal
-pub left-done : (fresh : Left) (o : Outcome Left) (n : ℕ) (run : List ℕ) (c : Counters) → Answered o n run c → n ≡ 0 → Leaves fresh o n run c
-left-done fresh o n run c t z = rw (goes_on o n run c t z) (record { answers = z; run_after = refl; counters_after = refl })
+  -- after any other it goes on behind it
+  next-at : (m : Read Token) → read_token (drop i s) ≡ m → late i (found_of (length s) i m) ≡ false → (end : ℕ) → end_of (found_of (length s) i m) ≡ Some end
+      → Goes end (step_found a i o (found_of (length s) i m) (tag_name m))
+  next-at fail e h end k = clash refl h
+  next-at (got t r) e h end k =
+      let here = length s - length r in
+      let first : (eqb i 0 || not (is_declaration t)) ≡ true = not-false (eqb i 0 || not (is_declaration t)) (sym (late-shown (length s) t i here) ∙ h) in
+      let same : end ≡ here = same-some (sym k ∙ shown-end (length s) t i here) in
+      rw (same, found-events (length s) short a o t i here first) (goes-next t r e first)
 
-pub left-fresh : (fresh : Left) (o : Outcome Left) (n : ℕ) (run : List ℕ) (c : Counters) (m : ℕ) (run' : List ℕ) (c' : Counters)
-    → Answered o n run c → (n ≡ 0 → ⊥) → m ≡ n → run' ≡ fresh.bytes → c' ≡ fresh.counters → Leaves fresh o m run' c'
-left-fresh fresh (refused r) n run c m run' c' t h e p q = record { answers = e ∙ t; run_after = p; counters_after = q }
-left-fresh fresh (filed l) n run c m run' c' t h e p q = absurd (h t.0)
+-- text, which outside the root is blank
+module _ (a run : List ℕ) (c : Counters) where
+  abbrev here : Left
+  here = record { bytes = run; counters = c }
 
--- text
-module _ (run : List ℕ) (c : Counters) (all : Bool) (n : ℕ) (c' : Counters) where
-  abbrev text_answered : Type 0
-  text_answered = Answered (file_text (record { bytes = run; counters = c }) all) n run c'
-
-  pub text-blank : all ≡ true → n ≡ 0 → c' ≡ c → text_answered
+  pub text-blank : Taking a run (file_text here true) 0 run c
   unfolding first
-  text-blank h z e = rw (h, and-false (eqb (depth_of run) 0)) (z, rw e)
+  text-blank = rw and-false (record { answered = (refl, refl); restarts = refl })
 
-  pub text-outside : all ≡ false → depth_of run ≡ 0 → n ≡ number_of not_one_root → text_answered
+  pub text-outside : depth_of run ≡ 0 → Taking a run (file_text here false) (number_of NotOneRoot) run c
   unfolding first
-  text-outside h z e = rw (h, eq-eqb (depth_of run) 0 z) e
+  text-outside z = rw (eq-eqb (depth_of run) 0 z) (record { answered = refl; restarts = refl })
 
-  pub text-inside : (depth_of run ≡ 0 → ⊥) → n ≡ 0 → c' ≡ c → text_answered
+  pub text-inside : (depth_of run ≡ 0 → ⊥) → Taking a run (file_text here false) 0 run c
   unfolding first
-  text-inside h z e = rw (ne_eqb (depth_of run) 0 h) (z, rw e)
+  text-inside h = rw (ne_eqb (depth_of run) 0 h) (record { answered = (refl, refl); restarts = refl })
 
--- the end
-module _ (run : List ℕ) (c : Counters) (n : ℕ) (c' : Counters) where
-  abbrev end_answered : Type 0
-  end_answered = Answered (file_last (record { bytes = run; counters = c })) n run c'
-
-  pub end-rootless : c.opens ≡ 0 → n ≡ number_of not_one_root → end_answered
+  -- the end
+  pub end-rootless : c.opens ≡ 0 → Taking a run (file_last here) (number_of NotOneRoot) run c
   unfolding first
-  end-rootless z e = rw (eq-eqb c.opens 0 z) e
+  end-rootless z = rw (eq-eqb c.opens 0 z) (record { answered = refl; restarts = refl })
 
-  pub end-open : (c.opens ≡ 0 → ⊥) → (depth_of run ≡ 0 → ⊥) → n ≡ number_of not_one_root → end_answered
+  pub end-open : (depth_of run ≡ 0 → ⊥) → Taking a run (file_last here) (number_of NotOneRoot) run c
   unfolding first
-  end-open y z e = rw (ne_eqb c.opens 0 y, ne_eqb (depth_of run) 0 z) e
+  end-open z = rw (ne_eqb (depth_of run) 0 z, or-true (eqb c.opens 0)) (record { answered = refl; restarts = refl })
 
-  pub end-well : (c.opens ≡ 0 → ⊥) → depth_of run ≡ 0 → n ≡ 0 → c' ≡ c → end_answered
+  pub end-well : (c.opens ≡ 0 → ⊥) → depth_of run ≡ 0 → Taking a run (file_last here) 0 run c
   unfolding first
-  end-well y z e k = rw (ne_eqb c.opens 0 y, eq-eqb (depth_of run) 0 z) (e, rw k)
+  end-well y z = rw (ne_eqb c.opens 0 y, eq-eqb (depth_of run) 0 z) (record { answered = (refl, refl); restarts = refl })
 
 -- 2 and 8, and else the tokens
 module _ (a : List ℕ) (t : Left) (s : List ℕ) where
-  pub report-long : max_report_bytes < length s → file_report (stored_machine a) t [] s ≡ refused too_large
+  pub report-long : max_report_bytes < length s → file_report (stored_machine a) t [] s ≡ refused TooLarge
   unfolding file_report first
   report-long h = rw (lt-ltb max_report_bytes (length s) h)
 
-  pub report-foreign : length s ≤ max_report_bytes → every listed s ≡ false → file_report (stored_machine a) t [] s ≡ refused invalid_byte
+  pub report-foreign : length s ≤ max_report_bytes → every listed s ≡ false → file_report (stored_machine a) t [] s ≡ refused InvalidByte
   unfolding file_report first
   report-foreign h k = rw (le-ltb max_report_bytes (length s) h, k)
 
@@ -271,19 +265,15 @@ module _ (a : List ℕ) (t : Left) (s : List ℕ) where
   unfolding file_report first
   report-run h k = rw (le-ltb max_report_bytes (length s) h, k) (go (read_report s))
     where
-      unless-repeat : (b : Bool) (k : Left → Outcome Left) → and_then (unless (first (gives b repeated_attribute ∷ [])) t) (λ t. and_then (k t) file_last) ≡ and_then (and_then (with_repeat b (filed t)) k) file_last
+      unless-repeat : (b : Bool) (k : Left → Outcome Left) → and_then (unless (first (gives b RepeatedAttribute ∷ [])) t) (λ t. and_then (k t) file_last) ≡ and_then (and_then (with_repeat b (filed t)) k) file_last
       unless-repeat true k = refl
       unless-repeat false k = refl
 
       go : (x : Read (List Token))
-          → and_then (unless (first (gives (is_no_run x) syntax_error ∷ gives (repeats_in (tokens_in x)) repeated_attribute ∷ [])) t) (λ t. and_then (file_events (stored_machine a) t (events_of (tokens_in x))) file_last)
+          → and_then (unless (first (gives (is_no_run x) SyntaxError ∷ gives (repeats_in (tokens_in x)) RepeatedAttribute ∷ [])) t) (λ t. and_then (file_events (stored_machine a) t (events_of (tokens_in x))) file_last)
           ≡ and_then (run_from a (filed t) x) file_last
       go fail = refl
       go (got ts r) = unless-repeat (repeats_in ts) (λ t. file_events (stored_machine a) t (events_of ts))
-
-pub left-refused : (fresh : Left) (o : Outcome Left) (r : Refusal) (n : ℕ) (run' : List ℕ) (c' : Counters) → o ≡ refused r → n ≡ number_of r → run' ≡ fresh.bytes → c' ≡ fresh.counters
-    → Leaves fresh o n run' c'
-left-refused fresh o r n run' c' e h p q = rw e (record { answers = h; run_after = p; counters_after = q })
 
 -- the start, and then the report
 module _ (a run : List ℕ) (c : Counters) (n₁ : ℕ) (run₁ : List ℕ) (c₁ : Counters) (s : Starts a run c n₁ run₁ c₁) where
@@ -313,27 +303,50 @@ module _ (a run : List ℕ) (c : Counters) (n₁ : ℕ) (run₁ : List ℕ) (c�
     fresh : run₁ ≡ start_run a run
     fresh = rw starts at s.run_after
 
-    pub fresh-run : (Usable a run₁ no_counters) × (start_run a run₁ ≡ run₁)
-    fresh-run = (rw fresh (start-usable a run starts), rw fresh (start-restart a run))
+    counted : c₁ ≡ no_counters
+    counted = rw starts at s.counters_after
 
-    left_by-is : (report : List ℕ) (o : Outcome Left) → file_report (stored_machine a) (started a run) [] report ≡ o → left_in (started a run) o ≡ left_by a run c o
-    left_by-is report (refused r) e = rw (report-own a (started a run) report r e)
-    left_by-is report (filed t) e = refl
+    pub fresh-run : Usable a run₁ c₁
+    fresh-run = rw (fresh, counted) (start-usable a run starts)
 
-    pub filed-on : (report : List ℕ) (n : ℕ) (run' : List ℕ) (c' : Counters)
-        → Leaves (record { bytes = run₁; counters = no_counters }) (file_report (stored_machine a) (record { bytes = run₁; counters = no_counters }) [] report) n run' c'
-        → Files a run c report n run' c'
-    filed-on report n run' c' l =
-        let m = rw fresh at l in
-        let o = file_report (stored_machine a) (started a run) [] report in
-        let left = left_by-is report o refl in
-        record {
-          outcome = o;
-          given = (report-is a run report o).1 (once-started a run report starts);
-          answers = m.answers;
-          run_after = m.run_after ∙ ap (λ (t : Left). t.bytes) left;
-          counters_after = m.counters_after ∙ ap (λ (t : Left). t.counters) left;
-        }
+    -- the report, with what it makes of the fresh run
+    module _ (report : List ℕ) (n : ℕ) (run₂ : List ℕ) (c₂ : Counters)
+        (t : Taking a run₁ (file_report (stored_machine a) (record { bytes = run₁; counters = c₁ }) [] report) n run₂ c₂) where
+      abbrev o : Outcome Left
+      o = file_report (stored_machine a) (started a run) [] report
+
+      same : Answered o n run₂ c₂
+      same = rw (fresh, counted) at t.answered
+
+      numbered : (x : Outcome Left) → Answered x n run₂ c₂ → n ≡ number_given x
+      numbered (refused r) h = h
+      numbered (filed l) h = h.0
+
+      pub filed-done : n ≡ 0 → Files a run c report n run₂ c₂
+      filed-done e =
+          let done = goes_on o n run₂ c₂ same e in
+          record {
+            outcome = o;
+            given = (report-is a run report o).1 (once-started a run report starts);
+            answers = numbered o same;
+            run_after = sym (ap (λ (x : Outcome Left). (left_by a run c x).bytes) done);
+            counters_after = sym (ap (λ (x : Outcome Left). (left_by a run c x).counters) done);
+          }
+
+      fresh-left : (n ≡ 0 → ⊥) → (x : Outcome Left) → o ≡ x → Answered x n run₂ c₂ → left_by a run c x ≡ started a run
+      fresh-left h (refused r) e k = rw (report-own a (started a run) report r e)
+      fresh-left h (filed l) e k = absurd (h k.0)
+
+      pub filed-fresh : (n ≡ 0 → ⊥) → (run' : List ℕ) (c' : Counters) → run' ≡ start_run a run₂ → c' ≡ no_counters → Files a run c report n run' c'
+      filed-fresh h run' c' p q =
+          let left = fresh-left h o refl same in
+          record {
+            outcome = o;
+            given = (report-is a run report o).1 (once-started a run report starts);
+            answers = numbered o same;
+            run_after = p ∙ t.restarts ∙ rw fresh (start-restart a run) ∙ sym (ap (λ (x : Left). x.bytes) left);
+            counters_after = q ∙ sym (ap (λ (x : Left). x.counters) left);
+          }
 
 -- What is left passes the shape test, token after token.
 
@@ -361,24 +374,26 @@ module _ (a : List ℕ) (t : Left) (e : Name) (u : Usable a t.bytes t.counters) 
   unfolding given
   close-fit = unless-fit a (first (close_others t.bytes e)) _ (λ n. close-usable a t.bytes t.counters e u (close-others a t.bytes t.counters e u ∙ ap number_in n))
 
-first-fit : (a : List ℕ) (b : Bool) (o : Outcome Left) → Fit a o → Fit a (cond b o (refused syntax_error))
-first-fit a true o f = f
-first-fit a false o f = tt
+late-fit : (a : List ℕ) (b : Bool) (o : Outcome Left) → Fit a o → Fit a (cond b (refused SyntaxError) o)
+late-fit a true o f = tt
+late-fit a false o f = f
 
 repeat-fit : (a : List ℕ) (twice : Bool) (o : Outcome Left) → Fit a o → Fit a (with_repeat twice o)
 repeat-fit a true o f = tt
 repeat-fit a false o f = f
 
+file-fit : (a : List ℕ) (t : Left) (f : Found) (e : Name) → Usable a t.bytes t.counters → Fit a (file_found a t f e)
+file-fit a t Nothing e u = tt
+file-fit a t (Declaration end) e u = u
+file-fit a t (Comment end) e u = u
+file-fit a t (Start from to end twice) e u = open-fit a t e u
+file-fit a t (Empty from to end twice) e u = then_fit a (file_open a t e) (λ t₂. file_close a t₂ e) (open-fit a t e u) (λ t₂ w. close-fit a t₂ e w)
+file-fit a t (End from to end) e u = close-fit a t e u
+file-fit a t (Text all end) e u = unless-fit a (first (gives (eqb (depth_of t.bytes) 0 && not all) NotOneRoot ∷ [])) t (λ n. u)
+
 found-fit : (a : List ℕ) (at : ℕ) (o : Outcome Left) (f : Found) (e : Name) → Fit a o → Fit a (step_found a at o f e)
-found-fit a at o Nothing e u = tt
-found-fit a at o (Declaration end) e u = first-fit a (eqb at 0) o u
-found-fit a at o (Comment end) e u = u
-found-fit a at o (Start from to end twice) e u = then_fit a (with_repeat twice o) _ (repeat-fit a twice o u) (λ t v. open-fit a t e v)
-found-fit a at o (Empty from to end twice) e u =
-    then_fit a (with_repeat twice o) _ (repeat-fit a twice o u) (λ t v. then_fit a (file_open a t e) (λ t₂. file_close a t₂ e) (open-fit a t e v) (λ t₂ w. close-fit a t₂ e w))
-found-fit a at o (End from to end) e u = then_fit a o _ u (λ t v. close-fit a t e v)
-found-fit a at o (Text all end) e u =
-    then_fit a o _ u (λ t v. unless-fit a (first (gives (eqb (depth_of t.bytes) 0 && not all) not_one_root ∷ [])) t (λ n. v))
+found-fit a at o f e u =
+    late-fit a (late at f) _ (then_fit a (with_repeat (repeats f) o) _ (repeat-fit a (repeats f) o u) (λ t v. file-fit a t f e v))
 
 -- what an open that is accepted leaves
 pub opened-usable : (a run : List ℕ) (c : Counters) (e : Name) (n : ℕ) (run' : List ℕ) (c' : Counters) → Taking a run (file_open a (record { bytes = run; counters = c }) e) n run' c'
@@ -392,33 +407,40 @@ pub record Turn (a s : List ℕ) (i n : ℕ) (run : List ℕ) (c : Counters) (al
   pub same : RunAt a outcome s i ≡ all
   pub fit : Fit a outcome
 
-module _ (a run : List ℕ) (n : ℕ) (c : Counters) (s : List ℕ) (i n' : ℕ) (run' : List ℕ) (c' : Counters) (next : ℕ) where
-  -- a step, by what the code says of the token
-  pub stepped : (f : Found) → found_of (length s) i (read_token (drop i s)) ≡ f
-      → ((o : Outcome Left) → Answered o n run c → Taking a run (step_found a i o f (tag_name (read_token (drop i s)))) n' run' c') → next ≡ next_of (length s) i f
-      → Stepping a run n c s i n' run' c' next
-  stepped f is t e = record { takes = λ o h. rw is (t o h); onward = rw is e }
+module _ (a s : List ℕ) (short : length s ≤ max_report_bytes) (i : ℕ) (inside : i < length s) (n : ℕ) (run : List ℕ) (c : Counters) (all : Outcome Left) (t : Turn a s i n run c all) where
+  abbrev met : Found
+  met = found_of (length s) i (read_token (drop i s))
 
-  -- the same of a tag, by calls with its name as it was cut from the bytes
-  pub tag-stepped : (f : Found) → found_of (length s) i (read_token (drop i s)) ≡ f → (part : Name) → part ≡ tag_name (read_token (drop i s)) → (m : ℕ) (d : Counters)
-      → ((o : Outcome Left) → Answered o n run c → Taking a run (step_found a i o f part) m run' d)
-      → (n' ≡ m) × ((c' ≡ d) × (next ≡ next_of (length s) i f)) → Stepping a run n c s i n' run' c' next
-  tag-stepped f is part named m d t e = stepped f is (λ o h. rw (e.0, e.1.0, ← named) (t o h)) e.1.1
+  -- no token, or a late declaration
+  late-all : (f : Found) → f ≡ met → late i f ≡ true → all ≡ refused SyntaxError
+  late-all f e h = sym t.same ∙ late-at a s short i inside t.outcome (read_token (drop i s)) refl (rw e at h)
 
-  module _ (short : length s ≤ max_report_bytes) (inside : i < length s) (step : Stepping a run n c s i n' run' c' next) where
-    pub turn-past : (i < next) × (next ≤ length s)
-    turn-past =
-        let g = goes a s short i inside (refused syntax_error) (read_token (drop i s)) refl in
-        rw step.onward (g.0, g.1.0)
+  pub turn-none : (f : Found) → f ≡ met → end_of f ≡ None → all ≡ refused SyntaxError
+  turn-none f e h = late-all f e (rw h)
 
-    pub turn-taken : (all : Outcome Left) → Turn a s i n run c all → Turn a s next n' run' c' all
-    turn-taken all t =
-        let g = goes a s short i inside t.outcome (read_token (drop i s)) refl in
-        let f = found_of (length s) i (read_token (drop i s)) in
-        let e = tag_name (read_token (drop i s)) in
+  pub turn-late : (f : Found) → f ≡ met → late_declaration i f ≡ true → all ≡ refused SyntaxError
+  turn-late f e h = late-all f e (rw (h, or-true (is_none (end_of f))))
+
+  -- any other
+  module _ (f : Found) (e : f ≡ met) (h : late_declaration i f ≡ false) (end : ℕ) (k : end_of f ≡ Some end) where
+    early : late i f ≡ false
+    early = rw (k, h)
+
+    abbrev step : Outcome Left
+    step = and_then (with_repeat (repeats f) t.outcome) (λ l. file_found a l f (tag_name (read_token (drop i s))))
+
+    goes : Goes a s short i inside t.outcome end (step_found a i t.outcome met (tag_name (read_token (drop i s))))
+    goes = next-at a s short i inside t.outcome (read_token (drop i s)) refl (rw e at early) end (rw e at k)
+
+    pub turn-past : (i < end) × (end ≤ length s)
+    turn-past = (goes.0, goes.1.0)
+
+    pub turn-taken : (n' : ℕ) (run' : List ℕ) (c' : Counters) → Taking a run step n' run' c' → Turn a s end n' run' c' all
+    turn-taken n' run' c' x =
+        let same : step_found a i t.outcome f (tag_name (read_token (drop i s))) ≡ step = rw early in
         record {
-          outcome = step_found a i t.outcome f e;
-          answered = (step.takes t.outcome t.answered).answered;
-          same = rw step.onward (g.1.1 ∙ t.same);
-          fit = found-fit a i t.outcome f e t.fit;
+          outcome = step;
+          answered = x.answered;
+          same = rw (← same, e) (goes.1.1 ∙ t.same);
+          fit = rw (← same) (found-fit a i t.outcome f (tag_name (read_token (drop i s))) t.fit);
         }

@@ -3,14 +3,10 @@ use Prim.Native.Nat.{ℕ}
 use mathlib.Core.Path.{◌≡◌, refl, sym, ap, ◌∙◌}
 use mathlib.Core.List.{List, ◌∷◌}
 use Rattle.notation.specs.Sets.{Path, FolderSet}
-use Rattle.text.specs.Refusals.{Refusal, number_of}
 use Rattle.documents.specs.Tree.{Document}
 use Rattle.documents.specs.Document.{document_in}
 use Rattle.documents.proofs.Laws.Trees.OneDocument.{one-document}
-use Rattle.filing.specs.Filing.{refused, filed}
-use Rattle.filing.specs.Listing.{refused_line}
-use Rattle.filing.specs.Printed.{Selecting, no_paths, chosen, left, LinesFor, no_folders, line, no_line, PrintedFor, PrintedOf, its_number, its_listing}
-use Rattle.filing.proofs.Laws.Filing.FilingOrder.{filing-only}
+use Rattle.filing.specs.Printed.{Selecting, no_paths, chosen, left, LinesFor, no_folders, line, no_line, PrintedFor}
 use Rattle.text.proofs.Laws.Tests.{zero_one}
 use Rattle.filing.proofs.Laws.Filing.FilingMoves.{moves-once}
 
@@ -30,19 +26,9 @@ lines-once (line a l) (no_line b r) = let same = selecting-once a b in zero_one 
 lines-once (no_line a l) (line b r) = let same = selecting-once a b in zero_one (cc)
 lines-once (no_line a l) (no_line b r) = lines-once l r
 
-module _ (s : FolderSet) (report : List ℕ) where
-  pub listing-once : (x y : List ℕ) → PrintedFor s report x → PrintedFor s report y → x ≡ y
-  listing-once x y p q =
-      let same : document_in q.has ≡ document_in p.has = one-document report q.has p.has in
-      let lines : p.lines ≡ q.lines = lines-once p.folders (rw same at q.folders) in
-      let moves : p.moves ≡ q.moves = moves-once s p.counted (rw same at q.counted) in
-      p.printed ∙ rw (lines, moves, ← same) (sym q.printed)
-
-  pub printed-once : (x y : List ℕ) → PrintedOf s report x → PrintedOf s report y → x ≡ y
-  printed-once x y (its_number r h) (its_number q g) =
-      let e = filing-only s report (refused r) (refused q) h g in
-      let same : r ≡ q = cc in
-      ap (λ (z : Refusal). refused_line (number_of z)) same
-  printed-once x y (its_number r h) (its_listing m f p) = let e = filing-only s report (refused r) (filed m) h f in zero_one (cc)
-  printed-once x y (its_listing m f p) (its_number r h) = let e = filing-only s report (filed m) (refused r) f h in zero_one (cc)
-  printed-once x y (its_listing m f p) (its_listing n g q) = listing-once x y p q
+pub listing-once : (s : FolderSet) (report x y : List ℕ) → PrintedFor s report x → PrintedFor s report y → x ≡ y
+listing-once s report x y p q =
+    let same : document_in q.has ≡ document_in p.has = one-document report q.has p.has in
+    let lines : p.lines ≡ q.lines = lines-once p.folders (rw same at q.folders) in
+    let moves : p.moves ≡ q.moves = moves-once s p.counted (rw same at q.counted) in
+    p.printed ∙ rw (lines, moves, ← same) (sym q.printed)

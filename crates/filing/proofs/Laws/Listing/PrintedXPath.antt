@@ -1,6 +1,6 @@
 -- From the bytes of a set and a report to the bytes that are printed, by XPath 1.0.
 use Prim.Native.Nat.{ℕ, suc, ◌+◌, ◌<◌, suc-le-suc}
-use mathlib.Core.Path.{◌≡◌, refl, ap, ◌∙◌, subst}
+use mathlib.Core.Path.{◌≡◌, ap, ◌∙◌, subst}
 use mathlib.Core.Bool.{Bool, true}
 use mathlib.Core.Logic.{◌↔◌}
 use mathlib.Core.List.{List, [], ◌∷◌, ◌++◌}
@@ -11,17 +11,14 @@ use native.Mathlib.Omega.{arith}
 use Rattle.notation.specs.Sets.{Path, folder, FolderSet}
 use Rattle.notation.specs.Form.{paths_of}
 use Rattle.notation.specs.Print.{footer}
-use Rattle.text.specs.Refusals.{number_of}
 use Rattle.model.specs.Calls.{State, fresh, run as after}
 use Rattle.text.proofs.Laws.Tests.{cases, clash}
 use Rattle.documents.specs.Tree.{Document}
 use Rattle.documents.specs.Document.{Event, events_in, document_in}
-use Rattle.filing.specs.Filing.{Outcome, refused, filed, FiledWith, calls_in, all_accepted}
-use Rattle.filing.specs.Code.Filing.{file_with}
+use Rattle.filing.specs.Filing.{FiledWith, calls_in, all_accepted}
 use Rattle.filing.specs.Demand2.{SelectsElement, OfDocument}
-use Rattle.filing.specs.Listing.{filed_header, matched_paths, line_of, lines_from, moves_line, listing, refused_line}
-use Rattle.filing.specs.Printed.{Selecting, no_paths, chosen, left, LinesFor, no_folders, line, no_line, MovesIn, PrintedFor, PrintedOf, its_number, its_listing}
-use Rattle.filing.proofs.Laws.Filing.FilingOrder.{filing-is}
+use Rattle.filing.specs.Listing.{filed_header, matched_paths, line_of, lines_from, moves_line, listing}
+use Rattle.filing.specs.Printed.{Selecting, no_paths, chosen, left, LinesFor, no_folders, line, no_line, MovesIn, PrintedFor}
 use Rattle.filing.proofs.Laws.Filing.FilingMoves.{calls-moves}
 use Rattle.filing.proofs.Laws.Filing.Demand2.{of-document}
 
@@ -78,18 +75,3 @@ module _ (s : FolderSet) (report : List ℕ) (m : State) (f : FiledWith s report
         most = d.moves;
         printed = ap (λ (n : ℕ). filed_header ++ (lines_from m.matched 0 s ++ (moves_line n m.moves ++ footer))) d.opens;
       }
-
--- what filing a report prints, by its outcome
-abbrev pub printed : FolderSet → Outcome State → List ℕ
-printed set (refused r) = refused_line (number_of r)
-printed set (filed m) = listing set m
-
-abbrev pub filer_prints : FolderSet → List ℕ → List ℕ
-filer_prints set report = printed set (file_with set report)
-
-pub report-printed : (s : FolderSet) (report : List ℕ) → PrintedOf s report (filer_prints s report)
-report-printed s report = go (file_with s report) refl
-  where
-    go : (x : Outcome State) → file_with s report ≡ x → PrintedOf s report (printed s x)
-    go (refused r) e = its_number r ((filing-is s report (refused r)).1 e)
-    go (filed m) e = let f = (filing-is s report (filed m)).1 e in its_listing m f (listing-printed s report m f)

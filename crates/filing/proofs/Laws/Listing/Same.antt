@@ -1,4 +1,5 @@
 -- Within the automaton of a set and the run of a machine's state, the listing by what is stored is the listing of the set and the state.
+use Rattle.std.proofs.Common.{Some}
 use Prim.Native.Nat.{ℕ, zero, suc, ◌+◌, ◌<◌, suc-le-suc}
 use native.Mathlib.Omega.{arith}
 use native.Mathlib.Nat.{zero-add, add-zero, add-suc, suc-add, not-suc-le-zero, le_of_suc-le-suc}
@@ -8,10 +9,10 @@ use mathlib.Core.List.{List, [], ◌∷◌, ◌++◌, append_assoc}
 use lib.ListN.{length, get_or, take, length-append, get_or-append}
 use lib.Seq.{get_or-append-add}
 use Rattle.notation.specs.Sets.{Path, folder, FolderSet, folder_number, folder_paths}
+use Rattle.text.specs.Bytes.{joined}
 use Rattle.text.specs.Lists.{non_empty, any}
 use Rattle.notation.specs.Form.{paths_of}
 use Rattle.notation.specs.Print.{print_path, print_paths, print_folder}
-use Rattle.notation.specs.declared.reads.FolderAt.{FolderAt}
 use Rattle.notation.proofs.Laws.Stored.FolderTable.{no_folder, paths_before, paths-between, paths-before-most}
 use Rattle.model.specs.Folders.{count_from}
 use Rattle.model.specs.Calls.{State}
@@ -48,7 +49,7 @@ module _ (a run : List ℕ) (matched : ℕ → Bool) where
 
   paths-same : (first : ℕ) (ps : List Path) → PlacesSame a run matched first ps
       → paths_listed a run (count_from first (length ps)) ≡ print_paths (matched_paths matched first ps)
-  unfolding paths_listed count_from matched_paths print_paths
+  unfolding joined count_from matched_paths print_paths
   paths-same first [] h = refl
   paths-same first (p ∷ ps) h =
       let x = here first p ps h in
@@ -67,7 +68,7 @@ module _ (a run : List ℕ) (matched : ℕ → Bool) where
   line-is n [] = refl
   line-is n (q ∷ qs) = refl
 
-  folder-same : (i n first : ℕ) (ps : List Path) → folder_held a i ≡ FolderAt.Folder (record { 0 = n }) (record { 0 = first }) (length ps) → PlacesSame a run matched first ps
+  folder-same : (i n first : ℕ) (ps : List Path) → folder_held a i ≡ Some (record { number = record { 0 = n }; first = record { 0 = first }; paths = length ps }) → PlacesSame a run matched first ps
       → folder_listed a run i ≡ line_of n (matched_paths matched first ps)
   unfolding folder_listed line_listed print_folder
   folder-same i n first ps e h = rw (e, some_same first ps h, paths-same first ps h) (line-is n (matched_paths matched first ps))
@@ -75,7 +76,7 @@ module _ (a run : List ℕ) (matched : ℕ → Bool) where
   folders-same : (i first : ℕ) (fs : FolderSet)
       → ((j : ℕ) → j < length fs → folder_listed a run (i + j) ≡ line_of (folder_number (get_or fs j no_folder)) (matched_paths matched (first + paths_before fs j) (folder_paths (get_or fs j no_folder))))
       → folders_listed a run (count_from i (length fs)) ≡ lines_from matched first fs
-  unfolding folders_listed count_from lines_from paths_of
+  unfolding joined count_from lines_from paths_of
   folders-same i first [] h = refl
   folders-same i first (folder n ps ∷ fs) h =
       let x : folder_listed a run i ≡ line_of n (matched_paths matched first ps) = rw (add-zero i, add-zero first) at (h 0 (omega arith)) in

@@ -1,4 +1,5 @@
 -- A program's whole job, whatever it shows of a filed report: from what building and filing left to what is printed.
+use Rattle.std.specs.Prelude.{Result, Ok, Err}
 use Prim.Native.Nat.{ℕ, ◌≤◌}
 use mathlib.Core.Path.{◌≡◌, refl, sym, ap, ◌∙◌, subst}
 use mathlib.Core.Bool.{Bool, true, false, ◌||◌, true≢false}
@@ -9,38 +10,37 @@ use lib.Seq.{sets-eq}
 use borrow.Author.Tests.{ltb-false}
 use native.Mathlib.Nat.{zero-add}
 use native.Mathlib.Omega.{arith}
-use Rattle.text.specs.Refusals.{Refusal, number_of, short_buffer}
+use Rattle.text.specs.declared.refusals.Refusal.{Refusal}
+use Rattle.text.specs.declared.refusals.Refusal.TheVariants.{ShortBuffer}
+use Rattle.text.specs.Refusals.{number_of}
 use Rattle.text.specs.Order.{Condition, given}
 use Rattle.text.specs.Answers.{said}
-use Rattle.text.specs.Output.{start, Adds}
 use Rattle.text.specs.Written.{written_into, TextWritten}
-use Rattle.text.specs.declared.output.Cursor.{Cursor}
-use Rattle.text.specs.declared.written.Written.{Written}
-use Rattle.text.proofs.Laws.Numbers.{some_number}
+use Rattle.text.proofs.Laws.Numbers.{number-within, some_number}
 use Rattle.text.proofs.Laws.Order.{given-none}
-use Rattle.text.proofs.Laws.Output.{written_as}
-use Rattle.text.proofs.Laws.Tests.{clash}
+use Rattle.text.proofs.Laws.Tests.{cases, clash}
 use Rattle.notation.specs.Sets.{FolderSet}
 use Rattle.notation.specs.Accepted.{Accepted}
-use Rattle.notation.specs.Judged.{RefusedText, Verdict, refuses, accepts, Judged}
+use Rattle.notation.specs.Judged.{RefusedText, Verdict, refuses, accepts, Judged, verdict_number}
 use Rattle.model.specs.Calls.{State}
-use Rattle.model.proofs.Laws.Machine.Moves.{Few}
 use Rattle.stored.specs.Automaton.{automaton_size}
-use Rattle.stored.specs.Run.{run_size, run_of}
+use Rattle.stored.specs.Run.{run_size}
 use Rattle.stored.specs.RunCalls.{no_counters}
-use Rattle.stored.specs.Build.{built_into}
+use Rattle.stored.specs.Build.{Built, built_into}
 use Rattle.stored.specs.declared.counters.Counters.{Counters}
 use Rattle.stored.proofs.Laws.Building.BuiltSet.{built-means}
-use Rattle.stored.proofs.Laws.Running.Means.{Means}
-use Rattle.stored.proofs.Laws.Shapes.Passing.{counters_of}
-use Rattle.filing.specs.Filing.{refused, filed, number_given, FiledWith}
+use Rattle.stored.proofs.Laws.Running.Means.{Means, means}
+use Rattle.filing.specs.Filing.{refused, filed, number_given, Refused, FiledWith}
 use Rattle.filing.specs.ReportRefusals.{Files}
 use Rattle.filing.specs.Code.Filing.{file_with}
 use Rattle.filing.specs.Listing.{refused_line}
-use Rattle.filing.specs.Shown.{ShownOf, its_number, its_text, ShownText, of_refused_set, of_set, FilesText, set_refused, set_built, too_small, PrintsText, PrintsBy}
+use Rattle.filing.specs.FiledReport.{Demand2Bytes}
+use Rattle.filing.specs.Limits.{max_refused_line}
+use Rattle.filing.specs.Shown.{ShownOf, its_number, its_text, ShownText, of_refused_set, of_set, too_small, PrintsText, PrintsBy, FilesText, set_refused, report_refused, report_filed, ShownAs, PrintsWith}
 use Rattle.filing.proofs.Laws.Filing.FilingOrder.{filing-is}
-use Rattle.filing.proofs.Laws.Filing.FromBytes.{answer-is, left-filed}
+use Rattle.filing.proofs.Laws.Filing.FromBytes.{answer-is, demand2-bytes}
 use Rattle.filing.proofs.Laws.Listing.Shown.{Unique, Total, shown-some}
+use Rattle.filing.proofs.Laws.Listing.Written.{refused-length}
 
 -- where nothing is too small
 module _ (size : ℕ) (a run out : List ℕ) (h : too_small size a run out ≡ false) where
@@ -62,41 +62,29 @@ module _ (size : ℕ) (a run out : List ℕ) (h : too_small size a run out ≡ f
   pub out-room : size ≤ length out
   out-room = ltb-false (length out) size none-small.1.1
 
--- a text no longer than the size, in a buffer of the size: one that nothing refuses, and one that is put from the buffer's start on
-module _ {size : ℕ} {text out after : List ℕ} (fits : length text ≤ size) (room : size ≤ length out) where
-  pub text-printed : {order : List Condition} {answer : Written} → TextWritten order text out answer after → given order ≡ 0 → PrintsText size text out answer after
-  text-printed w z = record {
-    fits = fits;
-    answers = w.answers ∙ ap (λ (n : ℕ). said n (length text)) z;
-    leaves = w.leaves ∙ ap (λ (n : ℕ). written_into n text out) z ∙ (sets-eq text out 0 (omega arith) ∙ ap (λ (k : ℕ). text ++ drop k out) (zero-add (length text)));
-  }
+-- a text no longer than the size that nothing refuses, in a buffer of the size
+pub text-printed : {size : ℕ} {order : List Condition} {text out after : List ℕ} {answer : Result ℕ Refusal} → length text ≤ size → size ≤ length out
+    → TextWritten order text out answer after → given order ≡ 0 → PrintsText size text out answer after
+text-printed {text = text} {out} fits room w z = record {
+  fits = fits;
+  answers = w.answers ∙ ap (λ (n : ℕ). said n (length text)) z;
+  leaves = w.leaves ∙ ap (λ (n : ℕ). written_into n text out) z ∙ (sets-eq text out 0 (omega arith) ∙ ap (λ (k : ℕ). text ++ drop k out) (zero-add (length text)));
+}
 
-  pub put-printed : {cursor : Cursor} → Adds out (start false) text after cursor → PrintsText size text out (Written.Bytes cursor.at) after
-  put-printed x = text-printed (written_as [] text out given-none (omega arith) x) given-none
-
--- what building and filing answer and leave, by the text's verdict
-module _ {text report a run : List ℕ} (long : automaton_size ≤ length a) where
-  files-built : {n : ℕ} {a' run' : List ℕ} {c' : Counters} → FilesText text report a run n a' run' c' → (v : Verdict) → Judged text v → a' ≡ built_into v a
-  files-built (set_refused some b) v j = (b.judged long v j).1
-  files-built (set_built b f) v j = (b.judged long v j).1
-
-  files-refused : {n : ℕ} {a' run' : List ℕ} {c' : Counters} → FilesText text report a run n a' run' c' → (r : Refusal) → RefusedText text r → (n ≡ number_of r) × (run' ≡ run)
-  files-refused (set_refused some b) r j = ((b.judged long (refuses r) j).0, refl)
-  files-refused (set_built b f) r j = absurd (some_number r (sym (b.judged long (refuses r) j).0))
-
-  files-accepted : {n : ℕ} {a' run' : List ℕ} {c' : Counters} → FilesText text report a run n a' run' c' → (s : FolderSet) → Accepted text s → Means s a' × Files a' run no_counters report n run' c'
-  files-accepted (set_refused some b) s acc = absurd (some ((b.judged long (accepts s) acc).0))
-  files-accepted (set_built b f) s acc = (built-means text s acc a _ b, f)
-
--- what a program's own proof shows of what filing left: a refusal's line is printed, and else a text that is shown of the filed report
-pub record Showing (size : ℕ) (For : FolderSet → List ℕ → List ℕ → Type 0) (report a run : List ℕ) (n : ℕ) (c : Counters) (out : List ℕ)
-    (answer : Written) (after : List ℕ) : Type 0 where
-  pub number : (r : Refusal) → n ≡ number_of r → PrintsText size (refused_line (number_of r)) out answer after
-  pub text : n ≡ 0 → (s : FolderSet) → Means s a → (rest : List ℕ) (m : State) → Few s m [] → FiledWith s report m → run ≡ run_of s m ++ rest → c ≡ counters_of m
-      → (bytes : List ℕ) × (For s report bytes × PrintsText size bytes out answer after)
+-- what is shown of what filing left, by this size, these bytes for a set and a report, and this contract
+pub record Faithful (size : ℕ) (For : FolderSet → List ℕ → List ℕ → Type 0) (shows : List ℕ → List ℕ → Counters → List ℕ → Result ℕ Refusal → List ℕ → Type 0) : Type 0 where
+  -- the line of a refusal has room
+  pub line : max_refused_line ≤ size
+  -- of a filed report one text only is shown
+  pub once : Unique For
+  -- and of a report filed with the automaton that a build left it is printed
+  pub filed : (text before a : List ℕ) (s : FolderSet) → Accepted text s → Built text before 0 a
+      → (report run : List ℕ) → run_size ≤ length run → (c : Counters) (run' : List ℕ) (c' : Counters) → Files a run c report 0 run' c'
+      → (out : List ℕ) → size ≤ length out → (answer : Result ℕ Refusal) (out' : List ℕ) → shows a run' c' out answer out'
+      → (bytes : List ℕ) × For s report bytes × PrintsText size bytes out answer out'
 
 module _ (size : ℕ) (For : FolderSet → List ℕ → List ℕ → Type 0) (text report a run out : List ℕ) where
-  pub too_small-is : too_small size a run out ≡ true → PrintsBy size For text report a run out (Written.Refused (number_of short_buffer)) a run out
+  too_small-is : too_small size a run out ≡ true → PrintsBy size For text report a run out (Err ShortBuffer) a run out
   too_small-is h = record {
     short = λ _. (refl, (refl, (refl, refl)));
     printed = λ f. clash h f;
@@ -105,40 +93,111 @@ module _ (size : ℕ) (For : FolderSet → List ℕ → List ℕ → Type 0) (te
     filed = λ f. clash h f;
   }
 
-  module _ (once : Unique For) (h : too_small size a run out ≡ false) {n : ℕ} {a' run' after : List ℕ} {c' : Counters} {answer : Written}
-      (f : FilesText text report a run n a' run' c') (shown : Showing size For report a' run' n c' out answer after) where
-    -- with an accepted set
-    module _ (s : FolderSet) (w : Means s a') (files : Files a' run no_counters report n run' c') where
-      long : run_size ≤ length run
-      long = run_room size a run out h
+  module _ (h : too_small size a run out ≡ false) where
+    room : size ≤ length out
+    room = out-room size a run out h
 
-      number : n ≡ number_given (file_with s report)
-      number = answer-is s a' w run long no_counters report n run' c' files
+    -- by the text's verdict
+    module _ {n : ℕ} {a' : List ℕ} (b : Built text a n a') where
+      built-by : (v : Verdict) → Judged text v → (n ≡ verdict_number v) × (a' ≡ built_into v a)
+      built-by = b.judged (automaton-room size a run out h)
 
-      of-report : (bytes : List ℕ) → ShownOf For s report bytes → PrintsText size bytes out answer after
-      of-report bytes (its_number r g) = shown.number r (number ∙ ap number_given ((filing-is s report (refused r)).0 g))
-      of-report bytes (its_text m g x) =
-          let e = (filing-is s report (filed m)).0 g in
-          let (few, r, k) = left-filed s a' w run long no_counters report n run' c' files m e in
-          let (own, (y, p)) = shown.text (number ∙ ap number_given e) s w (drop run_size run) m few g r k in
-          subst (λ (z : List ℕ). PrintsText size z out answer after) (once s report own bytes y x) p
+      refused-by : (r : Refusal) → RefusedText text r → n ≡ number_of r
+      refused-by r j = (built-by (refuses r) j).0
 
-    of-text : (bytes : List ℕ) → ShownText For text report bytes → PrintsText size bytes out answer after
-    of-text bytes (of_refused_set {r = r} j) = shown.number r ((files-refused (automaton-room size a run out h) f r j).0)
-    of-text bytes (of_set {s = s} acc x) = let (w, files) = files-accepted (automaton-room size a run out h) f s acc in of-report s w files bytes x
+    module _ {a' : List ℕ} (b : Built text a 0 a') where
+      none_refuses : {A : Type 0} (r : Refusal) → RefusedText text r → A
+      none_refuses r j = absurd (some_number r (sym (refused-by b r j)))
 
-    pub prints-by : PrintsBy size For text report a run out answer a' run' after
-    prints-by =
-        let long = automaton-room size a run out h in
-        record {
+      -- with an accepted set
+      outcome-is : (s : FolderSet) → Accepted text s → {n : ℕ} {run' : List ℕ} {c' : Counters} → Files a' run no_counters report n run' c' → n ≡ number_given (file_with s report)
+      outcome-is s acc {n} {run'} {c'} f = answer-is s a' (built-means text s acc a a' b) run (run_room size a run out h) no_counters report n run' c' f
+
+      refused-outcome : (s : FolderSet) → Accepted text s → (r : Refusal) → Refused s report r → {n : ℕ} {run' : List ℕ} {c' : Counters} → Files a' run no_counters report n run' c'
+          → n ≡ number_of r
+      refused-outcome s acc r g f = outcome-is s acc f ∙ ap number_given ((filing-is s report (refused r)).0 g)
+
+      filed-outcome : (s : FolderSet) → Accepted text s → (m : State) → FiledWith s report m → {n : ℕ} {run' : List ℕ} {c' : Counters} → Files a' run no_counters report n run' c'
+          → n ≡ 0
+      filed-outcome s acc m g f = outcome-is s acc f ∙ ap number_given ((filing-is s report (filed m)).0 g)
+
+    module _ {shows : List ℕ → List ℕ → Counters → List ℕ → Result ℕ Refusal → List ℕ → Type 0} (faithful : Faithful size For shows) {after : List ℕ} {answer : Result ℕ Refusal} where
+      -- the line of a refusal
+      line-printed : {n : ℕ} (r : Refusal) → n ≡ number_of r → TextWritten [] (refused_line n) out answer after → PrintsText size (refused_line (number_of r)) out answer after
+      line-printed {n} r e w =
+          let fits : length (refused_line (number_of r)) ≤ size = omega (arith, faithful.line, refused-length (number_of r) (omega (arith, number-within r))) in
+          text-printed fits room (rw e at w) given-none
+
+      -- a set that is refused
+      set-refused : {n : ℕ} {a' : List ℕ} → (n ≡ 0 → ⊥) → Built text a n a' → TextWritten [] (refused_line n) out answer after → PrintsBy size For text report a run out answer a' run after
+      set-refused {n} some b w = record {
+        short = λ t. clash t h;
+        printed = λ _. of-text;
+        built = λ _ v j. (built-by b v j).1;
+        kept = λ _ r j. refl;
+        filed = λ _ s acc. absurd (some (built-by b (accepts s) acc).0);
+      }
+        where
+          of-text : (bytes : List ℕ) → ShownText For text report bytes → PrintsText size bytes out answer after
+          of-text bytes (of_refused_set {r = r} j) = line-printed r (refused-by b r j) w
+          of-text bytes (of_set {s = s} acc x) = absurd (some (built-by b (accepts s) acc).0)
+
+      -- a set that is built, and any report
+      module _ {a' : List ℕ} (b : Built text a 0 a') {n : ℕ} {run' : List ℕ} {c' : Counters} (f : Files a' run no_counters report n run' c')
+          (of-report : (s : FolderSet) → Accepted text s → (bytes : List ℕ) → ShownOf For s report bytes → PrintsText size bytes out answer after) where
+        with-set : PrintsBy size For text report a run out answer a' run' after
+        with-set = record {
           short = λ t. clash t h;
           printed = λ _. of-text;
-          built = λ _. files-built long f;
-          kept = λ _ r j. (files-refused long f r j).1;
-          filed = λ _ s acc. (n, c', (files-accepted long f s acc).1);
+          built = λ _ v j. (built-by b v j).1;
+          kept = λ _ r j. none_refuses b r j;
+          filed = λ _ s acc. (n, c', f);
         }
+          where
+            of-text : (bytes : List ℕ) → ShownText For text report bytes → PrintsText size bytes out answer after
+            of-text bytes (of_refused_set {r = r} j) = none_refuses b r j
+            of-text bytes (of_set {s = s} acc x) = of-report s acc bytes x
 
-  module _ (answer : Written) (a' run' out' : List ℕ) (p : PrintsBy size For text report a run out answer a' run' out') (h : too_small size a run out ≡ false) where
+      report-refused : {n : ℕ} {a' run' : List ℕ} {c' : Counters} → (n ≡ 0 → ⊥) → Built text a 0 a' → Files a' run no_counters report n run' c'
+          → TextWritten [] (refused_line n) out answer after → PrintsBy size For text report a run out answer a' run' after
+      report-refused {n} some b f w = with-set b f of-report
+        where
+          of-report : (s : FolderSet) → Accepted text s → (bytes : List ℕ) → ShownOf For s report bytes → PrintsText size bytes out answer after
+          of-report s acc bytes (its_number r g) = line-printed r (refused-outcome b s acc r g f) w
+          of-report s acc bytes (its_text m g x) = absurd (some (filed-outcome b s acc m g f))
+
+      report-filed : {a' run' : List ℕ} {c' : Counters} → Built text a 0 a' → Files a' run no_counters report 0 run' c' → shows a' run' c' out answer after
+          → PrintsBy size For text report a run out answer a' run' after
+      report-filed {a'} {run'} {c'} b f w = with-set b f of-report
+        where
+          of-report : (s : FolderSet) → Accepted text s → (bytes : List ℕ) → ShownOf For s report bytes → PrintsText size bytes out answer after
+          of-report s acc bytes (its_number r g) = absurd (some_number r (sym (refused-outcome b s acc r g f)))
+          of-report s acc bytes (its_text m g x) =
+              let (own, y, p) = faithful.filed text a a' s acc b report run (run_room size a run out h) no_counters run' c' f out room answer after w in
+              subst (λ (z : List ℕ). PrintsText size z out answer after) (faithful.once s report own bytes y x) p
+
+      -- by what building and filing left
+      shown-by : {a' run' : List ℕ} (r : Result Counters ℕ) → FilesText text report a run r a' run' → ShownAs shows r a' run' out answer after
+          → PrintsBy size For text report a run out answer a' run' after
+      shown-by (Err n) (set_refused some b) w = set-refused some b w
+      shown-by (Err n) (report_refused c' some b f) w = report-refused some b f w
+      shown-by (Ok c') (report_filed b f) w = report-filed b f w
+
+  pub prints-by : {shows : List ℕ → List ℕ → Counters → List ℕ → Result ℕ Refusal → List ℕ → Type 0} → Faithful size For shows → {answer : Result ℕ Refusal} {a' run' out' : List ℕ}
+      → PrintsWith shows size text report a run out answer a' run' out' → PrintsBy size For text report a run out answer a' run' out'
+  prints-by faithful p =
+      cases (too_small size a run out)
+      (λ y. let (e, same) = p.short y in rw (e, same.0, same.1.0, same.1.1) (too_small-is y))
+      (λ n. let (r, f, w) = p.done n in shown-by n faithful r f w)
+
+  module _ (answer : Result ℕ Refusal) (a' run' out' : List ℕ) (p : PrintsBy size For text report a run out answer a' run' out') (h : too_small size a run out ≡ false) where
     -- in buffers of their sizes a text is printed
     pub some-printed : Total For → (shown : List ℕ) × PrintsText size shown out answer out'
     some-printed shows = let (bytes, x) = shown-some For shows text report in (bytes, p.printed h bytes x)
+
+    -- an accepted set's printed call files as `Demand2Bytes` says
+    pub demand2-printed : (s : FolderSet) → Accepted text s → (n : ℕ) × (c' : Counters) × Demand2Bytes s a' report run n run' c'
+    demand2-printed s acc =
+        let (n, c', files) = p.filed h s acc in
+        let w = subst (Means s) (sym (p.built h (accepts s) acc)) (means text s acc (drop automaton_size a)) in
+        (n, c', demand2-bytes s a' w run (run_room size a run out h) no_counters report n run' c' files)

@@ -3,7 +3,8 @@ use Prim.Native.Nat.{ℕ}
 use mathlib.Core.Path.{◌≡◌, refl, ap, subst}
 use mathlib.Core.List.{List}
 use Rattle.notation.specs.Sets.{FolderSet}
-use Rattle.text.specs.Refusals.{Refusal, number_of}
+use Rattle.text.specs.declared.refusals.Refusal.{Refusal}
+use Rattle.text.specs.Refusals.{number_of}
 use Rattle.notation.specs.Judged.{Verdict, refuses, accepts, Judged}
 use Rattle.model.specs.Calls.{State}
 use Rattle.text.proofs.Laws.Tests.{zero_one}

@@ -1,41 +1,46 @@
 -- A turn of each loop of the listing: one place, or one folder, more.
-use Prim.Native.Nat.{ℕ, zero, suc, ◌+◌}
-use native.Mathlib.Nat.{zero-add, add-zero, add-suc, suc-add}
-use mathlib.Core.Path.{◌≡◌, refl, sym, ◌∙◌, ap}
+use Prim.Native.Nat.{ℕ, suc, ◌+◌, ◌-◌, ◌<◌, ◌≤◌}
+use native.Mathlib.Omega.{arith}
+use native.Mathlib.Numerals.{add-one}
+use mathlib.Core.Path.{◌≡◌, sym, ap}
 use mathlib.Core.Bool.{Bool, true, false, cond}
-use mathlib.Core.List.{List, [], ◌∷◌, ◌++◌, append_assoc, append-nil}
+use mathlib.Core.List.{List, [], ◌∷◌, ◌++◌, map, append_assoc}
 use Rattle.model.specs.Folders.{count_from}
 use Rattle.stored.specs.HeldSet.{folder_held}
 use Rattle.stored.specs.Asking.{place_matched, any_matched, paths_of_folder}
+use Rattle.text.specs.Bytes.{joined}
 use Rattle.text.specs.Decimal.{decimal}
+use Rattle.text.specs.Output.{Adds, no_pieces}
+use Rattle.text.proofs.Laws.Output.{and_then, same_bytes}
 use Rattle.notation.specs.Print.{folder_word, footer}
 use Rattle.filing.specs.Listing.{moves_word, moves_line}
-use Rattle.filing.specs.Listed.{path_listed, if_matched, paths_listed, line_listed, line_at, folder_listed, folders_listed}
+use Rattle.filing.specs.Listed.{path_listed, if_matched, paths_listed, line_listed, line_at, folder_listed}
 
-count-end : (first n : ℕ) → count_from first (suc n) ≡ count_from first n ++ ((first + n) ∷ [])
+-- the first of the numbers up to an end, and what is left of them there
+count_next : (i end : ℕ) → i < end → count_from i (end - i) ≡ i ∷ count_from (i + 1) (end - (i + 1))
 unfolding count_from
-count-end first zero = rw add-zero
-count-end first (suc n) = ap (λ (l : List ℕ). first ∷ l) (count-end (suc first) n ∙ rw (suc-add, ← add-suc))
+count_next i end h =
+    let k : end - i ≡ suc (end - (i + 1)) = omega arith in
+    rw (k, add-one i, count_from)
 
-paths-joined : (a run xs ys : List ℕ) → paths_listed a run (xs ++ ys) ≡ paths_listed a run xs ++ paths_listed a run ys
-unfolding paths_listed
-paths-joined a run [] ys = refl
-paths-joined a run (x ∷ xs) ys = rw (paths-joined a run xs ys, append_assoc (if_matched a run x) (paths_listed a run xs) (paths_listed a run ys))
+count_done : (i end : ℕ) → end ≤ i → count_from i (end - i) ≡ []
+unfolding count_from
+count_done i end h =
+    let k : end - i ≡ 0 = omega arith in
+    rw k
 
-pub paths-more : (a run : List ℕ) (first n : ℕ) → paths_listed a run (count_from first n) ++ if_matched a run (first + n) ≡ paths_listed a run (count_from first (suc n))
-unfolding paths_listed
-paths-more a run first n = sym (ap (paths_listed a run) (count-end first n) ∙ paths-joined a run (count_from first n) ((first + n) ∷ []) ∙ ap (λ (l : List ℕ). paths_listed a run (count_from first n) ++ l) (append-nil (if_matched a run (first + n))))
+-- a turn of a loop that puts a text for each number up to an end, told from what is left
+module _ {S : Type 0} {puts : S → List ℕ → S} (f : ℕ → List ℕ) (i end : ℕ) where
+  pub turn : {s t u : S} → i < end → Adds puts s (f i) t → Adds puts t (joined (map f (count_from (i + 1) (end - (i + 1))))) u
+      → Adds puts s (joined (map f (count_from i (end - i)))) u
+  unfolding joined
+  turn h x y = same_bytes (and_then x y) (sym (ap (λ (l : List ℕ). joined (map f l)) (count_next i end h)))
 
-folders-joined : (a run xs ys : List ℕ) → folders_listed a run (xs ++ ys) ≡ folders_listed a run xs ++ folders_listed a run ys
-unfolding folders_listed
-folders-joined a run [] ys = refl
-folders-joined a run (x ∷ xs) ys = rw (folders-joined a run xs ys, append_assoc (folder_listed a run x) (folders_listed a run xs) (folders_listed a run ys))
+  pub turned : {s : S} → end ≤ i → Adds puts s (joined (map f (count_from i (end - i)))) s
+  unfolding joined
+  turned h = same_bytes no_pieces (sym (ap (λ (l : List ℕ). joined (map f l)) (count_done i end h)))
 
-pub folders-more : (a run : List ℕ) (n : ℕ) → folders_listed a run (count_from 0 n) ++ folder_listed a run n ≡ folders_listed a run (count_from 0 (suc n))
-unfolding folders_listed
-folders-more a run n = sym (ap (folders_listed a run) (count-end 0 n) ∙ rw zero-add (folders-joined a run (count_from 0 n) (n ∷ []) ∙ ap (λ (l : List ℕ). folders_listed a run (count_from 0 n) ++ l) (append-nil (folder_listed a run n))))
-
--- the place of a path that is matched, and of one that is not
+-- a place that is matched, and one that is not
 pub path-yes : (a run : List ℕ) (place : ℕ) → place_matched a run (record { 0 = place }) ≡ true → path_listed a place ≡ if_matched a run place
 path-yes a run place e = sym (ap (λ (b : Bool). cond b (path_listed a place) []) e)
 

@@ -1,5 +1,7 @@
 -- Of the automaton of a set and the run of a machine's state, in a buffer of a listing's size, nothing is refused and the listing of the set
 -- and the state is written.
+use Rattle.std.specs.Prelude.{Result}
+use Rattle.text.specs.declared.refusals.Refusal.{Refusal}
 use Prim.Native.Nat.{ℕ, ◌≤◌, max}
 use native.Mathlib.Omega.{arith}
 use mathlib.Core.Path.{◌≡◌, refl}
@@ -11,7 +13,6 @@ use Rattle.model.specs.Calls.{State}
 use Rattle.stored.specs.Run.{run_of}
 use Rattle.text.specs.Order.{first, given}
 use Rattle.text.specs.Written.{TextWritten}
-use Rattle.text.specs.declared.written.Written.{Written}
 use Rattle.model.proofs.Laws.Machine.Moves.{Few}
 use Rattle.stored.proofs.Laws.Running.Means.{Means}
 use Rattle.stored.proofs.Laws.Shapes.Passing.{counters_of, all-shaped, long-enough}
@@ -41,6 +42,6 @@ module _ (s : FolderSet) (a : List ℕ) (m : Means s a) (st : State) (few : Few 
   unfolding given first
   not-refused out h = rw (long-enough s a m st few rest, room-is, le-ltb (length out) listing_size h, all-shaped s a m st few rest)
 
-  pub listing-written : (out after : List ℕ) (answer : Written) → listing_size ≤ length out → ListingWritten a run (counters_of st) out answer after
+  pub listing-written : (out after : List ℕ) (answer : Result ℕ Refusal) → listing_size ≤ length out → ListingWritten a run (counters_of st) out answer after
       → TextWritten (listing_conditions a run (counters_of st) out) (listing s st) out answer after
   listing-written out after answer h w = rw same at w

@@ -1,29 +1,29 @@
 -- From a composed text to the buffer: what is refused, what is written, and what is answered.
-use Prim.Native.Nat.{ℕ, ◌≤◌, ◌<◌, max}
+use Prim.Native.Nat.{ℕ, ◌-◌, ◌^◌, ◌≤◌, ◌<◌, max, min}
+use native.Mathlib.Nat.{zero-add}
 use native.Mathlib.Omega.{arith}
-use mathlib.Core.Path.{◌≡◌, refl}
+use mathlib.Core.Path.{◌≡◌, refl, sym, ◌∙◌}
 use mathlib.Core.Bool.{Bool, true, false, not, ◌||◌, cond}
 use mathlib.Core.List.{List}
 use lib.Dec.{leb, ltb}
 use lib.ListN.{length, length-append}
-use borrow.Author.Tests.{leb-true, leb-false, lt-ltb, le-ltb, ltb-false, not-false}
-use Rattle.notation.specs.Limits.{max_set_bytes}
+use borrow.Author.Tests.{leb-true, leb-false, le-leb, lt-leb, lt-ltb, le-ltb, ltb-false, not-false}
 use Rattle.text.specs.Decimal.{decimal}
 use Rattle.notation.specs.Print.{footer}
-use Rattle.text.specs.Refusals.{short_buffer, bad_shape, number_of}
+use Rattle.text.specs.declared.refusals.Refusal.TheVariants.{ShortBuffer, BadShape}
+use Rattle.text.specs.Refusals.{number_of}
 use Rattle.text.specs.Order.{first, given}
 use Rattle.stored.specs.RunCalls.{shaped, too_short, lent_conditions}
-use Rattle.text.specs.declared.written.Written.{Written}
 use Rattle.stored.specs.declared.counters.Counters.{Counters}
 use Rattle.text.proofs.Laws.Tests.{cases, clash}
 use Rattle.text.proofs.Laws.Order.{not-given}
-use Rattle.text.specs.declared.output.Cursor.{Cursor}
-use Rattle.filing.specs.Limits.{max_moves_line, listing_size}
-use Rattle.text.specs.Output.{start, Adds}
+use Rattle.text.specs.declared.output.Length.{Length}
+use Rattle.filing.specs.Limits.{listing_size}
+use Rattle.text.specs.Output.{Adds, measured}
 use Rattle.filing.specs.Listing.{refused_word, refused_line}
-use Rattle.filing.specs.Listed.{listing_in, listing_room, listing_refusal, refused_conditions, RefusedWritten}
+use Rattle.filing.specs.Listed.{listing_in, listing_room, listing_refusal, refused_conditions}
 use Rattle.text.proofs.Laws.Decimal.{tens, decimal-few}
-use Rattle.text.proofs.Laws.Output.{written_as, fits-from-start}
+use Rattle.text.proofs.Laws.Output.{measured-length}
 
 or-true : (p : Bool) → (p || true) ≡ true
 or-true true = refl
@@ -37,11 +37,11 @@ module _ (a run : List ℕ) (c : Counters) (out : List ℕ) where
 
   lent-good : given (lent_conditions a run c) ≡ 0 → (too_short a run ≡ false) × (shaped a run c ≡ true)
   lent-good z =
-      let t = not-given (too_short a run) short_buffer _ z in
-      (t.0, not-false (shaped a run c) (not-given (not (shaped a run c)) bad_shape _ t.1).0)
+      let t = not-given (too_short a run) ShortBuffer _ z in
+      (t.0, not-false (shaped a run c) (not-given (not (shaped a run c)) BadShape _ t.1).0)
 
   -- a buffer that is too short for every listing
-  pub out-short : length out < listing_size → listing_refusal a run c out ≡ number_of short_buffer
+  pub out-short : length out < listing_size → listing_refusal a run c out ≡ number_of ShortBuffer
   unfolding given first
   out-short h =
       let t : ltb (length out) (listing_room a run c) ≡ true = lt-ltb (length out) (listing_room a run c) (omega (arith, room-least)) in
@@ -57,7 +57,7 @@ module _ (a run : List ℕ) (c : Counters) (out : List ℕ) where
         (λ f. cases (shaped a run c) (λ s. absurd (n (rw (f, s)))) (λ s. rw (f, s, le-ltb (length out) listing_size h)))
 
     -- they are not: the length of what is stored is left
-    length-left : given (lent_conditions a run c) ≡ 0 → listing_refusal a run c out ≡ cond (leb (length (listing_in a run c)) (length out)) 0 (number_of short_buffer)
+    length-left : given (lent_conditions a run c) ≡ 0 → listing_refusal a run c out ≡ cond (leb (length (listing_in a run c)) (length out)) 0 (number_of ShortBuffer)
     unfolding listing_room given first
     length-left z =
         let (t, s) = lent-good z in
@@ -70,16 +70,24 @@ module _ (a run : List ℕ) (c : Counters) (out : List ℕ) where
         let l : ltb (length out) (max listing_size text) ≡ true = lt-ltb (length out) (max listing_size text) (omega (arith, leb-false text (length out) y)) in
         rw (t, s, l, y))
 
-    pub dry-says : {after : List ℕ} {cursor : Cursor} → given (lent_conditions a run c) ≡ 0 → Adds out (start true) (listing_in a run c) after cursor
-        → listing_refusal a run c out ≡ cond cursor.fits 0 (number_of short_buffer)
-    dry-says z x = rw (fits-from-start x) (length-left z)
+    -- it is measured
+    pub length-says : {t : Length} → given (lent_conditions a run c) ≡ 0 → length out < 2 ^ 64 - 1 → Adds measured (record { bytes = 0 }) (listing_in a run c) t
+        → listing_refusal a run c out ≡ cond (leb t.bytes (length out)) 0 (number_of ShortBuffer)
+    length-says {t} z small x =
+        let text = length (listing_in a run c) in
+        let size = length out in
+        let e : t.bytes ≡ min text (2 ^ 64 - 1) = rw zero-add at (measured-length x (omega arith)) in
+        let same : leb t.bytes size ≡ leb text size = cases (leb text size)
+        (λ y. le-leb t.bytes size (omega (arith, leb-true text size y)) ∙ sym y)
+        (λ y. lt-leb t.bytes size (omega (arith, leb-false text size y)) ∙ sym y) in
+        rw same (length-left z)
 
   -- where nothing is refused the listing has room
   pub listing-room : listing_refusal a run c out ≡ 0 → length (listing_in a run c) ≤ length out
   unfolding listing_room
   listing-room e =
-      let t = not-given (too_short a run || ltb (length out) (listing_room a run c)) short_buffer _ e in
-      let s : shaped a run c ≡ true = not-false (shaped a run c) (not-given (not (shaped a run c)) bad_shape _ t.1).0 in
+      let t = not-given (too_short a run || ltb (length out) (listing_room a run c)) ShortBuffer _ e in
+      let s : shaped a run c ≡ true = not-false (shaped a run c) (not-given (not (shaped a run c)) BadShape _ t.1).0 in
       let l : listing_room a run c ≤ length out = ltb-false (length out) (listing_room a run c) (go (too_short a run) (ltb (length out) (listing_room a run c)) t.0) in
       let m : max listing_size (length (listing_in a run c)) ≤ length out = rw s at l in
       omega arith
@@ -95,17 +103,10 @@ refused-length n h =
     let k : length (decimal n) ≤ 3 = decimal-few 2 n (omega arith) in
     omega (arith, length-append (decimal n) footer)
 
-pub refused-short : (n : ℕ) → n < 256 → length (refused_line n) ≤ listing_size
-unfolding listing_size max_set_bytes max_moves_line
-refused-short n h = omega (arith, refused-length n h)
-
-pub line-written : (n : ℕ) (out : List ℕ) {after : List ℕ} {cursor : Cursor} → n < 256 → listing_size ≤ length out → Adds out (start false) (refused_line n) after cursor
-    → RefusedWritten n out (Written.Bytes cursor.at) after
+pub line-fits : (out : List ℕ) → listing_size ≤ length out → given (refused_conditions out) ≡ 0
 unfolding given first
-line-written n out h l x =
-    let y : ltb (length out) listing_size ≡ false = le-ltb (length out) listing_size l in
-    written_as (refused_conditions out) (refused_line n) out (rw y) (omega (arith, refused-short n h)) x
+line-fits out l = let y : ltb (length out) listing_size ≡ false = le-ltb (length out) listing_size l in rw y
 
-pub line-short : (n : ℕ) (out : List ℕ) → length out < listing_size → RefusedWritten n out (Written.Refused (number_of short_buffer)) out
+pub line-short : (out : List ℕ) → length out < listing_size → number_of ShortBuffer ≡ given (refused_conditions out)
 unfolding given first
-line-short n out h = let y : ltb (length out) listing_size ≡ true = lt-ltb (length out) listing_size h in record { answers = rw y; leaves = rw y }
+line-short out h = let y : ltb (length out) listing_size ≡ true = lt-ltb (length out) listing_size h in rw y

@@ -1,42 +1,74 @@
--- The loop's invariant: the tokens from here make of what was taken what all tokens make of the fresh run.
+-- The loop's invariant: the tokens from here make of what was taken what all tokens make of the run as it was.
+use Prim.Native.Nat.{◌<◌, ◌≤◌}
 use native.Mathlib.Omega.{arith}
-use mathlib.Core.Path.{refl, sym, ◌∙◌}
-use Rattle.stored.specs.RunCalls.{no_counters}
-use Rattle.documents.specs.Reading.{read_report}
+use mathlib.Core.Path.{refl, sym, ◌∙◌, ap}
+use lib.ListN.{length}
+use Rattle.text.specs.Refusals.{number_of}
+use Rattle.text.proofs.Laws.Results.{handed_number}
 use Rattle.filing.specs.Filing.{filed}
-use Rattle.filing.specs.Code.Taking.{run_from}
-use Rattle.filing.proofs.Laws.Filing.Taking.{taken-end, fit-answered, Turn, turn-past, turn-taken}
+use Rattle.filing.proofs.Laws.Filing.Named.{named-token, name-cut}
+use Rattle.filing.proofs.Laws.Filing.Taking.{missing, there_is, taken-end, fit-answered, turn-none, turn-late, turn-past, turn-taken}
 use Rattle.filing.proofs.report.take_tokens.Goals as goal
+use Rattle.filing.proofs.report.take_tokens.Goals.{After-take_next-taken}
 
-pub loop-i-init : goal.loop-i-init
-loop-i-init c =
+pub loop-at-init : goal.loop-at-init
+loop-at-init c =
     let args = c.args in
-    let turn : Turn args.a.now args.s.now 0 0 args.run.now c.none-counters.result (run_from args.a.now (filed (record { bytes = args.run.now; counters = no_counters })) (read_report args.s.now)) = record { outcome = filed (record { bytes = args.run.now; counters = no_counters }); answered = (refl, rw c.none-counters.ensures); same = refl; fit = c.requires.0 } in
-    (omega arith, (refl, (refl, turn)))
+    record {
+      within = omega arith;
+      restarts = refl;
+      turn = record { outcome = filed (record { bytes = args.run.now; counters = args.counters.now }); answered = (refl, refl); same = refl; fit = c.requires.0 };
+    }
 
-pub take_at-step-requires : goal.take_at-step-requires
-take_at-step-requires c =
-    let turn = c.loop-i.invariant.1.1.1 in
-    fit-answered _ turn.outcome _ _ _ turn.answered turn.fit
+pub returns-then-is_late : goal.returns-then-is_late
+returns-then-is_late c =
+    let i = c.loop-at.invariant in
+    let late = turn-late _ _ c.requires.1 _ c.loop-at-test.true _ _ _ _ i.turn _ c.token_at-found.ensures (sym c.is_late.ensures ∙ c.if-is_late.true) in
+    rw late (record { answered = refl; restarts = i.restarts })
 
-pub loop-i-smaller : goal.loop-i-smaller
-loop-i-smaller c =
-    let past = turn-past _ _ _ _ _ _ _ _ _ _ c.requires.1 c.loop-i-test.true c.take_at-step.ensures in
-    omega (arith, past.0, past.1)
+pub returns-in_err-end : goal.returns-in_err-end
+returns-in_err-end c =
+    let i = c.loop-at.invariant in
+    let (none, same) = missing c.end_of.result _ _ (sym c.ok_or.ensures.value ∙ c.in_err-end.was) in
+    let end = turn-none _ _ c.requires.1 _ c.loop-at-test.true _ _ _ _ i.turn _ c.token_at-found.ensures (sym c.end_of.ensures ∙ none) in
+    rw (end, handed_number _ _ _ c.from_residual.ensures.1 (ap number_of (sym same))) (record { answered = refl; restarts = i.restarts })
 
-pub loop-i-preserved : goal.loop-i-preserved
-loop-i-preserved c =
-    let l = c.loop-i in
-    let inside = c.loop-i-test.true in
-    let short = c.requires.1 in
-    let past = turn-past _ _ _ _ _ _ _ _ _ _ short inside c.take_at-step.ensures in
-    let turn = turn-taken _ _ _ _ _ _ _ _ _ _ short inside c.take_at-step.ensures _ l.invariant.1.1.1 in
-    (past.1, (c.take_at-step.auto.run ∙ l.invariant.1.0, ((c.take_at-step.ensures.takes l.invariant.1.1.1.outcome l.invariant.1.1.1.answered).restarts ∙ l.invariant.1.1.0, turn)))
+pub name_in-requires : goal.name_in-requires
+name_in-requires c =
+    let cut = name-cut c.args.s.now c.loop-at.at c.token_at-found.result (sym c.token_at-found.ensures) in
+    (cut.low, cut.high)
 
-pub shape_of-run : goal.shape_of-run
-shape_of-run c = c.loop-i.invariant.1.0
+pub take_next-taken-requires : goal.take_next-taken-requires
+take_next-taken-requires c =
+    let t = c.loop-at.invariant.turn in
+    let is = sym c.token_at-found.ensures in
+    let cut = name-cut c.args.s.now c.loop-at.at c.token_at-found.result is in
+    (fit-answered _ t.outcome _ _ _ t.answered t.fit, rw (c.name_in.ensures ∙ cut.part) (named-token c.args.s.now c.loop-at.at c.token_at-found.result is))
+
+past : (c : After-take_next-taken) → (c.loop-at.at < c.in_ok-end.end) × (c.in_ok-end.end ≤ length c.args.s.now)
+past c =
+    let end = there_is c.end_of.result _ _ (sym c.ok_or.ensures.value ∙ c.in_ok-end.was) in
+    turn-past _ _ c.requires.1 _ c.loop-at-test.true _ _ _ _ c.loop-at.invariant.turn _ c.token_at-found.ensures (sym c.is_late.ensures ∙ c.if-is_late.false) _ (sym c.end_of.ensures ∙ end)
+
+pub loop-at-smaller : goal.loop-at-smaller
+loop-at-smaller c =
+    let p = past (goal.at.loop-at-smaller c).After-take_next-taken in
+    omega (arith, p.0, p.1)
+
+pub loop-at-preserved : goal.loop-at-preserved
+loop-at-preserved c =
+    let i = c.loop-at.invariant in
+    let end = there_is c.end_of.result _ _ (sym c.ok_or.ensures.value ∙ c.in_ok-end.was) in
+    let is = sym c.token_at-found.ensures in
+    let cut = name-cut c.args.s.now c.loop-at.at c.token_at-found.result is in
+    let taken = rw (c.name_in.ensures ∙ cut.part) at (c.take_next-taken.ensures i.turn.outcome i.turn.answered) in
+    record {
+      within = (past (goal.at.loop-at-preserved c).After-take_next-taken).1;
+      restarts = taken.restarts ∙ i.restarts;
+      turn = turn-taken _ _ c.requires.1 _ c.loop-at-test.true _ _ _ _ i.turn _ c.token_at-found.ensures (sym c.is_late.ensures ∙ c.if-is_late.false) _ (sym c.end_of.ensures ∙ end) _ _ _ taken;
+    }
 
 pub returns : goal.returns
 returns c =
-    let t = c.loop-i.invariant.1.1.1 in
-    record { answered = rw (sym t.same ∙ taken-end _ _ _ _ c.loop-i-test.false) t.answered; restarts = c.loop-i.invariant.1.1.0 }
+    let i = c.loop-at.invariant in
+    record { answered = rw (sym i.turn.same ∙ taken-end _ _ _ _ c.loop-at-test.false) i.turn.answered; restarts = i.restarts }

@@ -1,22 +1,28 @@
-use Prim.Native.Nat.{ℕ, ◌-◌}
-use mathlib.Core.Path.{◌≡◌, refl}
-use mathlib.Core.List.{List, ◌++◌}
-use lib.ListN.{take, drop, replicate}
+use Prim.Native.Nat.{ℕ, ◌+◌, ◌-◌, ◌≤◌}
+use mathlib.Core.Path.{◌≡◌, refl, sym, ap, ◌∙◌}
+use mathlib.Core.List.{List, ◌++◌, append_assoc}
+use native.Mathlib.Omega.{arith}
+use lib.ListN.{length, take, drop, replicate, length-replicate, length-take, length-drop}
+use borrow.Author.Rules.{rules}
+use borrow.Rule.Slice.PartMut.{put_mid}
+use Rattle.std.proofs.lemmas.List.{take-replicate}
+use Rattle.std.proofs.lemmas.Slice.{put_mid-paste}
 use Rattle.notation.specs.Layout.{set_size}
 use Rattle.stored.specs.Automaton.{automaton_size}
 use Rattle.stored.specs.Code.Passes.{cleared}
-use native.Mathlib.Omega.{arith}
 use Rattle.machine.proofs.build.clear_tables.Goals as goal
 
--- zeros from one place up to another, where the places are those of the tables; of variables, so that no row of zeros is written out
-zeros : (m n : ℕ) (a : List ℕ) {d : List ℕ} → m ≡ set_size → n ≡ automaton_size → d ≡ take m a ++ (replicate (n - m) 0 ++ drop n a) → d ≡ cleared a
+-- zeros in a part that ends where the tables end; of variables, so that no row of zeros is written out
+zeros : (m k : ℕ) (a part : List ℕ) → m ≡ set_size → k ≡ automaton_size - set_size → set_size ≤ automaton_size → automaton_size ≤ length a
+    → part ≡ replicate (length (take k (drop m a))) 0 → put_mid m k a part ≡ cleared a
 unfolding cleared
-zeros m n a e f g = rw (← e, ← f) g
-
-pub clear_between-requires : goal.clear_between-requires
-unfolding automaton_size
-clear_between-requires c = (omega arith, omega arith)
+zeros m k a part e f h room p =
+    let size : length (take k (drop m a)) ≡ k = simp (length-take, length-drop) (omega arith) in
+    let to : m + k ≡ automaton_size = omega arith in
+    put_mid-paste m k a part (replicate k 0) k (p ∙ ap (λ n. replicate n 0) size) refl (sym (length-replicate k 0))
+    ∙ rw (to, take-replicate {X = ℕ} k k 0 (omega arith), append_assoc, e, f)
 
 pub returns : goal.returns
 unfolding set_size automaton_size
-returns c = zeros set_size automaton_size c.args.part.now refl refl c.clear_between.ensures
+returns c =
+    zeros set_size (automaton_size - set_size) c.args.part.now c.fill.new.self refl refl (omega arith) c.requires (c.fill.ensures.after (search rules))

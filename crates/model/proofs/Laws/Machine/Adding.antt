@@ -10,7 +10,8 @@ use lib.Dec.{leb}
 use borrow.Author.Tests.{leb-false}
 use Rattle.notation.specs.Sets.{Path, Folder, folder, FolderSet, folder_number, folder_paths}
 use Rattle.notation.specs.Form.{paths_faults, faults_after, faults}
-use Rattle.text.specs.Refusals.{Refusal, out_of_order}
+use Rattle.text.specs.declared.refusals.Refusal.{Refusal}
+use Rattle.text.specs.declared.refusals.Refusal.TheVariants.{OutOfOrder}
 use Rattle.notation.specs.Fit.{Fits}
 use Rattle.model.specs.Calls.{as_left, Call, open_call, open_names, path_of_place, run}
 use Rattle.model.specs.Folders.{places_of, folder_matched, HasFolders}
@@ -56,7 +57,7 @@ above : (fs : FolderSet) (last : ℕ) → faults_after last fs ≡ [] → (f : F
 unfolding faults_after
 above [] last h f m = absurd (Memᴰ.not-nil m)
 above (folder n ps ∷ fs) last h f m =
-    let a = no-faults (leb n last) out_of_order (paths_faults ps ++ faults_after n fs) h in
+    let a = no-faults (leb n last) OutOfOrder (paths_faults ps ++ faults_after n fs) h in
     let l : last < n = leb-false n last a.0 in
     go l (above fs n (append-none (paths_faults ps) (faults_after n fs) a.1) f) (Memᴰ.cases_cons m)
   where
@@ -68,7 +69,7 @@ different : (fs : FolderSet) (last : ℕ) → faults_after last fs ≡ [] → (f
 unfolding faults_after
 different [] last h f g m k e = absurd (Memᴰ.not-nil m)
 different (folder n ps ∷ fs) last h f g m k e =
-    let a = no-faults (leb n last) out_of_order (paths_faults ps ++ faults_after n fs) h in
+    let a = no-faults (leb n last) OutOfOrder (paths_faults ps ++ faults_after n fs) h in
     let r = append-none (paths_faults ps) (faults_after n fs) a.1 in
     go (above fs n r) (different fs n r f g) (Memᴰ.cases_cons m) (Memᴰ.cases_cons k)
   where

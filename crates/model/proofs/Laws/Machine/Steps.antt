@@ -8,7 +8,8 @@ use mathlib.Core.Option.{none, some}
 use mathlib.Core.List.{List, [], ◌∷◌, ◌++◌, map, reverse-cons}
 use Rattle.text.specs.Names.{Name}
 use Rattle.notation.specs.Sets.{FolderSet}
-use Rattle.text.specs.Refusals.{Refusal, number_of}
+use Rattle.text.specs.declared.refusals.Refusal.{Refusal}
+use Rattle.text.specs.Refusals.{number_of}
 use Rattle.text.specs.Order.{refusal_of, FirstOf}
 use Rattle.model.specs.Calls.{as_left, Call, open_call, close_call, Level, name_of, State, names_of, open_names, fresh, opened, closed_from, closed, open_order, close_order, order_of, refusal, accepted, done, step, after, run}
 use Rattle.text.proofs.Laws.Order.{first-is, is-none, none_is}

@@ -1,20 +1,19 @@
 -- The first fault of two parts of a text is that of the first part, or else that of the second.
-use Prim.Native.Nat.{ℕ}
-use mathlib.Core.Path.{◌≡◌, refl, sym}
+use mathlib.Core.Path.{◌≡◌, refl}
 use mathlib.Core.List.{List, [], ◌∷◌, ◌++◌}
-use lib.Dec.{eqb}
-use borrow.Author.Tests.{eqb-true, ne_eqb}
-use Rattle.text.specs.Refusals.{Refusal, number_of}
-use Rattle.notation.specs.Code.Taking.{or_else, first_of}
-use Rattle.text.proofs.Laws.Tests.{cases}
-use Rattle.text.proofs.Laws.Numbers.{some_number}
+use Rattle.std.specs.Prelude.{Option, Some, None}
+use Rattle.std.specs.Option.{option_or}
+use Rattle.text.specs.declared.refusals.Refusal.{Refusal}
+use Rattle.notation.specs.Code.Taking.{first_of}
 
-pub or_else-assoc : (a b c : ℕ) → or_else (or_else a b) c ≡ or_else a (or_else b c)
-or_else-assoc a b c = cases (eqb a 0) (λ e. rw e) (λ e. rw (e, e))
+pub or-assoc : (a b c : Option Refusal) → option_or (option_or a b) c ≡ option_or a (option_or b c)
+or-assoc None b c = refl
+or-assoc (Some r) b c = refl
 
-pub or_else-none : (a : ℕ) → or_else a 0 ≡ a
-or_else-none a = cases (eqb a 0) (λ e. rw e (sym (eqb-true a 0 e))) (λ e. rw e)
+pub or-none : (a : Option Refusal) → option_or a None ≡ a
+or-none None = refl
+or-none (Some r) = refl
 
-pub first-append : (xs ys : List Refusal) → first_of (xs ++ ys) ≡ or_else (first_of xs) (first_of ys)
+pub first-append : (xs ys : List Refusal) → first_of (xs ++ ys) ≡ option_or (first_of xs) (first_of ys)
 first-append [] ys = refl
-first-append (r ∷ xs) ys = rw (ne_eqb (number_of r) 0 (some_number r))
+first-append (r ∷ xs) ys = refl

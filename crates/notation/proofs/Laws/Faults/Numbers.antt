@@ -9,7 +9,9 @@ use lib.Dec.{leb, eqb}
 use borrow.Author.Tests.{eq-eqb, eqb-true}
 use Rattle.notation.specs.Limits.{max_steps}
 use Rattle.notation.specs.Sets.{Path, folder, FolderSet, test_of}
-use Rattle.text.specs.Refusals.{Refusal, out_of_order, name_too_long, path_too_long, number_of}
+use Rattle.text.specs.declared.refusals.Refusal.{Refusal}
+use Rattle.text.specs.declared.refusals.Refusal.TheVariants.{OutOfOrder, NameTooLong, PathTooLong}
+use Rattle.text.specs.Refusals.{number_of}
 use Rattle.text.specs.Lists.{every, any}
 use Rattle.notation.specs.Form.{long_test, step_faults, path_faults, paths_faults, faults_after, faults, numbers_fall, names_long, paths_long}
 use Rattle.text.proofs.Laws.Tests.{cases, and_left, or_left}
@@ -38,14 +40,14 @@ every_append f (a ∷ k) l = rw (every_append f k l) (sym (and_assoc (f a) (ever
 ours-append : (xs ys : List Refusal) → every ours xs ≡ true → every ours ys ≡ true → every ours (xs ++ ys) ≡ true
 ours-append xs ys hx hy = every_append ours xs ys ∙ ap₂ (λ a b. a && b) hx hy
 
-step-ours : (p q : Bool) → every ours (cond p (name_too_long ∷ []) [] ++ cond q (path_too_long ∷ []) []) ≡ true
+step-ours : (p q : Bool) → every ours (cond p (NameTooLong ∷ []) [] ++ cond q (PathTooLong ∷ []) []) ≡ true
 unfolding every
 step-ours true true = refl
 step-ours true false = refl
 step-ours false true = refl
 step-ours false false = refl
 
-turn-ours : (c : Bool) → every ours (cond c (out_of_order ∷ []) []) ≡ true
+turn-ours : (c : Bool) → every ours (cond c (OutOfOrder ∷ []) []) ≡ true
 unfolding every
 turn-ours true = refl
 turn-ours false = refl
@@ -65,17 +67,17 @@ set-ours : (s : FolderSet) (last : ℕ) → every ours (faults_after last s) ≡
 unfolding faults_after every
 set-ours [] last = refl
 set-ours (folder n ps ∷ fs) last =
-    ours-append (cond (leb n last) (out_of_order ∷ []) []) (paths_faults ps ++ faults_after n fs) (turn-ours (leb n last))
+    ours-append (cond (leb n last) (OutOfOrder ∷ []) []) (paths_faults ps ++ faults_after n fs) (turn-ours (leb n last))
     (ours-append (paths_faults ps) (faults_after n fs) (paths-ours ps) (set-ours fs n))
 
-none_left : (fs : List Refusal) → every ours fs ≡ true → has (number_of out_of_order) fs ≡ false → has (number_of name_too_long) fs ≡ false → has (number_of path_too_long) fs ≡ false → fs ≡ []
+none_left : (fs : List Refusal) → every ours fs ≡ true → has (number_of OutOfOrder) fs ≡ false → has (number_of NameTooLong) fs ≡ false → has (number_of PathTooLong) fs ≡ false → fs ≡ []
 unfolding every any
 none_left [] o e₄ e₅ e₆ = refl
 none_left (r ∷ fs) o e₄ e₅ e₆ =
     let one : ours r ≡ true = and_left (ours r) (every ours fs) o in
-    let n₄ : eqb (number_of r) 4 ≡ false = or_left (eqb (number_of r) 4) (has (number_of out_of_order) fs) e₄ in
-    let n₅ : eqb (number_of r) 5 ≡ false = or_left (eqb (number_of r) 5) (has (number_of name_too_long) fs) e₅ in
-    let n₆ : eqb (number_of r) 6 ≡ false = or_left (eqb (number_of r) 6) (has (number_of path_too_long) fs) e₆ in
+    let n₄ : eqb (number_of r) 4 ≡ false = or_left (eqb (number_of r) 4) (has (number_of OutOfOrder) fs) e₄ in
+    let n₅ : eqb (number_of r) 5 ≡ false = or_left (eqb (number_of r) 5) (has (number_of NameTooLong) fs) e₅ in
+    let n₆ : eqb (number_of r) 6 ≡ false = or_left (eqb (number_of r) 6) (has (number_of PathTooLong) fs) e₆ in
     let none : ours r ≡ false = rw (n₄, n₅, n₆) in
     absurd (true≢false (sym one ∙ none))
 
@@ -111,13 +113,13 @@ module _ (s : FolderSet) where
     pub fault-among : (r : Refusal) → faults s ≡ r ∷ later → (4 ≤ number_of r) × (number_of r ≤ 6)
     fault-among r = first-among r later (faults s) (set-ours s 0)
 
-    pub turn-fault : faults s ≡ out_of_order ∷ later → numbers_fall s ≡ true
-    turn-fault e = sym (has-4 s 0) ∙ first-has out_of_order later (faults s) e
+    pub turn-fault : faults s ≡ OutOfOrder ∷ later → numbers_fall s ≡ true
+    turn-fault e = sym (has-4 s 0) ∙ first-has OutOfOrder later (faults s) e
 
-    pub name-fault : faults s ≡ name_too_long ∷ later → names_long s ≡ true
+    pub name-fault : faults s ≡ NameTooLong ∷ later → names_long s ≡ true
     unfolding names_long
-    name-fault e = sym (has-5 s 0) ∙ first-has name_too_long later (faults s) e
+    name-fault e = sym (has-5 s 0) ∙ first-has NameTooLong later (faults s) e
 
-    pub path-fault : faults s ≡ path_too_long ∷ later → paths_long s ≡ true
+    pub path-fault : faults s ≡ PathTooLong ∷ later → paths_long s ≡ true
     unfolding paths_long
-    path-fault e = sym (has-6 s 0) ∙ first-has path_too_long later (faults s) e
+    path-fault e = sym (has-6 s 0) ∙ first-has PathTooLong later (faults s) e

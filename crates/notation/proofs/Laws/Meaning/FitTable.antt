@@ -1,4 +1,4 @@
--- Every row of paper 01's table holds of the definition by positions. The rows are computed, and the law of Fit carries them over.
+-- Every row of the table of fits holds of the definition by positions. The rows are computed, and the law of Fit carries them over.
 use mathlib.Core.Path.{◌≡◌, refl, sym, ◌∙◌}
 use mathlib.Core.Logic.{◌↔◌, ⊎_elim}
 use mathlib.Core.Bool.{Bool, true, false, ◌&&◌, and-eq-true_iff, beq}

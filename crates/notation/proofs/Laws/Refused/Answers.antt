@@ -6,7 +6,9 @@ use mathlib.Core.Logic.{◌↔◌}
 use mathlib.Core.List.{List}
 use lib.Dec.{ltb}
 use borrow.Author.Tests.{ltb-true, ltb-false}
-use Rattle.text.specs.Refusals.{Refusal, short_buffer, number_of}
+use Rattle.text.specs.declared.refusals.Refusal.{Refusal}
+use Rattle.text.specs.declared.refusals.Refusal.TheVariants.{ShortBuffer}
+use Rattle.text.specs.Refusals.{number_of}
 use Rattle.notation.specs.Sets.{FolderSet}
 use Rattle.notation.specs.Accepted.{Accepted}
 use Rattle.notation.specs.Judged.{RefusedText, Verdict, refuses, accepts, Judged, verdict_number}
@@ -15,7 +17,7 @@ use Rattle.text.proofs.Laws.Numbers.{one-refusal, some_number}
 use Rattle.notation.proofs.Laws.Refused.Judging.{some-verdict}
 use Rattle.notation.proofs.Laws.Refused.Refusals.{refused-among}
 
-module _ (text : List ℕ) (long size answer : ℕ) (short : long < size → answer ≡ number_of short_buffer)
+module _ (text : List ℕ) (long size answer : ℕ) (short : long < size → answer ≡ number_of ShortBuffer)
     (judged : size ≤ long → (v : Verdict) → Judged text v → answer ≡ verdict_number v) where
   abbrev AtVerdict : Type 0
   AtVerdict = (size ≤ long) × (v : Verdict) × (Judged text v × (answer ≡ verdict_number v))
@@ -30,17 +32,17 @@ module _ (text : List ℕ) (long size answer : ℕ) (short : long < size → ans
       off (h, v, (j, judged h v j)))
 
   -- 1: the buffer is short, whatever the text is
-  pub short-is : (answer ≡ number_of short_buffer) ↔ (long < size)
+  pub short-is : (answer ≡ number_of ShortBuffer) ↔ (long < size)
   short-is = (λ e. either (λ h. h) (λ x. absurd (no x e)), short)
     where
-      no : AtVerdict → answer ≡ number_of short_buffer → ⊥
+      no : AtVerdict → answer ≡ number_of ShortBuffer → ⊥
       no (h, refuses r, (j, a)) e = omega (arith, (refused-among text r j).0)
       no (h, accepts s, (j, a)) e = omega arith
 
   -- any other refusal: the text's
-  pub refused-is : (q : Refusal) → (q ≡ short_buffer → ⊥) → (answer ≡ number_of q) ↔ ((size ≤ long) × RefusedText text q)
+  pub refused-is : (q : Refusal) → (q ≡ ShortBuffer → ⊥) → (answer ≡ number_of q) ↔ ((size ≤ long) × RefusedText text q)
   refused-is q other = (
-    λ e. either (λ h. absurd (other (one-refusal q short_buffer (sym e ∙ short h)))) (λ x. go x e),
+    λ e. either (λ h. absurd (other (one-refusal q ShortBuffer (sym e ∙ short h)))) (λ x. go x e),
     λ h. judged h.0 (refuses q) h.1,
   )
     where

@@ -5,7 +5,9 @@ use mathlib.Core.Path.{◌≡◌, refl, ap}
 use mathlib.Core.Logic.{◌↔◌}
 use mathlib.Core.Bool.{true, false}
 use mathlib.Core.List.{List, [], ◌∷◌}
-use Rattle.text.specs.Refusals.{Refusal, too_large, malformed_set, out_of_order, name_too_long, path_too_long, over_capacity, number_of}
+use Rattle.text.specs.declared.refusals.Refusal.{Refusal}
+use Rattle.text.specs.declared.refusals.Refusal.TheVariants.{TooLarge, MalformedSet, OutOfOrder, NameTooLong, PathTooLong, OverCapacity}
+use Rattle.text.specs.Refusals.{number_of}
 use Rattle.notation.specs.Sets.{FolderSet}
 use Rattle.notation.specs.Form.{OfForm, over_bytes, numbers_fall, names_long, paths_long, over_limits, faults}
 use Rattle.notation.specs.Accepted.{Accepted}
@@ -14,22 +16,22 @@ use Rattle.notation.proofs.Laws.Faults.Numbers.{fault-among, turn-fault, name-fa
 use Rattle.notation.proofs.Laws.Refused.Judging.{some-verdict, only-verdict}
 
 module _ (text : List ℕ) where
-  pub refused-2 : RefusedText text too_large ↔ (over_bytes text ≡ true)
+  pub refused-2 : RefusedText text TooLarge ↔ (over_bytes text ≡ true)
   refused-2 = (go, over_long refl)
     where
-      go : RefusedText text too_large → over_bytes text ≡ true
+      go : RefusedText text TooLarge → over_bytes text ≡ true
       go (over_long e over) = over
       go (not_of_form e few none) = absurd (omega (arith, ap number_of e))
-      go (faulty few o later e) = absurd (omega (arith, (fault-among o.set later too_large e).0))
+      go (faulty few o later e) = absurd (omega (arith, (fault-among o.set later TooLarge e).0))
       go (overfull e few o none y) = absurd (omega (arith, ap number_of e))
 
-  pub refused-3 : RefusedText text malformed_set ↔ ((over_bytes text ≡ false) × (OfForm text → ⊥))
+  pub refused-3 : RefusedText text MalformedSet ↔ ((over_bytes text ≡ false) × (OfForm text → ⊥))
   refused-3 = (go, λ h. not_of_form refl h.0 h.1)
     where
-      go : RefusedText text malformed_set → (over_bytes text ≡ false) × (OfForm text → ⊥)
+      go : RefusedText text MalformedSet → (over_bytes text ≡ false) × (OfForm text → ⊥)
       go (over_long e over) = absurd (omega (arith, ap number_of e))
       go (not_of_form e few none) = (few, none)
-      go (faulty few o later e) = absurd (omega (arith, (fault-among o.set later malformed_set e).0))
+      go (faulty few o later e) = absurd (omega (arith, (fault-among o.set later MalformedSet e).0))
       go (overfull e few o none y) = absurd (omega (arith, ap number_of e))
 
   -- 4, 5 and 6: the first fault of the set of the text
@@ -44,14 +46,14 @@ module _ (text : List ℕ) where
       go (overfull e few o none y) = absurd (omega (arith, ap number_of e))
 
   -- each of them on its condition
-  pub refused-4 : RefusedText text out_of_order → (o : OfForm text) × (numbers_fall o.set ≡ true)
-  refused-4 j = let (few, o, later, e) = (refused-fault out_of_order (omega arith) (omega arith)).0 j in (o, turn-fault o.set later e)
+  pub refused-4 : RefusedText text OutOfOrder → (o : OfForm text) × (numbers_fall o.set ≡ true)
+  refused-4 j = let (few, o, later, e) = (refused-fault OutOfOrder (omega arith) (omega arith)).0 j in (o, turn-fault o.set later e)
 
-  pub refused-5 : RefusedText text name_too_long → (o : OfForm text) × (names_long o.set ≡ true)
-  refused-5 j = let (few, o, later, e) = (refused-fault name_too_long (omega arith) (omega arith)).0 j in (o, name-fault o.set later e)
+  pub refused-5 : RefusedText text NameTooLong → (o : OfForm text) × (names_long o.set ≡ true)
+  refused-5 j = let (few, o, later, e) = (refused-fault NameTooLong (omega arith) (omega arith)).0 j in (o, name-fault o.set later e)
 
-  pub refused-6 : RefusedText text path_too_long → (o : OfForm text) × (paths_long o.set ≡ true)
-  refused-6 j = let (few, o, later, e) = (refused-fault path_too_long (omega arith) (omega arith)).0 j in (o, path-fault o.set later e)
+  pub refused-6 : RefusedText text PathTooLong → (o : OfForm text) × (paths_long o.set ≡ true)
+  refused-6 j = let (few, o, later, e) = (refused-fault PathTooLong (omega arith) (omega arith)).0 j in (o, path-fault o.set later e)
 
   -- where a condition of 4, 5 and 6 holds, the text is refused with one of them
   pub refused-some : over_bytes text ≡ false → (o : OfForm text)
@@ -63,14 +65,14 @@ module _ (text : List ℕ) where
       go [] e = absurd (some ((no-fault o.set).0 e))
       go (r ∷ later) e = let a = fault-among o.set later r e in (r, faulty few o later e, a.0, a.1)
 
-  pub refused-7 : RefusedText text over_capacity
+  pub refused-7 : RefusedText text OverCapacity
       ↔ ((over_bytes text ≡ false) × (o : OfForm text) × (faults o.set ≡ []) × (over_limits o.set ≡ true))
   refused-7 = (go, λ h. overfull refl h.0 h.1 h.2 h.3)
     where
-      go : RefusedText text over_capacity → (over_bytes text ≡ false) × (o : OfForm text) × (faults o.set ≡ []) × (over_limits o.set ≡ true)
+      go : RefusedText text OverCapacity → (over_bytes text ≡ false) × (o : OfForm text) × (faults o.set ≡ []) × (over_limits o.set ≡ true)
       go (over_long e over) = absurd (omega (arith, ap number_of e))
       go (not_of_form e few none) = absurd (omega (arith, ap number_of e))
-      go (faulty few o later e) = absurd (omega (arith, (fault-among o.set later over_capacity e).1))
+      go (faulty few o later e) = absurd (omega (arith, (fault-among o.set later OverCapacity e).1))
       go (overfull e few o none y) = (few, o, none, y)
 
   -- no other number is given

@@ -10,7 +10,8 @@ use lib.Dec.{leb, ltb}
 use lib.ListN.{length, get_or, length-append}
 use Rattle.notation.specs.Limits.{max_set_bytes, max_number, max_paths, max_steps, max_labels}
 use Rattle.notation.specs.Sets.{Path, folder, FolderSet, test_of, folder_number}
-use Rattle.text.specs.Refusals.{Refusal, out_of_order, name_too_long, path_too_long}
+use Rattle.text.specs.declared.refusals.Refusal.{Refusal}
+use Rattle.text.specs.declared.refusals.Refusal.TheVariants.{OutOfOrder, NameTooLong, PathTooLong}
 use Rattle.text.specs.Lists.{every, non_empty}
 use Rattle.notation.specs.Form.{formed_path, formed_folder, formed, paths_of, steps_of, labels_of, over_bytes, over_limits, long_test, step_faults, path_faults, paths_faults, faults_after, faults}
 use Rattle.notation.specs.Print.{print}
@@ -39,7 +40,7 @@ path-short k [] h e = omega arith
 path-short k (s ∷ p) h e =
     let l : step_faults k s ≡ [] = none_left (step_faults k s) (path_faults (suc k) p) e in
     let b : leb max_steps k ≡ false =
-    unfaulted path_too_long (leb max_steps k) (none_right (cond (long_test (test_of s)) (name_too_long ∷ []) []) (cond (leb max_steps k) (path_too_long ∷ []) []) l) in
+    unfaulted PathTooLong (leb max_steps k) (none_right (cond (long_test (test_of s)) (NameTooLong ∷ []) []) (cond (leb max_steps k) (PathTooLong ∷ []) []) l) in
     let m : k < max_steps = leb-false max_steps k b in
     omega (arith, path-short (suc k) p m (none_right (step_faults k s) (path_faults (suc k) p) e))
 
@@ -58,7 +59,7 @@ steps-short : (last : ℕ) (s : FolderSet) → faults_after last s ≡ [] → le
 unfolding faults_after paths_of steps_of max_steps
 steps-short last [] e = omega arith
 steps-short last (folder n ps ∷ fs) e =
-    let r : paths_faults ps ++ faults_after n fs ≡ [] = none_right (cond (leb n last) (out_of_order ∷ []) []) (paths_faults ps ++ faults_after n fs) e in
+    let r : paths_faults ps ++ faults_after n fs ≡ [] = none_right (cond (leb n last) (OutOfOrder ∷ []) []) (paths_faults ps ++ faults_after n fs) e in
     omega (
       arith,
       ap length (steps-append ps (paths_of fs)),

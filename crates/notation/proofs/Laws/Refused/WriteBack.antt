@@ -16,17 +16,18 @@ use Rattle.notation.specs.Judged.{accepts}
 use Rattle.notation.specs.Layout.{set_size, set_part}
 use Rattle.notation.specs.Reads.{text_of, text_slice, text_len}
 use Rattle.notation.specs.ReadSet.{ReadSet}
-use Rattle.text.specs.Refusals.{number_of, short_buffer}
-use Rattle.text.specs.Answers.{value}
+use Rattle.text.specs.declared.refusals.Refusal.TheVariants.{ShortBuffer}
+use Rattle.text.specs.Refusals.{number_of}
+use Rattle.std.specs.Prelude.{Result}
+use Rattle.text.specs.Answers.{value, says}
 use Rattle.text.specs.Order.{first, given}
-use Rattle.text.specs.Written.{written_says}
 use Rattle.notation.specs.WriteText.{WriteText, text_conditions}
-use Rattle.text.specs.declared.written.Written.{Written}
+use Rattle.text.specs.declared.refusals.Refusal.{Refusal}
 use Rattle.text.proofs.Laws.Tests.{cases, and_right}
 use Rattle.notation.proofs.Laws.Refused.AcceptedSet.{text-back}
 
 module _ (text : List ℕ) (s : FolderSet) (a : Accepted text s) (rest : List ℕ) where
-  pub written-short : (out : List ℕ) → length out < length text → given (text_conditions (set_part s ++ rest) out) ≡ number_of short_buffer
+  pub written-short : (out : List ℕ) → length out < length text → given (text_conditions (set_part s ++ rest) out) ≡ number_of ShortBuffer
   unfolding given first
   written-short out h = rw (text-back text s a rest, lt-ltb (length out) (length text) h)
 
@@ -34,8 +35,8 @@ module _ (text : List ℕ) (s : FolderSet) (a : Accepted text s) (rest : List �
   unfolding given first
   written-fits out h = rw (text-back text s a rest, le-ltb (length out) (length text) h)
 
-  module _ (answer : Written) (out after : List ℕ) (room : length text ≤ length out) (w : WriteText (set_part s ++ rest) out answer after) where
-    pub written-length : written_says answer ≡ value (length text)
+  module _ (answer : Result ℕ Refusal) (out after : List ℕ) (room : length text ≤ length out) (w : WriteText (set_part s ++ rest) out answer after) where
+    pub written-length : says answer ≡ value (length text)
     written-length = w.answers ∙ rw (written-fits out room, text-back text s a rest)
 
     pub written-buffer : after ≡ text ++ drop (length text) out

@@ -1,4 +1,5 @@
 -- On any bytes: where a folder is found by its number, it is there and has that number, and no folder before it has.
+use Rattle.std.proofs.Common.{Some, None}
 use Prim.Native.Nat.{ℕ, zero, suc, ◌+◌, ◌≤◌, ◌<◌, zero-le, min}
 use mathlib.Core.Path.{◌≡◌}
 use mathlib.Core.Bool.{true}
@@ -11,7 +12,6 @@ use Rattle.notation.specs.Limits.{max_paths}
 use Rattle.notation.specs.Layout.{set_size}
 use Rattle.notation.specs.Reads.{folder_count, present, folder_there, stored_number, search_folder, folder_of}
 use Rattle.notation.specs.declared.FolderNumber.{FolderNumber}
-use Rattle.notation.specs.declared.reads.FolderIndex.{FolderIndex}
 use Rattle.text.proofs.Laws.Tests.{cases}
 
 pub record Found (part : List ℕ) (number k left i : ℕ) : Type 0 where
@@ -20,13 +20,13 @@ pub record Found (part : List ℕ) (number k left i : ℕ) : Type 0 where
   pub has : stored_number part i ≡ number
   pub first : (j : ℕ) → k ≤ j → j < i → stored_number part j ≡ number → ⊥
 
-never : {i : ℕ} → FolderIndex.Missing ≡ FolderIndex.At i → ⊥
+never : {i : ℕ} → None ≡ Some i → ⊥
 never e = let z : ◌≡◌ {A = ℕ} 0 1 = cc in omega arith
 
-index_of : {i j : ℕ} → FolderIndex.At i ≡ FolderIndex.At j → i ≡ j
+index_of : {i j : ℕ} → Some i ≡ Some j → i ≡ j
 index_of e = cc
 
-found : (part : List ℕ) (number k left i : ℕ) → search_folder part number k left ≡ FolderIndex.At i → Found part number k left i
+found : (part : List ℕ) (number k left i : ℕ) → search_folder part number k left ≡ Some i → Found part number k left i
 unfolding search_folder
 found part number k zero i e = absurd (never e)
 found part number k (suc left) i e =
@@ -51,7 +51,7 @@ found part number k (suc left) i e =
     })
 
 -- the folder of a number, where there is one
-pub folder-of-found : (part : List ℕ) (n : FolderNumber) (i : ℕ) → folder_of part n ≡ FolderIndex.At i
+pub folder-of-found : (part : List ℕ) (n : FolderNumber) (i : ℕ) → folder_of part n ≡ Some i
     → (folder_there part i ≡ true) × (stored_number part i ≡ n.0) × ((j : ℕ) → j < i → stored_number part j ≡ n.0 → ⊥)
 unfolding folder_of present
 folder-of-found part n i e =

@@ -1,4 +1,5 @@
 -- On the bytes of a set, a folder is read as its number, the count of paths before it, and its own count of paths.
+use Rattle.std.proofs.Common.{Some, None}
 use Prim.Native.Nat.{ℕ, suc, ◌+◌, ◌-◌, ◌≤◌, ◌<◌, suc-le-suc, min}
 use mathlib.Core.Path.{◌≡◌, refl, sym}
 use mathlib.Core.List.{List, [], ◌∷◌, ◌++◌}
@@ -14,7 +15,6 @@ use Rattle.notation.specs.Print.{print}
 use Rattle.notation.specs.Layout.{set_size, folder_entry, folder_table, tables_of, set_part}
 use Rattle.text.specs.Bytes.{joined}
 use Rattle.notation.specs.Reads.{folder_entry_at, stored_number, stored_first, paths_end, folder_at, search_folder, folder_index, folder_of}
-use Rattle.notation.specs.declared.reads.FolderAt.{FolderAt}
 use Rattle.notation.specs.declared.FolderNumber.{FolderNumber}
 use Rattle.notation.proofs.Laws.Stored.Stands.{Stands}
 use Rattle.notation.proofs.Laws.Stored.Entries.{entry}
@@ -65,7 +65,7 @@ module _ (s : FolderSet) (f : Fitting s) (rest : List ℕ) where
       rw (gone s f rest (length s) max_paths (suc i) k, (paths-read s f rest)) (sym (paths-before-all s (suc i) k))))
 
   pub folder-read : (i : ℕ) → i < length s
-      → folder_at (set_part s ++ rest) i ≡ FolderAt.Folder (record { 0 = folder_number (get_or s i no_folder) }) (record { 0 = paths_before s i }) (length (folder_paths (get_or s i no_folder)))
+      → folder_at (set_part s ++ rest) i ≡ Some (record { number = record { 0 = folder_number (get_or s i no_folder) }; first = record { 0 = paths_before s i }; paths = length (folder_paths (get_or s i no_folder)) })
   unfolding folder_at
   folder-read i h =
       let k : i < max_paths = omega (arith, f.folders) in
@@ -80,6 +80,6 @@ module _ (s : FolderSet) (f : Fitting s) (rest : List ℕ) where
       rw (le-leb set_size (length (set_part s ++ rest)) (whole s f rest), folders-read s f rest, m)
       (search_is (set_part s ++ rest) number.0 0 s (λ i h. rw zero-add (number_read i h)))
 
-  pub folder-missing : (i : ℕ) → length s ≤ i → folder_at (set_part s ++ rest) i ≡ FolderAt.Missing
+  pub folder-missing : (i : ℕ) → length s ≤ i → folder_at (set_part s ++ rest) i ≡ None
   unfolding folder_at
   folder-missing i h = rw (folders-read s f rest, gone s f rest (length s) max_paths i h)

@@ -1,4 +1,5 @@
 -- On the bytes of a set, a path is read as its steps and its text, and a label as its bytes and its step.
+use Rattle.std.proofs.Common.{Some, None}
 use Prim.Native.Nat.{ℕ, ◌+◌, ◌≤◌, ◌<◌}
 use mathlib.Core.Path.{◌≡◌}
 use mathlib.Core.List.{List, [], ◌∷◌, ◌++◌}
@@ -12,8 +13,6 @@ use Rattle.notation.specs.Print.{print, print_path}
 use Rattle.text.specs.Bytes.{joined}
 use Rattle.notation.specs.Layout.{path_entry, label_entry, set_paths, set_labels, tables_of, set_part}
 use Rattle.notation.specs.Reads.{path_entry_at, label_entry_at, path_at, label_at, path_text, label_name}
-use Rattle.notation.specs.declared.reads.PathAt.{PathAt}
-use Rattle.notation.specs.declared.reads.LabelAt.{LabelAt}
 use Rattle.notation.proofs.Laws.Stored.Stands.{Stands, fits}
 use Rattle.notation.proofs.Laws.Stored.Entries.{entry}
 use Rattle.notation.proofs.Laws.Stored.Sections.{paths-stand, labels-stand}
@@ -27,7 +26,7 @@ use Rattle.notation.proofs.Laws.Stored.Reads.{all_steps, paths-read, labels-read
 pub record PathRead (part : List ℕ) (text : List ℕ) (i first : ℕ) (p : Path) : Type 0 where
   pub at : ℕ
   pub stands : Stands at (print_path p) text
-  pub answer : path_at part (record { 0 = i }) ≡ PathAt.Path first (length p) at (length (print_path p))
+  pub answer : path_at part (record { 0 = i }) ≡ Some (record { first = first; steps = length p; at = at; size = length (print_path p) })
   pub bytes : path_text part (record { 0 = i }) ≡ print_path p
 
 -- label i's entry and bytes; `index` is the place of its step among all steps
@@ -35,7 +34,7 @@ pub record LabelRead (part : List ℕ) (text : List ℕ) (ss : List Step) (i : �
   pub at : ℕ
   pub index : ℕ
   pub stands : Stands at n text
-  pub answer : label_at part i ≡ LabelAt.Label at (length n) index
+  pub answer : label_at part i ≡ Some (record { at = at; size = length n; step = index })
   pub bytes : label_name part i ≡ n
   pub below : index < length ss
   pub test : test_of (get_or ss index no_step) ≡ label n
@@ -52,7 +51,7 @@ module _ (s : FolderSet) (f : Fitting s) (rest : List ℕ) where
       entry i (roomy s f).path_width k (paths-stand (print s) (tables_of s) (roomy s f) rest)
 
   path-answer : (i : ℕ) (h : i < length (paths_of s)) (r : PathRow (print s) (steps_before (paths_of s) i) (get_or (paths_of s) i []) (get_or (set_paths 9 0 s) i []))
-      → path_at (set_part s ++ rest) (record { 0 = i }) ≡ PathAt.Path (steps_before (paths_of s) i) (length (get_or (paths_of s) i [])) r.at (length (print_path (get_or (paths_of s) i [])))
+      → path_at (set_part s ++ rest) (record { 0 = i }) ≡ Some (record { first = steps_before (paths_of s) i; steps = length (get_or (paths_of s) i []); at = r.at; size = length (print_path (get_or (paths_of s) i [])) })
   unfolding path_at max_set_bytes max_steps max_paths joined
   path-answer i h r =
       let first = steps_before (paths_of s) i in
@@ -89,7 +88,7 @@ module _ (s : FolderSet) (f : Fitting s) (rest : List ℕ) where
       entry i (roomy s f).label_width k (labels-stand (print s) (tables_of s) (roomy s f) rest)
 
   label-answer : (i : ℕ) (h : i < length (labels_of (all_steps s))) (r : LabelRow (print s) 0 (all_steps s) i (get_or (labels_of (all_steps s)) i []) (get_or (set_labels 9 0 s) i []))
-      → label_at (set_part s ++ rest) i ≡ LabelAt.Label r.at (length (get_or (labels_of (all_steps s)) i [])) r.index
+      → label_at (set_part s ++ rest) i ≡ Some (record { at = r.at; size = length (get_or (labels_of (all_steps s)) i []); step = r.index })
   unfolding label_at max_set_bytes max_steps max_paths max_labels joined
   label-answer i h r =
       let size = length (get_or (labels_of (all_steps s)) i []) in
@@ -120,10 +119,10 @@ module _ (s : FolderSet) (f : Fitting s) (rest : List ℕ) where
         nth = r.nth;
       }
 
-  pub path-missing : (i : ℕ) → length (paths_of s) ≤ i → path_at (set_part s ++ rest) (record { 0 = i }) ≡ PathAt.Missing
+  pub path-missing : (i : ℕ) → length (paths_of s) ≤ i → path_at (set_part s ++ rest) (record { 0 = i }) ≡ None
   unfolding path_at
   path-missing i h = rw (paths-read s f rest, gone s f rest (length (paths_of s)) max_paths i h)
 
-  pub label-missing : (i : ℕ) → length (labels_of (all_steps s)) ≤ i → label_at (set_part s ++ rest) i ≡ LabelAt.Missing
+  pub label-missing : (i : ℕ) → length (labels_of (all_steps s)) ≤ i → label_at (set_part s ++ rest) i ≡ None
   unfolding label_at
   label-missing i h = rw (labels-read s f rest, gone s f rest (length (labels_of (all_steps s))) max_labels i h)

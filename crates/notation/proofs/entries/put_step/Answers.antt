@@ -3,4 +3,4 @@ use Rattle.notation.proofs.entries.put_step.Goals as goal
 
 pub returns : goal.returns
 unfolding steps_at
-returns c = c.copy.ensures
+returns c = rw (← c.kind.ensures) c.copy.ensures

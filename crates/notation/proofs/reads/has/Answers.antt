@@ -1,18 +1,14 @@
 -- `reads::has`: each test is one part of `present`.
-use mathlib.Core.Bool.{false≢true}
-use borrow.Author.Tests.{lt-ltb, le-ltb, le-leb, lt-leb, ltb-true}
+use Rattle.std.proofs.Common.{arith}
+use Rattle.std.proofs.lemmas.Grind.{common_steps}
 use Rattle.notation.specs.Reads.{present}
 use Rattle.notation.specs.Layout.{set_size}
 use Rattle.notation.proofs.reads.has.Goals as goal
 
-pub returns-then-part-lt-SET_SIZE : goal.returns-then-part-lt-SET_SIZE
+pub returns-then-i-count : goal.returns-then-i-count
 unfolding present set_size
-returns-then-part-lt-SET_SIZE c = (rw (lt-leb set_size _ c.if-part-lt-SET_SIZE.true), λ e. absurd (false≢true e))
+returns-then-i-count c = grind (arith, common_steps)
 
-pub returns-then-count-i : goal.returns-then-count-i
+pub returns-else-i-count : goal.returns-else-i-count
 unfolding present set_size
-returns-then-count-i c = (rw (le-leb set_size _ c.if-part-lt-SET_SIZE.false, le-ltb _ _ c.if-count-i.true), λ e. absurd (false≢true e))
-
-pub returns : goal.returns
-unfolding present set_size
-returns c = (rw (le-leb set_size _ c.if-part-lt-SET_SIZE.false, lt-ltb _ _ c.if-count-i.false), ltb-true _ _)
+returns-else-i-count c = grind (arith, common_steps)

@@ -24,9 +24,9 @@ overflow_add-next-then-has-2 c = search rules
 pub returns-then-has : goal.returns-then-has
 unfolding paths_end max_paths folders_at folder_size
 returns-then-has c =
-    (rw (← c.folders.ensures.0, ← c.has.ensures.0, c.if-has.true) c.word_at.ensures.0, c.word_at.ensures.1)
+    (rw (← c.folders.ensures.0, ← c.has.ensures.value, c.if-has.true) c.word_at.ensures.0, c.word_at.ensures.1)
 
 pub returns-else-has : goal.returns-else-has
 unfolding paths_end max_paths
 returns-else-has c =
-    (rw (← c.folders.ensures.0, ← c.has.ensures.0, c.if-has.false) c.paths.ensures.0, c.paths.ensures.1)
+    (rw (← c.folders.ensures.0, ← c.has.ensures.value, c.if-has.false) c.paths.ensures.0, c.paths.ensures.1)

@@ -10,11 +10,10 @@ use mathlib.Core.List.{List, [], ◌∷◌, map, Memᴰ}
 use lib.Dec.{leb, eqb}
 use lib.ListN.{length, get_or, length-append, length-map}
 use borrow.Author.Tests.{leb-true, eqb-true}
-use Rattle.text.specs.Names.{within, begins_name, in_name, name_form}
+use Rattle.text.specs.Names.{within, letter, digit, begins_name, in_name, name_form}
 use Rattle.text.specs.Lists.{every, non_empty}
 use Rattle.text.proofs.Laws.Tests.{cases, clash, both, both_true}
 use Rattle.text.proofs.Laws.Lists.{every_append, every-weaker}
-use Rattle.text.proofs.Laws.Bytes.Names.{begins-low, in-last}
 use Rattle.notation.specs.Limits.{max_number}
 use Rattle.notation.specs.Sets.{child, descendant, label, star, Step, step, Path, FolderSet}
 use Rattle.notation.specs.Form.{formed_step, formed_path, formed_folder, formed, paths_of}
@@ -36,19 +35,21 @@ use Rattle.sheets.proofs.Laws.Page.Plain.{not_end, plain_lines}
 
 -- a byte of a name ends no line
 name-plain : (b : ℕ) → in_name b ≡ true → not_end b ≡ true
+unfolding in_name begins_name letter digit
 name-plain b h =
     cases (eqb b 10)
     (λ t.
     let e : b ≡ 10 = eqb-true b 10 t in
-    clash h (rw e (in-last 10 (omega arith) (λ z. omega arith))))
+    clash h (rw e refl))
     (λ f. rw f)
 
 begin-plain : (b : ℕ) → begins_name b ≡ true → not_end b ≡ true
+unfolding begins_name letter
 begin-plain b h =
     cases (eqb b 10)
     (λ t.
     let e : b ≡ 10 = eqb-true b 10 t in
-    clash h (rw e (begins-low 10 (omega arith))))
+    clash h (rw e refl))
     (λ f. rw f)
 
 label-plain : (n : List ℕ) → name_form n ≡ true → every not_end n ≡ true

@@ -1,4 +1,6 @@
--- What is written of what filing left: a refusal's line, or the sheet of the filed report.
+-- On the automaton of a set and the run of a machine's state the sheet is that of the state's matches.
+use Rattle.std.specs.Prelude.{Result}
+use Rattle.text.specs.declared.refusals.Refusal.{Refusal}
 use Prim.Native.Nat.{ℕ, zero, suc, ◌≤◌, ◌<◌}
 use native.Mathlib.Omega.{arith}
 use mathlib.Core.Path.{◌≡◌, refl}
@@ -9,9 +11,6 @@ use lib.ListN.{length}
 use borrow.Author.Tests.{le-ltb}
 use Rattle.text.specs.Refusals.{number_of}
 use Rattle.text.specs.Order.{first, given}
-use Rattle.text.specs.Output.{start, Adds}
-use Rattle.text.specs.declared.output.Cursor.{Cursor}
-use Rattle.text.specs.declared.written.Written.{Written}
 use Rattle.text.proofs.Laws.Numbers.{some_number}
 use Rattle.notation.specs.Sets.{FolderSet}
 use Rattle.model.specs.Calls.{State}
@@ -22,30 +21,15 @@ use Rattle.stored.proofs.Laws.Running.Means.{Means}
 use Rattle.stored.proofs.Laws.Shapes.Passing.{run-shaped, long-enough}
 use Rattle.filing.specs.Listing.{refused_line}
 use Rattle.filing.specs.Shown.{PrintsText}
-use Rattle.filing.proofs.Laws.Listing.Showing.{text-printed, put-printed, Showing}
+use Rattle.filing.proofs.Laws.Listing.Showing.{text-printed}
 use Rattle.filing.proofs.Laws.Listing.Written.{refused-length}
 use Rattle.sheets.specs.Limits.{number_width, path_width, line_width, body_lines, page_size, max_pages, sheet_size}
 use Rattle.sheets.specs.Sheet.{sheet}
 use Rattle.sheets.specs.SheetIn.{sheet_conditions, SheetWritten}
 use Rattle.sheets.specs.SheetOf.{SheetFor}
-use Rattle.sheets.specs.Code.Printing.{OutcomeShown}
 use Rattle.sheets.proofs.Laws.Stored.Shaped.{sheet-fits}
 use Rattle.sheets.proofs.Laws.Filed.Same.{rows_from, sheet-same}
 use Rattle.sheets.proofs.Laws.Filed.Selected.{sheet-shown}
-
--- `show_filed`
-module _ (a run out after : List ℕ) (room : sheet_size ≤ length out) where
-  pub refused-shown : (n : ℕ) {cursor : Cursor} → n < 256 → (n ≡ 0 → ⊥) → Adds out (start false) (refused_line n) after cursor → OutcomeShown n a run out (Written.Bytes cursor.at) after
-  unfolding sheet_size max_pages page_size body_lines line_width number_width path_width
-  refused-shown zero h some x = absurd (some refl)
-  refused-shown (suc n) h some x = put-printed (omega (arith, refused-length (suc n) h)) room x
-
-  pub none-shown : (n : ℕ) (answer : Written) → n ≡ 0 → SheetWritten a run out answer after → OutcomeShown n a run out answer after
-  none-shown n answer z w = rw z w
-
-line-shown : (n : ℕ) (a run out after : List ℕ) (answer : Written) → (n ≡ 0 → ⊥) → OutcomeShown n a run out answer after → PrintsText sheet_size (refused_line n) out answer after
-line-shown zero a run out after answer h w = absurd (h refl)
-line-shown (suc n) a run out after answer h w = w
 
 -- on the automaton of a set and the run of a machine's state nothing is refused
 module _ (s : FolderSet) (a : List ℕ) (w : Means s a) (m : State) (few : Few s m []) (rest : List ℕ) (out : List ℕ) (room : sheet_size ≤ length out) where
@@ -55,18 +39,8 @@ module _ (s : FolderSet) (a : List ℕ) (w : Means s a) (m : State) (few : Few s
       let e : ltb (length out) sheet_size ≡ false = le-ltb (length out) sheet_size room in
       rw (long-enough s a w m few rest, e, w.shaped, run-shaped s a w m few rest)
 
-  pub sheet-printed : (answer : Written) (after : List ℕ) → SheetWritten a (run_of s m ++ rest) out answer after
+  pub sheet-printed : (answer : Result ℕ Refusal) (after : List ℕ) → SheetWritten a (run_of s m ++ rest) out answer after
       → PrintsText sheet_size (sheet (rows_from m.matched 0 s)) out answer after
   sheet-printed answer after x =
       let same = sheet-same s a w m few rest in
       text-printed (rw same at (sheet-fits a (run_of s m ++ rest) w.shaped)) room (rw same at x) not-refused
-
-module _ (n : ℕ) (report a run : List ℕ) (c : Counters) (out after : List ℕ) (answer : Written) (room : sheet_size ≤ length out) (w : OutcomeShown n a run out answer after) where
-  pub sheet-showing : Showing sheet_size SheetFor report a run n c out answer after
-  sheet-showing = record {
-    number = λ r e. line-shown (number_of r) a run out after answer (some_number r) (rw e at w);
-    text = λ z s means rest m few f r k. (
-      sheet (rows_from m.matched 0 s),
-      (sheet-shown s report m f, sheet-printed s a means m few rest out room answer after (rw (z, r) at w)),
-    );
-  }

@@ -1,4 +1,5 @@
 -- The number of a place is that of the last folder whose first path is not after it; a place has a row exactly if it is matched, and each once.
+use Rattle.std.proofs.Common.{Option, Some, None}
 use Prim.Native.Nat.{ℕ, zero, suc, ◌+◌, ◌≤◌, ◌<◌}
 use native.Mathlib.Omega.{arith}
 use mathlib.Core.Path.{◌≡◌, refl, sym, ◌∙◌, ap}
@@ -11,7 +12,7 @@ use borrow.Author.Tests.{leb-true, leb-false, eqb-true, eqb-false}
 use Rattle.text.specs.Bytes.{joined}
 use Rattle.text.proofs.Laws.Tests.{cases}
 use Rattle.notation.specs.Limits.{max_paths}
-use Rattle.notation.specs.declared.reads.FolderAt.{FolderAt}
+use Rattle.notation.specs.declared.reads.StoredFolder.{StoredFolder}
 use Rattle.model.specs.Folders.{count_from}
 use Rattle.stored.specs.HeldSet.{folders_held, folder_held}
 use Rattle.stored.specs.Asking.{place_matched}
@@ -31,12 +32,12 @@ module _ (a : List ℕ) (place : ℕ) where
   passed n number h (last i l b later) = last i (omega arith) b (λ j k u v x. cases (eqb j n) (λ t. h k (rw (eqb-true j n t) at x)) (λ f. later j k u (omega (arith, eqb-false j n f)) x))
   passed n number h (none no_one) = none (λ j k v x. cases (eqb j n) (λ t. h k (rw (eqb-true j n t) at x)) (λ f. no_one j k (omega (arith, eqb-false j n f)) x))
 
-  step : (n number : ℕ) (f : FolderAt) → folder_held a n ≡ f → Among n number → Among (suc n) (or_before f place number)
-  step n number (FolderAt.Folder own first count) e x =
-      cases (leb first.0 place)
-      (λ t. rw t (last n (omega arith) (record { first = first; count = count; held = e; before = leb-true first.0 place t }) (λ j k u v _. absurd (omega arith))))
-      (λ f. rw f (passed n number (λ k b. let same = sym e ∙ b.held in let z : first ≡ b.first = cc in absurd (omega (arith, leb-false first.0 place f, b.before, ap (λ p. p.0) z))) x))
-  step n number FolderAt.Missing e x = passed n number (λ k b. let same = sym e ∙ b.held in let z : ◌≡◌ {A = ℕ} 0 1 = cc in absurd (omega arith)) x
+  step : (n number : ℕ) (f : Option StoredFolder) → folder_held a n ≡ f → Among n number → Among (suc n) (or_before f place number)
+  step n number (Some f) e x =
+      cases (leb f.first.0 place)
+      (λ t. rw t (last n (omega arith) (record { first = f.first; count = f.paths; held = e; before = leb-true f.first.0 place t }) (λ j k u v _. absurd (omega arith))))
+      (λ u. rw u (passed n number (λ k b. let same = sym e ∙ b.held in let z : f.first ≡ b.first = cc in absurd (omega (arith, leb-false f.first.0 place u, b.before, ap (λ p. p.0) z))) x))
+  step n number None e x = passed n number (λ k b. let same = sym e ∙ b.held in let z : ◌≡◌ {A = ℕ} 0 1 = cc in absurd (omega arith)) x
 
   among : (n : ℕ) → Among n (number_among a place n)
   unfolding number_among

@@ -19,19 +19,12 @@ use Rattle.sheets.specs.Sheet.{Row}
 use Rattle.sheets.specs.SheetIn.{matched_from, matched_places, place_row, rows_in, sheet_in}
 use Rattle.sheets.proofs.Laws.Page.Aligned.{number_of_row}
 use Rattle.sheets.proofs.Laws.Page.Lines.{sheet-most}
-use Rattle.sheets.proofs.Laws.Stored.Tables.{among-most}
+use Rattle.sheets.proofs.Laws.Stored.Tables.{matched-few, among-most}
 
 module _ (a run : List ℕ) where
-  matched-few : (first n : ℕ) → length (matched_from a run first n) ≤ n
-  unfolding joined count_from
-  matched-few first zero = omega arith
-  matched-few first (suc n) =
-      let later = matched-few (suc first) n in
-      cases (place_matched a run (record { 0 = first })) (λ t. rw t (omega arith)) (λ f. rw f (omega arith))
-
   pub rows_few : length (rows_in a run) ≤ max_paths
   unfolding rows_in
-  rows_few = omega (arith, length-map (matched_places a run) (place_row a), matched-few 0 max_paths)
+  rows_few = omega (arith, length-map (matched_places a run) (place_row a), matched-few a run 0 max_paths)
 
   module _ (h : automaton_shaped a ≡ true) where
     small-in : (places : List ℕ) (r : Row) → Memᴰ r (map (place_row a) places) → number_of_row r ≤ max_number

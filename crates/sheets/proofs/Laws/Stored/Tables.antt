@@ -1,19 +1,21 @@
 -- The tables from which a sheet is made hold its rows: matched places one after the other, and the number of each place's folder.
-use Prim.Native.Nat.{ℕ, zero, suc, ◌+◌, ◌≤◌, ◌<◌}
+use Rattle.std.proofs.Common.{Option, Some, None}
+use Prim.Native.Nat.{ℕ, zero, suc, ◌+◌, ◌-◌, ◌≤◌, ◌<◌, min}
 use native.Mathlib.Omega.{arith}
 use native.Mathlib.Nat.{zero-add}
+use native.Mathlib.Numerals.{add-one}
+use borrow.Rule.Slice.PartMut.{put_mid}
 use mathlib.Core.Path.{◌≡◌, refl, sym, ◌∙◌, ap}
 use mathlib.Core.Bool.{Bool, true, false, cond}
 use mathlib.Core.List.{List, [], ◌∷◌, ◌++◌, map, append-nil}
 use lib.Dec.{leb}
-use lib.ListN.{length, get_or, take, set, length-map, get_or-map}
+use lib.ListN.{length, get_or, take, drop, replicate, set, length-take, length-drop, length-append, length-replicate, length-map, get_or-map, get_or-append}
+use Rattle.std.proofs.lemmas.List.{get_or-append_right, get_or-replicate, drop_all}
 use lib.Seq.{get_or-take, get_or-set_same, get_or-set_other, length-take-le, take-suc-set}
-use borrow.Author.Tests.{leb-true, leb-false, le-leb}
+use borrow.Author.Tests.{leb-true, leb-false, le-leb, lt-leb}
 use Rattle.text.specs.Bytes.{joined}
 use Rattle.notation.specs.Limits.{max_number, max_paths}
-use Rattle.notation.specs.declared.PathPlace.{PathPlace}
-use Rattle.notation.specs.declared.FolderNumber.{FolderNumber}
-use Rattle.notation.specs.declared.reads.FolderAt.{FolderAt}
+use Rattle.notation.specs.declared.reads.StoredFolder.{StoredFolder}
 use Rattle.model.specs.Folders.{count_from}
 use Rattle.stored.specs.Shape.{automaton_shaped}
 use Rattle.stored.specs.HeldSet.{folders_held, folder_held}
@@ -23,7 +25,7 @@ use Rattle.text.proofs.Laws.Tests.{cases}
 use Rattle.sheets.specs.Limits.{line_width}
 use Rattle.sheets.specs.Sheet.{spaces, body_line, body_at, pages_for, pages_from, sheet}
 use Rattle.sheets.specs.SheetIn.{if_place_matched, matched_from, matched_places, or_before, number_among, place_row, rows_in, sheet_in}
-use Rattle.sheets.specs.Code.Rows.{Filled, Entered, Numbered, Collected, table_row, table_rows, InTables}
+use Rattle.sheets.specs.Code.Rows.{Numbered, table_row, table_rows, InTables}
 use Rattle.sheets.proofs.Laws.Page.Counted.{joined-more}
 use Rattle.sheets.proofs.Laws.Page.Lines.{body_is-is, body-none}
 
@@ -43,6 +45,13 @@ module _ (a run : List ℕ) where
   place-left at count n e f =
       e ∙ sym (append-nil (matched_from a run 0 n)) ∙ ap (λ (b : Bool). matched_from a run 0 n ++ cond b (n ∷ []) []) (sym f) ∙ rw zero-add at (joined-more (if_place_matched a run) 0 n)
 
+  pub matched-few : (first n : ℕ) → length (matched_from a run first n) ≤ n
+  unfolding joined count_from
+  matched-few first zero = omega arith
+  matched-few first (suc n) =
+      let later = matched-few (suc first) n in
+      cases (place_matched a run (record { 0 = first })) (λ t. rw t (omega arith)) (λ f. rw f (omega arith))
+
   matched-below : (first n top j : ℕ) → first + n ≤ top → j < length (matched_from a run first n) → get_or (matched_from a run first n) j 0 < top
   unfolding joined count_from
   matched-below first zero top j h k = absurd (omega arith)
@@ -50,73 +59,82 @@ module _ (a run : List ℕ) where
       let later : (i : ℕ) → i < length (matched_from a run (suc first) n) → get_or (matched_from a run (suc first) n) i 0 < top = λ i l. matched-below (suc first) n top i (omega arith) l in
       cases (place_matched a run (record { 0 = first })) (λ t. rw t (behind (matched_from a run (suc first) n) first top (omega arith) later j (rw t at k))) (λ f. rw f (later j (rw f at k)))
 
--- one place more that has the number
-pub filled-turn : (l : List ℕ) (from number i : ℕ) → i < length l → ((p : ℕ) → from ≤ p → p < i → get_or l p 0 ≡ number) → (p : ℕ) → from ≤ p → p < suc i → get_or (set l i number) p 0 ≡ number
-filled-turn l from number i h e p low high =
-    cases (leb i p)
+-- one number from a place on
+pub filled : (before : List ℕ) (from number : ℕ) (p : ℕ) → p < length before
+    → get_or (take from before ++ replicate (length before - from) number) p 0 ≡ cond (leb from p) number (get_or before p 0)
+filled before from number p k =
+    let front = take from before in
+    let many = length-take from before in
+    cases (leb from p)
     (λ t.
-    let same : p ≡ i = omega (arith, leb-true i p t) in
-    rw same (get_or-set_same l i number 0 h))
-    (λ f. get_or-set_other l i p number 0 (λ q. omega (arith, leb-false i p f)) ∙ e p low (leb-false i p f))
-
-pub filled : (before after : List ℕ) (from number : ℕ) → ((p : ℕ) → p < from → get_or after p 0 ≡ get_or before p 0) → ((p : ℕ) → from ≤ p → p < length before → get_or after p 0 ≡ number)
-    → (p : ℕ) → p < length before → get_or after p 0 ≡ cond (leb from p) number (get_or before p 0)
-filled before after from number l u p k = cases (leb from p) (λ t. rw t (u p (leb-true from p t) k)) (λ f. rw f (l p (leb-false from p f)))
+    let low : from ≤ p = leb-true from p t in
+    let at : length front ≡ from = omega arith in
+    rw t (get_or-append_right front (replicate (length before - from) number) from p 0 at low ∙ get_or-replicate (length before - from) (p - from) number 0 (omega arith)))
+    (λ f.
+    let high : p < from = leb-false from p f in
+    rw f (get_or-append front (replicate (length before - from) number) 0 p (omega arith) ∙ get_or-take from before p 0 high))
 
 pub among-most : (a : List ℕ) → automaton_shaped a ≡ true → (place n : ℕ) → number_among a place n ≤ max_number
 unfolding number_among
 among-most a h place zero = omega arith
 among-most a h place (suc n) = go (folder_held a n) (number-most a h n) (among-most a h place n)
   where
-    go : (f : FolderAt) → number_held f ≤ max_number → number_among a place n ≤ max_number → or_before f place (number_among a place n) ≤ max_number
-    go (FolderAt.Folder number first count) k l = cases (leb first.0 place) (λ t. rw t k) (λ u. rw u l)
-    go FolderAt.Missing k l = l
-
--- a folder that is there is entered from its first path on
-pub entered : (f : FolderAt) (number : FolderNumber) (first : PathPlace) (count : ℕ) (before after : List ℕ) → f ≡ FolderAt.Folder number first count
-    → Filled before first.0 number.0 after → Entered f before after
-entered f number first count before after e h = rw e (record { size = h.size; each = h.each })
-
-pub not_entered : (f : FolderAt) (l : List ℕ) → f ≡ FolderAt.Missing → Entered f l l
-not_entered f l e = rw e (record { size = refl; each = λ p h. refl })
+    go : (f : Option StoredFolder) → number_held f ≤ max_number → number_among a place n ≤ max_number → or_before f place (number_among a place n) ≤ max_number
+    go (Some f) k l = cases (leb f.first.0 place) (λ t. rw t k) (λ u. rw u l)
+    go None k l = l
 
 -- no folder, and one more
-pub numbered-none : (a before after : List ℕ) → length before ≡ max_paths → Filled before 0 0 after → Numbered a 0 after
+pub numbered-none : (a : List ℕ) → Numbered a 0 (replicate max_paths 0)
 unfolding number_among
-numbered-none a before after h f = record { size = f.size ∙ h; each = λ p k. f.each p (omega arith) ∙ rw (le-leb 0 p (omega arith)) }
+numbered-none a = record { size = length-replicate max_paths 0; each = λ p k. get_or-replicate max_paths p 0 0 k }
 
-pub numbered_more : (a : List ℕ) (i : ℕ) (before after : List ℕ) → Numbered a i before → Entered (folder_held a i) before after → Numbered a (suc i) after
-unfolding number_among
-numbered_more a i before after n e = record { size = e.size ∙ n.size; each = λ p k. e.each p (omega (arith, n.size)) ∙ ap (or_before (folder_held a i) p) (n.each p k) }
+module _ (a : List ℕ) (i : ℕ) (numbers : List ℕ) (n : Numbered a i numbers) where
+  -- a folder that is there is entered from its first path on
+  pub numbered_some : (folder : StoredFolder) → folder_held a i ≡ Some folder → (from k m : ℕ) (part : List ℕ) → from ≡ min folder.first.0 max_paths → k ≡ max_paths - from
+      → part ≡ replicate m folder.number.0 → m ≡ max_paths - from → Numbered a (i + 1) (put_mid from k numbers part)
+  unfolding number_among
+  numbered_some folder is from k m part e z f g =
+      let number = folder.number.0 in
+      let none : drop k (drop from numbers) ≡ [] = drop_all k (drop from numbers) (omega (arith, length-drop from numbers, n.size)) in
+      let same : m ≡ length numbers - from = omega (arith, n.size) in
+      let front = take from numbers in
+      let part-size = length-replicate (length numbers - from) number in
+      rw (none, append-nil, f, same, add-one) (record {
+        size = omega (arith, length-append front (replicate (length numbers - from) number), length-take from numbers, part-size, n.size);
+        each = λ p h.
+            let low : leb from p ≡ leb folder.first.0 p = cases (leb folder.first.0 p)
+            (λ t. le-leb from p (omega (arith, leb-true folder.first.0 p t)) ∙ sym t)
+            (λ u. lt-leb from p (omega (arith, leb-false folder.first.0 p u)) ∙ sym u) in
+            filled numbers from number p (omega (arith, n.size)) ∙ rw (low, n.each p h, is);
+      })
+
+  pub numbered_same : folder_held a i ≡ None → Numbered a (i + 1) numbers
+  unfolding number_among
+  numbered_same is = rw add-one (record { size = n.size; each = λ p h. n.each p h ∙ rw is })
 
 -- body lines by the tables
-module _ (a at : List ℕ) (count : ℕ) (numbers : List ℕ) (t : InTables at count numbers) where
-  front-size : length (take count at) ≡ count
-  front-size = length-take-le count at (omega (arith, t.few, t.size_at))
+module _ (a places numbers : List ℕ) where
+  pub rows-many : length (table_rows a places numbers) ≡ length places
+  unfolding table_rows
+  rows-many = length-map places (table_row a numbers)
 
-  pub table-row : (j : ℕ) → j < count → body_at (table_rows a at count numbers) j ≡ body_line (table_row a numbers (get_or at j 0))
+  pub table-row : (j : ℕ) → j < length places → body_at (table_rows a places numbers) j ≡ body_line (table_row a numbers (get_or places j 0))
   unfolding table_rows
   table-row j h =
-      body_is-is (map (table_row a numbers) (take count at)) j (table_row a numbers 0) (rw (length-map (take count at) (table_row a numbers)) (omega (arith, front-size)))
-      ∙ ap body_line (get_or-map (table_row a numbers) (take count at) j 0 ∙ ap (table_row a numbers) (get_or-take count at j 0 h))
+      body_is-is (map (table_row a numbers) places) j (table_row a numbers 0) (rw (length-map places (table_row a numbers)) h)
+      ∙ ap body_line (get_or-map (table_row a numbers) places j 0)
 
-  pub table_none : (j : ℕ) → count ≤ j → body_at (table_rows a at count numbers) j ≡ spaces line_width
+  pub table_none : (j : ℕ) → length places ≤ j → body_at (table_rows a places numbers) j ≡ spaces line_width
   unfolding table_rows
-  table_none j h = body-none (map (table_row a numbers) (take count at)) j (rw (length-map (take count at) (table_row a numbers)) (omega (arith, front-size)))
+  table_none j h = body-none (map (table_row a numbers) places) j (rw (length-map places (table_row a numbers)) h)
 
 -- the tables of an automaton and a run
-module _ (a run at : List ℕ) (count : ℕ) (numbers : List ℕ) (c : Collected a run at count) (n : Numbered a (folders_held a) numbers) where
-  places-many : length (matched_places a run) ≡ count
-  places-many = ap length (sym c.are) ∙ length-take-le count at (omega (arith, c.few, c.size))
-
-  pub in_tables : automaton_shaped a ≡ true → InTables at count numbers
+module _ (a run numbers : List ℕ) (n : Numbered a (folders_held a) numbers) where
+  pub in_tables : automaton_shaped a ≡ true → InTables (matched_places a run) numbers
   in_tables h = record {
-    few = c.few;
-    size_at = c.size;
-    size_numbers = n.size;
-    places = λ j k.
-        let e : get_or at j 0 ≡ get_or (matched_places a run) j 0 = sym (get_or-take count at j 0 k) ∙ ap (λ (l : List ℕ). get_or l j 0) c.are in
-        rw e (matched-below a run 0 max_paths max_paths j (omega arith) (omega (arith, places-many)));
+    few = matched-few a run 0 max_paths;
+    size = n.size;
+    inside = λ j k. matched-below a run 0 max_paths max_paths j (omega arith) k;
     small = λ p k. rw (n.each p k) (among-most a h p (folders_held a));
   }
 
@@ -128,12 +146,6 @@ module _ (a run at : List ℕ) (count : ℕ) (numbers : List ℕ) (c : Collected
       (λ t. rw (t, n.each first (omega arith), rows_same (suc first) m (omega arith)))
       (λ f. rw f (rows_same (suc first) m (omega arith)))
 
-  pub rows_are : table_rows a at count numbers ≡ rows_in a run
+  pub rows_are : table_rows a (matched_places a run) numbers ≡ rows_in a run
   unfolding table_rows rows_in
-  rows_are = ap (map (table_row a numbers)) c.are ∙ rows_same 0 max_paths (omega arith)
-
-  pub sheet-is : (pages : ℕ) → pages ≡ pages_for count → pages_from (table_rows a at count numbers) 0 pages ≡ sheet_in a run
-  unfolding sheet_in sheet rows_in
-  sheet-is pages e =
-      let many : length (map (place_row a) (matched_places a run)) ≡ count = length-map (matched_places a run) (place_row a) ∙ places-many in
-      rw (rows_are, e, many)
+  rows_are = rows_same 0 max_paths (omega arith)

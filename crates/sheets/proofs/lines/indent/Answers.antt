@@ -8,18 +8,18 @@ use Rattle.sheets.specs.Limits.{number_width}
 use Rattle.sheets.proofs.Laws.Page.Aligned.{decimal-length}
 use Rattle.sheets.proofs.lines.indent.Goals as goal
 
-pub returns-then-n-lt10 : goal.returns-then-n-lt10
+pub returns-in-0-to-9 : goal.returns-in-0-to-9
 unfolding number_width
-returns-then-n-lt10 c = omega (arith, ap length (decimal-one c.args.n c.if-n-lt10.true))
+returns-in-0-to-9 c = omega (arith, ap length (decimal-one c.args.n (omega arith)))
 
-pub returns-then-n-lt100 : goal.returns-then-n-lt100
+pub returns-in-10-to-99 : goal.returns-in-10-to-99
 unfolding number_width tens
-returns-then-n-lt100 c = omega (arith, decimal-length 0 c.args.n c.if-n-lt10.false c.if-n-lt100.true)
+returns-in-10-to-99 c = omega (arith, decimal-length 0 c.args.n (omega arith) (omega arith))
 
-pub returns-then-n-lt1000 : goal.returns-then-n-lt1000
+pub returns-in-100-to-999 : goal.returns-in-100-to-999
 unfolding number_width tens
-returns-then-n-lt1000 c = omega (arith, decimal-length 1 c.args.n c.if-n-lt100.false c.if-n-lt1000.true)
+returns-in-100-to-999 c = omega (arith, decimal-length 1 c.args.n (omega arith) (omega arith))
 
-pub returns : goal.returns
+pub returns-in_default : goal.returns-in_default
 unfolding number_width max_number tens
-returns c = omega (arith, decimal-length 2 c.args.n c.if-n-lt1000.false (omega arith))
+returns-in_default c = omega (arith, decimal-length 2 c.args.n (omega arith) (omega arith))

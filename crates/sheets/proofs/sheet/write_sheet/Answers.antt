@@ -1,25 +1,27 @@
 -- `sheet::write_sheet`: the refusal, or the sheet, which has room.
 use native.Mathlib.Omega.{arith}
-use mathlib.Core.Path.{sym, ◌∙◌}
-use Rattle.text.proofs.Laws.Output.{refused-with, written_as}
+use Prim.Native.Nat.{◌≤◌}
+use mathlib.Core.Path.{sym}
+use lib.ListN.{length}
+use Rattle.text.proofs.Laws.Output.{refused-as, same-buffer, written_as}
 use Rattle.sheets.specs.SheetIn.{sheet_in, sheet_conditions}
 use Rattle.sheets.proofs.Laws.Stored.Refused.{shaped-then, room-then}
 use Rattle.sheets.proofs.Laws.Stored.Shaped.{sheet-fits}
 use Rattle.sheets.proofs.sheet.write_sheet.Goals as goal
 
-pub returns-then-refused-ne0 : goal.returns-then-refused-ne0
-returns-then-refused-ne0 c =
-    let a = c.args in
-    refused-with (sheet_conditions a.a.now a.run.now a.out.now) (sheet_in a.a.now a.run.now) a.out.now c.refusal-refused.result c.refusal-refused.ensures c.if-refused-ne0.true
+pub returns-in_err-check : goal.returns-in_err-check
+returns-in_err-check c = let a = c.args in
+    refused-as (sheet_conditions a.a.now a.run.now a.out.now) (sheet_in a.a.now a.run.now) a.out.now _ _ c.from_residual.ensures.1 c.in_err-check.ensures
 
-pub compose-cursor-requires : goal.compose-cursor-requires
-compose-cursor-requires c = shaped-then c.args.a.now c.args.run.now c.args.out.now (sym c.refusal-refused.ensures ∙ c.if-refused-ne0.false)
+pub put_sheet-requires : goal.put_sheet-requires
+put_sheet-requires c = shaped-then c.args.a.now c.args.run.now c.args.out.now (sym c.in_ok-check.ensures)
 
 pub returns : goal.returns
-returns c =
-    let a = c.args in
-    let z = sym c.refusal-refused.ensures ∙ c.if-refused-ne0.false in
-    let shaped = shaped-then a.a.now a.run.now a.out.now z in
-    let room = room-then a.a.now a.run.now a.out.now z in
-    written_as (sheet_conditions a.a.now a.run.now a.out.now) (sheet_in a.a.now a.run.now) a.out.now z
-    (omega (arith, sheet-fits a.a.now a.run.now shaped)) c.compose-cursor.ensures
+returns c = let a = c.args in
+    let conditions = sheet_conditions a.a.now a.run.now a.out.now in
+    let text = sheet_in a.a.now a.run.now in
+    let z = sym c.in_ok-check.ensures in
+    let l : length text ≤ length a.out.now = omega (arith, sheet-fits a.a.now a.run.now (shaped-then a.a.now a.run.now a.out.now z), room-then a.a.now a.run.now a.out.now z) in
+    let x = rw c.new-front.ensures at c.put_sheet.ensures in
+    let same = same-buffer conditions text _ z l x in
+    written_as conditions text _ z l x _ _ _ c.ok_or.ensures.value (grind (arith, same))

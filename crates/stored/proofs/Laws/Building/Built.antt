@@ -5,7 +5,9 @@ use mathlib.Core.Path.{◌≡◌, refl, sym, ap, ◌∙◌}
 use mathlib.Core.Logic.{◌↔◌}
 use mathlib.Core.List.{List, ◌++◌}
 use lib.ListN.{length, drop}
-use Rattle.text.specs.Refusals.{Refusal, short_buffer, number_of}
+use Rattle.text.specs.declared.refusals.Refusal.{Refusal}
+use Rattle.text.specs.declared.refusals.Refusal.TheVariants.{ShortBuffer}
+use Rattle.text.specs.Refusals.{number_of}
 use Rattle.notation.specs.Sets.{FolderSet}
 use Rattle.notation.specs.Accepted.{Accepted}
 use Rattle.notation.specs.Judged.{RefusedText, Verdict, refuses, accepts, Judged, verdict_number}
@@ -69,11 +71,11 @@ module _ (text before : List ℕ) where
 -- each number exactly on its condition
 module _ (text before : List ℕ) (answer : ℕ) (after : List ℕ) (b : Built text before answer after) where
   -- 1: the buffer is short, whatever the text is
-  pub answer-1 : (answer ≡ number_of short_buffer) ↔ (length before < automaton_size)
+  pub answer-1 : (answer ≡ number_of ShortBuffer) ↔ (length before < automaton_size)
   answer-1 = short-is text (length before) automaton_size answer (λ h. (b.short h).0) (λ h v j. (b.judged h v j).0)
 
   -- 2 to 7 are those of the text, on the conditions that the notation's laws of refusals say
-  pub answer-other : (q : Refusal) → (q ≡ short_buffer → ⊥) → (answer ≡ number_of q) ↔ ((automaton_size ≤ length before) × RefusedText text q)
+  pub answer-other : (q : Refusal) → (q ≡ ShortBuffer → ⊥) → (answer ≡ number_of q) ↔ ((automaton_size ≤ length before) × RefusedText text q)
   answer-other = refused-is text (length before) automaton_size answer (λ h. (b.short h).0) (λ h v j. (b.judged h v j).0)
 
   -- 0: the text is that of an accepted set

@@ -1,12 +1,13 @@
 -- The loops of the pass that writes the masks and the initial state: what one turn does, and where they begin and end.
-use Prim.Native.Nat.{ℕ, suc, ◌+◌, ◌-◌, ◌≤◌, ◌<◌}
-use mathlib.Core.Path.{◌≡◌, ◌∙◌}
+use Prim.Native.Nat.{ℕ, zero, suc, ◌+◌, ◌-◌, ◌≤◌, ◌<◌}
+use mathlib.Core.Path.{◌≡◌, refl, ap}
 use mathlib.Core.Bool.{Bool, true, false, ◌||◌}
 use mathlib.Core.List.{List}
 use native.Mathlib.Nat.{add-zero, sub-zero}
 use native.Mathlib.Omega.{arith}
 use borrow.Author.Tests.{eq-eqb, ne_eqb, eqb-true}
 use lib.Dec.{eqb}
+use Rattle.std.specs.List.{range_with_len, list_any}
 use Rattle.stored.specs.Code.Masks.{flag_step, flag_steps, flag_path, flag_paths, rooted, any_rooted}
 use Rattle.stored.proofs.Laws.Tables.Goto.{same_test}
 
@@ -45,22 +46,10 @@ module _ (n : ℕ) where
   unfolding flag_paths
   paths-end place part h = let none : n - place ≡ 0 = omega arith in rw none
 
-  pub rooted-start : (part : List ℕ) → any_rooted (n - 0) 0 part ≡ any_rooted n 0 part
-  rooted-start part = rw sub-zero
-
-  rooted-turn : (place : ℕ) (part : List ℕ) → place < n → any_rooted (n - place) place part ≡ (rooted part place || any_rooted (n - (place + 1)) (place + 1) part)
-  unfolding any_rooted
-  rooted-turn place part h =
-      let one : n - place ≡ suc (n - (place + 1)) = omega arith in
-      let next : place + 1 ≡ suc place = omega arith in
-      rw (one, next)
-
-  pub rooted-here : (place : ℕ) (part : List ℕ) → place < n → rooted part place ≡ true → any_rooted (n - place) place part ≡ true
-  rooted-here place part h t = rooted-turn place part h ∙ rw t
-
-  pub rooted-later : (place : ℕ) (part : List ℕ) → place < n → rooted part place ≡ false → any_rooted (n - place) place part ≡ any_rooted (n - (place + 1)) (place + 1) part
-  rooted-later place part h t = rooted-turn place part h ∙ rw t
-
-  pub rooted-end : (place : ℕ) (part : List ℕ) → n ≤ place → any_rooted (n - place) place part ≡ false
-  unfolding any_rooted
-  rooted-end place part h = let none : n - place ≡ 0 = omega arith in rw none
+-- some path of those that are left begins with `/`
+pub rooted-among : (left place : ℕ) (part : List ℕ) → list_any (rooted part) (range_with_len place left) ≡ any_rooted left place part
+unfolding any_rooted
+rooted-among zero place part = refl
+rooted-among (suc left) place part =
+    let next : place + 1 ≡ suc place = omega arith in
+    rw next (ap (λ b. rooted part place || b) (rooted-among left (suc place) part))

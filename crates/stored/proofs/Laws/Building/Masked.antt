@@ -1,4 +1,5 @@
 -- On the bytes of a set, the pass over the steps gives the set's masks, and the initial state is that of a fresh run.
+use Rattle.std.proofs.Common.{Some}
 use Prim.Native.Nat.{ℕ, suc, ◌+◌, ◌*◌, ◌/◌, ◌%◌, ◌≤◌, ◌<◌}
 use mathlib.Core.Path.{◌≡◌, refl, sym, ◌∙◌, ap, ap₂}
 use mathlib.Core.Bool.{Bool, true, false}
@@ -13,9 +14,7 @@ use Rattle.notation.specs.Sets.{Step, Path, FolderSet, axis_of, test_of}
 use Rattle.notation.specs.Print.{print_path}
 use Rattle.notation.specs.Layout.{set_part}
 use Rattle.notation.specs.Form.{paths_of, steps_of}
-use Rattle.notation.specs.Reads.{is_descendant, is_star, step_at, path_at, path_count}
-use Rattle.notation.specs.declared.reads.PathAt.{PathAt}
-use Rattle.notation.specs.declared.reads.StepAt.{StepAt}
+use Rattle.notation.specs.Reads.{is_descendant, is_star, step_at, path_at, path_count, stored_step}
 use Rattle.notation.proofs.Laws.Refused.Fitting.{Fitting}
 use Rattle.notation.proofs.Laws.Stored.Reads.{paths-read}
 use Rattle.notation.proofs.Laws.Stored.LabelTable.{no_step}
@@ -82,13 +81,13 @@ no_steps = refl
 
 -- a path of the set, as it is read
 pub path-in : (s : FolderSet) (fit : Fitting s) (more : List ℕ) (pre : List Path) (p : Path) (ps : List Path) → paths_of s ≡ pre ++ (p ∷ ps)
-    → (at : ℕ) × (path_at (set_part s ++ more) (record { 0 = length pre }) ≡ PathAt.Path (length (steps_of pre)) (length p) at (length (print_path p)))
+    → (at : ℕ) × (path_at (set_part s ++ more) (record { 0 = length pre }) ≡ Some (record { first = length (steps_of pre); steps = length p; at = at; size = length (print_path p) }))
 path-in s fit more pre p ps e =
     let h : length pre < length (paths_of s) = omega (arith, ap length e, length-append pre (p ∷ ps)) in
     let r = path-read s fit more (length pre) h in
     let q : get_or (paths_of s) (length pre) [] ≡ p = ap (λ (l : List Path). get_or l (length pre) []) e ∙ get_or-append_seam pre p ps [] in
     let t : take (length pre) (paths_of s) ≡ pre = ap (take (length pre)) e ∙ take-append_seam pre (p ∷ ps) in
-    (r.at, r.answer ∙ ap₂ (λ (l : List Path) (y : Path). PathAt.Path (length (steps_of l)) (length y) r.at (length (print_path y))) t q)
+    (r.at, r.answer ∙ ap₂ (λ (l : List Path) (y : Path). Some (record { first = length (steps_of l); steps = length y; at = r.at; size = length (print_path y) })) t q)
 
 -- and its steps
 pub steps-here : (s : FolderSet) (pre : List Path) (p : Path) (ps : List Path) → paths_of s ≡ pre ++ (p ∷ ps) → all_steps s ≡ steps_of pre ++ (p ++ steps_of ps)
@@ -126,7 +125,7 @@ module _ (s : FolderSet) (fit : Fitting s) (hs : List ℕ) (ls : List Link) (f :
   unfolding flag_step
   step-bits i h first last b =
       let x = after-set s fit hs ls (bit_bytes b all_masks) f rest in
-      let read : step_at (bytes b) i ≡ StepAt.Step (is_descendant (axis_of (get_or (all_steps s) i no_step))) (is_star (test_of (get_or (all_steps s) i no_step))) = rw x.1 (step-read s fit x.0 i h) in
+      let read : step_at (bytes b) i ≡ Some (stored_step (get_or (all_steps s) i no_step)) = rw x.1 (step-read s fit x.0 i h) in
       let small : i < 8 * mask_size = omega (arith, fit.steps, all_small) in
       rw (lt-ltb i (8 * mask_size) small, read) (role-bits i small (get_or (all_steps s) i no_step) first last b)
 
@@ -149,7 +148,7 @@ module _ (s : FolderSet) (fit : Fitting s) (hs : List ℕ) (ls : List Link) (f :
       later k l = let e : suc i + k ≡ i + suc k = omega arith in ap (λ (j : ℕ). get_or (all_steps s) j no_step) e ∙ g (suc k) (omega arith)
 
   path-here : (b : ℕ → Bool) (pre : List Path) (p : Path) (ps : List Path) → paths_of s ≡ pre ++ (p ∷ ps)
-      → (at : ℕ) × (path_at (bytes b) (record { 0 = length pre }) ≡ PathAt.Path (length (steps_of pre)) (length p) at (length (print_path p)))
+      → (at : ℕ) × (path_at (bytes b) (record { 0 = length pre }) ≡ Some (record { first = length (steps_of pre); steps = length p; at = at; size = length (print_path p) }))
   path-here b pre p ps e =
       let x = after-set s fit hs ls (bit_bytes b all_masks) f rest in
       let r = path-in s fit x.0 pre p ps e in

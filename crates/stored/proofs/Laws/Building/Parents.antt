@@ -1,4 +1,5 @@
 -- The pass stores each label's parent and the length of its word, as the automaton's definition has them.
+use Rattle.std.proofs.Common.{Option, Some}
 use Prim.Native.Nat.{ℕ, suc, ◌+◌, ◌≤◌, ◌<◌}
 use native.Mathlib.Omega.{arith}
 use mathlib.Core.Path.{◌≡◌, refl, sym, ap, ap₂, ◌∙◌, subst}
@@ -11,12 +12,12 @@ use lib.ListN.{length, get_or, set, length-append, length-set}
 use lib.Seq.{sets, get_or_at, take_at, set-set, get_or-set_same}
 use Rattle.text.specs.Names.{Name}
 use Rattle.notation.specs.Limits.{max_labels}
-use Rattle.notation.specs.Sets.{Axis, child, descendant, Test, label, star, Step, step, Path, FolderSet, axis_of, test_of}
+use Rattle.notation.specs.Sets.{Axis, child, descendant, Test, label, star, Step, step, Path, FolderSet, test_of}
 use Rattle.notation.specs.Form.{paths_of, steps_of}
 use Rattle.text.specs.Lists.{non_empty, every}
 use Rattle.text.specs.Bytes.{le16}
-use Rattle.notation.specs.Reads.{label_name, path_at, step_at, step_count, is_descendant, is_star}
-use Rattle.notation.specs.declared.reads.StepAt.{StepAt}
+use Rattle.notation.specs.Reads.{label_name, path_at, step_at, step_count, is_star, stored_step}
+use Rattle.notation.specs.declared.reads.StoredStep.{StoredStep}
 use Rattle.notation.proofs.Laws.Stored.LabelTable.{no_step}
 use Rattle.notation.proofs.Laws.Stored.PathTable.{steps_before}
 use Rattle.notation.proofs.Laws.Refused.Fitting.{Fitting}
@@ -76,11 +77,11 @@ record Ready (s : FolderSet) (i l begun : ℕ) (w : Word) (x : Step) (p : Path) 
   over_capacity : every non_empty ps ≡ true
 
 -- one step of the pass
-next-step : (left i : ℕ) (at : Place) (a : List ℕ) (first : Bool) {x : StepAt} → step_at a i ≡ x → starts_at (path_at a (record { 0 = at.paths })) i ≡ first
+next-step : (left i : ℕ) (at : Place) (a : List ℕ) (first : Bool) {x : Option StoredStep} → step_at a i ≡ x → starts_at (path_at a (record { 0 = at.paths })) i ≡ first
     → parented (suc left) i at a ≡ parented left (i + 1) (passed_by x first at a).place (passed_by x first at a).bytes
 unfolding parented passed
 next-step left i at a first e g =
-    ap₂ (λ (x : StepAt) (b : Bool). parented left (i + 1) (passed_by x b at a).place (passed_by x b at a).bytes) e g
+    ap₂ (λ (x : Option StoredStep) (b : Bool). parented left (i + 1) (passed_by x b at a).place (passed_by x b at a).bytes) e g
 
 -- the path of this place begins further on, or here
 steps-before : (s : FolderSet) (gone ps : List Path) → paths_of s ≡ gone ++ ps → steps_before (paths_of s) (length gone) ≡ length (steps_of gone)
@@ -247,7 +248,7 @@ module _ (s : FolderSet) (fit : Fitting s) (ls : List Link) (ms : List ℕ) (f :
   at l begun w = record { labels = l; paths = begun; state = state_of s w }
 
   step-here : (l i : ℕ) (front : List Step) (x : Step) (more : List Step) → all_steps s ≡ front ++ (x ∷ more) → length front ≡ i
-      → step_at (stage l) i ≡ StepAt.Step (is_descendant (axis_of x)) (is_star (test_of x))
+      → step_at (stage l) i ≡ Some (stored_step x)
   unfolding stage
   step-here l i front x more e n =
       let g : get_or (all_steps s) i no_step ≡ x = rw e (get_or_at front x more no_step i n) in

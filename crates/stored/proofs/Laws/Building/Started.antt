@@ -1,4 +1,5 @@
 -- On the bytes of a well-formed set, the initial state is that of a fresh run: 1 where some path begins with `/`.
+use Rattle.std.proofs.Common.{Some}
 use Prim.Native.Nat.{ℕ, suc, ◌<◌}
 use mathlib.Core.Path.{◌≡◌, refl, sym, ◌∙◌, ap, ap₂}
 use mathlib.Core.Bool.{Bool, true, false, not, ◌&&◌, ◌||◌}
@@ -10,12 +11,11 @@ use lib.ListN.{length, get_or, length-append}
 use lib.Seq.{get_or-append_seam}
 use Rattle.text.specs.Names.{within}
 use Rattle.notation.specs.Limits.{max_number}
-use Rattle.notation.specs.Sets.{child, descendant, Step, step, Path, folder, FolderSet, axis_of, test_of}
+use Rattle.notation.specs.Sets.{child, descendant, Step, step, Path, folder, FolderSet, axis_of}
 use Rattle.text.specs.Lists.{every, non_empty, any}
 use Rattle.notation.specs.Form.{formed_step, formed_path, formed_folder, formed, paths_of, steps_of}
 use Rattle.notation.specs.Layout.{set_part}
-use Rattle.notation.specs.Reads.{is_descendant, is_star, step_at, path_count}
-use Rattle.notation.specs.declared.reads.StepAt.{StepAt}
+use Rattle.notation.specs.Reads.{is_descendant, step_at, path_count, stored_step}
 use Rattle.notation.proofs.Laws.Refused.Fitting.{Fitting}
 use Rattle.notation.proofs.Laws.Stored.Reads.{paths-read}
 use Rattle.notation.proofs.Laws.Stored.LabelTable.{no_step}
@@ -99,8 +99,8 @@ module _ (s : FolderSet) (fit : Fitting s) (more : List ℕ) where
       first : get_or (all_steps s) (length (steps_of pre)) no_step ≡ x
       first = ap (λ (l : List Step). get_or l (length (steps_of pre)) no_step) steps ∙ get_or-append_seam (steps_of pre) x (p ++ steps_of ps) no_step
 
-      read : step_at (set_part s ++ more) (length (steps_of pre)) ≡ StepAt.Step (is_descendant (axis_of x)) (is_star (test_of x))
-      read = step-read s fit more (length (steps_of pre)) below ∙ ap (λ (y : Step). StepAt.Step (is_descendant (axis_of y)) (is_star (test_of y))) first
+      read : step_at (set_part s ++ more) (length (steps_of pre)) ≡ Some (stored_step x)
+      read = step-read s fit more (length (steps_of pre)) below ∙ ap (λ (y : Step). Some (stored_step y)) first
 
   all-roots : (ps pre : List Path) → paths_of s ≡ pre ++ ps → ((p : Path) → Memᴰ p ps → non_empty p ≡ true) → any_rooted (length ps) (length pre) (set_part s ++ more) ≡ any from_root ps
   unfolding any_rooted any

@@ -9,7 +9,8 @@ use lib.Seq.{sets-eq, take_at, drop_at}
 use borrow.Author.Tests.{le-ltb}
 use Rattle.notation.specs.Limits.{max_set_bytes}
 use Rattle.notation.specs.Sets.{FolderSet}
-use Rattle.text.specs.Answers.{value, said}
+use Rattle.std.specs.Prelude.{Result}
+use Rattle.text.specs.Answers.{value, said, says}
 use Rattle.notation.specs.Accepted.{Accepted}
 use Rattle.notation.specs.Judged.{accepts}
 use Rattle.notation.specs.Reads.{text_of}
@@ -18,9 +19,8 @@ use Rattle.notation.proofs.Laws.Refused.AcceptedSet.{accepted-fits}
 use Rattle.notation.proofs.Laws.Stored.Reads.{text-read}
 use Rattle.stored.specs.Automaton.{automaton_size, all_labels, heads, links, masks, start_state, automaton_of}
 use Rattle.text.specs.Order.{first, given}
-use Rattle.text.specs.Written.{written_says}
 use Rattle.stored.specs.Build.{Built, SetWritten, write_conditions}
-use Rattle.text.specs.declared.written.Written.{Written}
+use Rattle.text.specs.declared.refusals.Refusal.{Refusal}
 use Rattle.stored.proofs.Laws.Tables.SetReads.{of-set}
 use Rattle.stored.proofs.Laws.Shapes.BuiltShape.{built-shaped, built-grows}
 
@@ -45,9 +45,9 @@ module _ (text : List ℕ) (s : FolderSet) (acc : Accepted text s) (rest : List 
           built-shaped s acc rest,
         )
 
-    module _ (answer : Written) (after : List ℕ) (w : SetWritten (automaton_of s ++ rest) out answer after) where
+    module _ (answer : Result ℕ Refusal) (after : List ℕ) (w : SetWritten (automaton_of s ++ rest) out answer after) where
       -- the text's length
-      pub written-length : written_says answer ≡ value (length text)
+      pub written-length : says answer ≡ value (length text)
       written-length = w.answers ∙ ap₂ (λ (r n : ℕ). said r n) none-refused (ap length stored-text)
 
       written-bytes : after ≡ text ++ drop (length text) out

@@ -23,7 +23,7 @@ byte-at-bit bytes j k h =
     rw (q, r)
 
 -- the last bit of the byte before
-last-before : (bytes : List ℕ) (base j : ℕ) → bit_of (get_or bytes (base + j) 0) 7 ≡ shifted (bit_in bytes base) (8 * suc j)
+pub last-before : (bytes : List ℕ) (base j : ℕ) → bit_of (get_or bytes (base + j) 0) 7 ≡ shifted (bit_in bytes base) (8 * suc j)
 last-before bytes base j =
     let e : 8 * suc j ≡ suc (8 * j + 7) = omega arith in
     rw e (byte-bit bytes base j 7 (omega arith))

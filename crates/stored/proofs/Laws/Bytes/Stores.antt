@@ -4,11 +4,25 @@ use native.Mathlib.Nat.{mul-zero, mul-suc, not-suc-le-zero, le_of_suc-le-suc}
 use native.Mathlib.Omega.{arith}
 use mathlib.Core.Path.{◌≡◌, refl, sym, ap, ◌∙◌}
 use mathlib.Core.List.{List, [], ◌∷◌, ◌++◌, map, append_assoc}
-use lib.ListN.{length, get_or, set, replicate, length-set, length-replicate, replicate-append-replicate}
-use lib.Seq.{sets, length-sets, set-append_left}
+use lib.ListN.{length, get_or, set, take, drop, replicate, length-set, length-drop, length-replicate, replicate-append-replicate}
+use lib.Seq.{sets, sets-eq, take-length, length-take-le, length-sets, set-append_left}
+use borrow.Rule.Slice.PartMut.{mid_of, put_mid}
+use Rattle.std.proofs.lemmas.Slice.{put_mid-paste}
 use Rattle.text.specs.Bytes.{joined, padded}
 use Rattle.notation.proofs.Laws.Fill.Padded.{sets-past, sets-front}
 use Rattle.notation.proofs.Laws.Stored.Entries.{OfWidth, none, more, joined_length}
+
+-- a part that is written whole is a run of stores
+pub part-written : (xs ys vs : List ℕ) (at n : ℕ) → ys ≡ vs → length vs ≡ n → at + n ≤ length xs → put_mid at n xs ys ≡ sets xs at vs
+part-written xs ys vs at n e h fits =
+    put_mid-paste at n xs ys vs (length vs) e h refl
+    ∙ ap (λ (l : List ℕ). take at xs ++ l ++ drop (at + length vs) xs) (take-length vs)
+    ∙ sym (sets-eq vs xs at (omega arith))
+
+pub part-cleared : (xs ys : List ℕ) (at n m : ℕ) → ys ≡ replicate (length (mid_of at n xs)) 0 → n ≡ m → at + m ≤ length xs → put_mid at n xs ys ≡ sets xs at (replicate m 0)
+part-cleared xs ys at n m e same fits =
+    let size : length (mid_of at n xs) ≡ m = length-take-le n (drop at xs) (rw (length-drop at xs) (omega arith)) ∙ same in
+    part-written xs ys (replicate m 0) at n (e ∙ ap (λ (k : ℕ). replicate k 0) size) (length-replicate m 0 ∙ sym same) (omega arith)
 
 -- a run of stores within the front leaves what follows it
 pub sets-left : (vs xs ys : List ℕ) (i : ℕ) → i + length vs ≤ length xs → sets (xs ++ ys) i vs ≡ sets xs i vs ++ ys

@@ -1,4 +1,5 @@
 -- On the run of a machine's state the asking calls answer what the machine has, and 13 exactly where what is asked of is not there.
+use Rattle.std.proofs.Common.{None}
 use Prim.Native.Nat.{ℕ, zero, suc, ◌+◌, ◌-◌, ◌*◌, ◌≤◌, ◌<◌, pred}
 use mathlib.Core.Path.{◌≡◌, refl, ◌∙◌, ap, ap₂}
 use mathlib.Core.Bool.{Bool, true, false, ◌&&◌, ◌||◌, cond}
@@ -15,13 +16,13 @@ use Rattle.notation.specs.Sets.{Path, FolderSet, folder_paths}
 use Rattle.notation.specs.Form.{paths_of}
 use Rattle.text.specs.Lists.{any}
 use Rattle.notation.specs.Print.{print}
-use Rattle.text.specs.Refusals.{number_of, not_found}
+use Rattle.text.specs.declared.refusals.Refusal.TheVariants.{NotFound}
+use Rattle.text.specs.Refusals.{number_of}
 use Rattle.text.specs.Answers.{Answer, refused, value, said}
 use Rattle.notation.specs.Activity.{active}
 use Rattle.notation.specs.Reads.{path_at, folder_of, folder_index}
 use Rattle.notation.specs.declared.PathPlace.{PathPlace}
 use Rattle.notation.specs.declared.FolderNumber.{FolderNumber}
-use Rattle.notation.specs.declared.reads.PathAt.{PathAt}
 use Rattle.notation.proofs.Laws.Stored.PathTable.{steps_before, steps-through}
 use Rattle.notation.proofs.Laws.Stored.FolderTable.{no_folder, paths_before, paths-between, paths-before-most}
 use Rattle.notation.proofs.Laws.Stored.ReadPaths.{PathRead, path-read, path-missing}
@@ -48,7 +49,7 @@ use Rattle.stored.proofs.Laws.Running.FolderPlaces.{has_number, Placed, missing,
 
 -- the answer where it is there, else 13
 abbrev pub asked : Bool → Bool → Answer Bool
-asked there b = cond there (value b) (refused (number_of not_found))
+asked there b = cond there (value b) (refused (number_of NotFound))
 
 any_same : (f g : ℕ → Bool) (first n : ℕ) → ((i : ℕ) → first ≤ i → i < first + n → f i ≡ g i) → any f (count_from first n) ≡ any g (count_from first n)
 unfolding any count_from
@@ -81,7 +82,7 @@ module _ (s : FolderSet) (a : List ℕ) (m : Means s a) (st : State) (few : Few 
   run = run_of s st ++ rest
 
   -- only 13 is left
-  ask-refused : (there : Bool) → ask_refusal a run there ≡ cond there 0 (number_of not_found)
+  ask-refused : (there : Bool) → ask_refusal a run there ≡ cond there 0 (number_of NotFound)
   unfolding ask_refusal given first
   ask-refused true = rw (long-enough s a m st few rest, m.shaped, run-shaped s a m st few rest)
   ask-refused false = rw (long-enough s a m st few rest, m.shaped, run-shaped s a m st few rest)
@@ -93,7 +94,7 @@ module _ (s : FolderSet) (a : List ℕ) (m : Means s a) (st : State) (few : Few 
   path-there : (i : ℕ) → i < length ps → PathRead a (print s) i (steps_before ps i) (get_or ps i [])
   path-there i h = rw m.stored (path-read s m.fit m.more i h)
 
-  path-gone : (i : ℕ) → length ps ≤ i → path_at a (record { 0 = i }) ≡ PathAt.Missing
+  path-gone : (i : ℕ) → length ps ≤ i → path_at a (record { 0 = i }) ≡ None
   path-gone i h = rw m.stored (path-missing s m.fit m.more i h)
 
   steps-room : (i k : ℕ) → i < length ps → k < length (get_or ps i []) → steps_before ps i + k < 8 * mask_size
@@ -186,7 +187,7 @@ module _ (s : FolderSet) (a : List ℕ) (m : Means s a) (st : State) (few : Few 
   ask-prefix = ap₂ (λ (r n : ℕ). said r n) (ask-refused true) prefix-size
 
   -- the open name at a depth
-  pub ask-name-refused : (d : ℕ) → name_refusal a run d ≡ cond (within 1 (length names) d) 0 (number_of not_found)
+  pub ask-name-refused : (d : ℕ) → name_refusal a run d ≡ cond (within 1 (length names) d) 0 (number_of NotFound)
   unfolding name_refusal
   ask-name-refused d = rw (stored-depth s a m st few rest, ← names-length s st g) (ask-refused (within 1 (length names) d))
 

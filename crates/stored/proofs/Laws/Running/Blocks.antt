@@ -3,7 +3,10 @@ use Prim.Native.Nat.{ℕ, zero, suc, ◌+◌, ◌*◌, ◌/◌, ◌%◌, ◌≤�
 use mathlib.Core.Path.{◌≡◌, refl, sym, ◌∙◌, ap, ap₂}
 use mathlib.Core.Bool.{Bool, ◌&&◌, ◌||◌}
 use mathlib.Core.List.{List, ◌++◌}
+use native.Mathlib.Numerals.{add-one}
 use native.Mathlib.Omega.{arith}
+use lib.Lanes.{put_chunk}
+use Rattle.std.proofs.lemmas.Simd.{length-put_chunk}
 use lib.Dec.{eqb}
 use lib.ListN.{length, get_or}
 use lib.Seq.{sets, length-sets}
@@ -11,9 +14,10 @@ use Rattle.stored.specs.Automaton.{mask_size, byte_of, bit_bytes, tabulate, chil
 use Rattle.stored.specs.Bits.{bit_of, bit_at}
 use Rattle.stored.specs.Run.{matches_at, rows_at, active_in, seen_in, row_size, row_at}
 use Rattle.stored.specs.RunCalls.{mask_bit, active_at, seen_at, matched_at, shifted, permitted}
-use Rattle.stored.specs.Code.OpenSteps.{taken_active, taken_seen, taken_matched, stored_bits}
+use Rattle.stored.specs.Code.OpenSteps.{Block, taken_active, taken_seen, taken_matched, stored_bits}
 use Rattle.stored.proofs.Laws.Bytes.Beside.{byte-before, byte-behind}
 use Rattle.stored.proofs.Laws.Bytes.MaskRows.{bits-same, bits-split}
+use Rattle.stored.proofs.Laws.Bytes.Vectors.{block-put}
 use Rattle.stored.proofs.Laws.Bytes.Tabulate.{tabulate-length}
 use Rattle.stored.proofs.Laws.Running.Written.{sets-next, sets-apart}
 
@@ -40,6 +44,18 @@ block-stored run d n f g h room =
     three-more run (row_at (suc d) + active_in) (row_at (suc d) + seen_in) matches_at n (bit_bytes f n) (bit_bytes g n) (bit_bytes h n) (block f n) (block g n) (block h n)
     (tabulate-length (byte_of f) n) (tabulate-length (byte_of g) n) (tabulate-length (byte_of h) n) (omega arith) (omega (arith, tabulate-length (byte_of (λ j. f (8 * n + j))) 16))
     ∙ rw (← bits-split f n 16, ← bits-split g n 16, ← bits-split h n 16)
+
+-- the three blocks of a byte, put one after the other
+pub blocks-put : (run : List ℕ) (d from at : ℕ) {f g h : ℕ → Bool} {x y z : List ℕ} → at ≡ row_at (d + 1) → at + row_size ≤ length run → from + 16 ≤ mask_size → Block f x → Block g y → Block h z
+    → put_chunk (matches_at + from) (put_chunk (at + seen_in + from) (put_chunk (at + active_in + from) run x) y) z
+    ≡ sets (sets (sets run (row_at (suc d) + active_in + from) (bit_bytes f 16)) (row_at (suc d) + seen_in + from) (bit_bytes g 16)) (matches_at + from) (bit_bytes h 16)
+unfolding mask_size matches_at rows_at row_size active_in seen_in
+blocks-put run d from at {f} {g} {h} {x} {y} {z} is fits room bx by bz =
+    let r : at ≡ row_at (suc d) = is ∙ ap row_at (add-one d) in
+    let one = block-put run (at + active_in + from) x bx (omega arith) in
+    let two = block-put (put_chunk (at + active_in + from) run x) (at + seen_in + from) y by (omega (arith, length-put_chunk (at + active_in + from) run x)) in
+    let three = block-put (put_chunk (at + seen_in + from) (put_chunk (at + active_in + from) run x) y) (matches_at + from) z bz (omega (arith, length-put_chunk (at + active_in + from) run x, length-put_chunk (at + seen_in + from) (put_chunk (at + active_in + from) run x) y)) in
+    three ∙ rw (two, one, r)
 
 pub none-stored : (run : List ℕ) (d : ℕ) (f g h : ℕ → Bool) → run ≡ stored_bits run d f g h 0
 unfolding tabulate

@@ -13,11 +13,13 @@ use lib.ListN.{length, get_or, drop, get_or-eq_default}
 use Rattle.text.specs.Names.{Name, within}
 use Rattle.notation.specs.Sets.{FolderSet, folder_number}
 use Rattle.notation.specs.Form.{paths_of}
-use Rattle.text.specs.Answers.{Answer, value, said}
+use Rattle.text.specs.Answers.{Answer, value, said, says}
 use Rattle.text.proofs.Laws.Said.{said-refused}
 use Rattle.text.proofs.Laws.Numbers.{some_number}
 use Rattle.notation.specs.Fit.{name_at, Active}
-use Rattle.text.specs.Refusals.{Refusal, number_of, not_found}
+use Rattle.text.specs.declared.refusals.Refusal.{Refusal}
+use Rattle.text.specs.declared.refusals.Refusal.TheVariants.{NotFound}
+use Rattle.text.specs.Refusals.{number_of}
 use Rattle.notation.specs.declared.PathPlace.{PathPlace}
 use Rattle.notation.specs.declared.FolderNumber.{FolderNumber}
 use Rattle.model.specs.Prefix.{prefix_of}
@@ -29,13 +31,12 @@ use Rattle.model.specs.Moves.{OpenMoves}
 use Rattle.model.specs.Folders.{places_of, folder_matched}
 use Rattle.stored.specs.Automaton.{automaton_size, automaton_of}
 use Rattle.stored.specs.Run.{run_size, run_of}
-use Rattle.stored.specs.Answers.{opened_says}
+use Rattle.std.specs.Prelude.{Result}
 use Rattle.stored.specs.RunCalls.{start_refusal, open_refusal, open_walk, close_refusal}
 use Rattle.stored.specs.RunContracts.{Opens, Closes}
 use Rattle.stored.specs.Asking.{ask_path, ask_folder, ask_step, ask_prefix, name_refusal, ask_name}
 use Rattle.stored.specs.Demand3.{Made, made_open, made_close, calls_of, Left, started, Calls, OpenAnswered, is_refused, is_accepted, Answers, HasFolder, HasMatchedPath, StepThere, PrefixAnswered, SameAsked, Holds, Demand3, Demand3Whole}
 use Rattle.stored.specs.declared.counters.Counters.{Counters}
-use Rattle.stored.specs.declared.answers.Opened.{Opened}
 use Rattle.text.proofs.Laws.Tests.{cases, clash, both_true}
 use Rattle.text.proofs.Laws.Lists.{any-is, is_any}
 use Rattle.model.proofs.Laws.Machine.Matches.{run-matched, run-matched-there}
@@ -153,7 +154,7 @@ module _ (s : FolderSet) (a : List ℕ) (m : Means s a) (rest : List ℕ) (calls
       let w : within 1 (length (open_names st)) d ≡ true = within_in d (length (open_names st)) lo (omega (arith, ap length counted)) in
       (ask-name s a m st few rest d ∙ rw w (ap (λ (l : List Name). name_at l d) counted), ask-name-refused s a m st few rest d ∙ rw w)
 
-  pub no-name-answers : (d : ℕ) → ((1 ≤ d) × (d ≤ length held) → ⊥) → (ask_name a bytes d ≡ []) × (name_refusal a bytes d ≡ number_of not_found)
+  pub no-name-answers : (d : ℕ) → ((1 ≤ d) × (d ≤ length held) → ⊥) → (ask_name a bytes d ≡ []) × (name_refusal a bytes d ≡ number_of NotFound)
   no-name-answers d h =
       let w : within 1 (length (open_names st)) d ≡ false = within-not d (length (open_names st)) (λ p. h (p.0, omega (arith, ap length counted, p.1))) in
       (ask-name s a m st few rest d ∙ rw w, ask-name-refused s a m st few rest d ∙ rw w)
@@ -185,14 +186,14 @@ open-answer s before e (some r) moves is m = rw (said-refused (number_of r) move
 
 module _ (s : FolderSet) (a : List ℕ) (m : Means s a) (buffer : List ℕ) where
   -- what calls answer, lent what the calls before left
-  open-answers : (before : List Made) (u v : Left) (e : Name) (answer : Opened) → Calls a (started a buffer) before u → Opens a u.bytes u.counters e answer v.bytes v.counters
-      → OpenAnswered s (calls_of before) e (opened_says answer)
+  open-answers : (before : List Made) (u v : Left) (e : Name) (answer : Result ℕ Refusal) → Calls a (started a buffer) before u → Opens a u.bytes u.counters e answer v.bytes v.counters
+      → OpenAnswered s (calls_of before) e (says answer)
   open-answers before u v e answer c o =
       let st = run s (calls_of before) in
       let few = few-run s (calls_of before) in
       let rest = drop run_size buffer in
       let k = moves_of (walk s st.current e) in
-      let is : opened_says answer ≡ said (number_in (refusal st (open_call as_left e))) k =
+      let is : says answer ≡ said (number_in (refusal st (open_call as_left e))) k =
       o.answers
       ∙ ap (λ (x : Left). said (open_refusal a x.bytes x.counters e) (open_walk a x.bytes e).moves) (left_by-is s a m buffer c)
       ∙ rw (open-refused s a m st few rest as_left e, opened-moves s a m rest st few e) in

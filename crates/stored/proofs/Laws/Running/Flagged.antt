@@ -1,88 +1,31 @@
 -- The blocks of bits that an open stores are those of its contract.
 use Prim.Native.Nat.{ℕ, suc, ◌+◌, ◌*◌, ◌/◌, ◌%◌, ◌≤◌, ◌<◌}
-use mathlib.Core.Path.{◌≡◌, refl, sym, ◌∙◌, ap, ap₂}
-use mathlib.Core.Bool.{Bool, false, ◌&&◌, ◌||◌}
-use mathlib.Core.List.{List, [], ◌∷◌, ◌++◌, append-nil, append_assoc}
+use mathlib.Core.Path.{◌≡◌, sym, ◌∙◌, ap}
+use mathlib.Core.Bool.{Bool, false, ◌||◌}
+use mathlib.Core.List.{List, ◌∷◌, ◌++◌, append_assoc}
 use native.Mathlib.Omega.{arith}
 use native.Mathlib.Numerals.{add-one}
-use lib.ListN.{length, get_or, set, take, drop, replicate, length-append, length-replicate}
+use lib.ListN.{length, get_or, take, drop, replicate, length-append, length-replicate}
 use lib.Seq.{sets, length-take-le}
 use Rattle.text.specs.Names.{max_name}
 use Rattle.text.specs.Bytes.{le16, padded}
-use Rattle.notation.proofs.Laws.Fill.Padded.{padded-none, sets-padded, sets-front, length-padded}
+use Rattle.notation.proofs.Laws.Fill.Padded.{length-padded}
 use Rattle.stored.specs.Marked.{marked}
-use Rattle.stored.specs.Automaton.{mask_size, byte_of, bit_bytes, tabulate}
+use Rattle.stored.specs.Automaton.{mask_size, byte_of, bit_bytes}
 use Rattle.stored.specs.Bits.{bit_of, bit_at}
 use Rattle.stored.specs.Run.{matches_at, depth_at, rows_at, row_at, row_size, name_in, state_in, active_in, seen_in}
 use Rattle.stored.specs.RunCalls.{depth_of, used_bytes, used_bits, candidate, now_active, now_seen, now_matched, open_walk, row_opened, with_row, open_run}
 use Rattle.stored.specs.Code.OpenSteps.{taken_active, taken_seen, taken_matched, blank_row, stored_bits}
 use Rattle.stored.proofs.Laws.Bytes.Beside.{put-before}
 use Rattle.stored.proofs.Laws.Bytes.Bits.{bits-bit}
-use Rattle.stored.proofs.Laws.Bytes.ByteBits.{packed-from}
-use Rattle.stored.proofs.Laws.Bytes.ByteSteps.{byte-at-bit}
 use Rattle.stored.proofs.Laws.Bytes.MaskRows.{bits-same, bits_none}
-use Rattle.stored.proofs.Laws.Bytes.Stores.{past}
 use Rattle.stored.proofs.Laws.Bytes.Tabulate.{tabulate-length}
-use Rattle.stored.proofs.Laws.Running.Blocks.{block, taken-active, taken-seen, taken-matched}
-use Rattle.stored.proofs.Laws.Running.Written.{sets-next}
+use Rattle.stored.proofs.Laws.Running.Blocks.{taken-active, taken-seen, taken-matched}
+use Rattle.stored.proofs.Laws.Running.Written.{fill}
 
 -- no bits in zeros
 zero_bits : (n i : ℕ) → i < 8 * n → bit_at (replicate n 0) i ≡ false
 zero_bits n i h = ap (λ (l : List ℕ). bit_at l i) (sym (bits_none n)) ∙ bits-bit (λ k. false) n i h
-
--- a block of bits is made in zeros, a byte more with each turn, from its bits
-abbrev pub made : (ℕ → Bool) → ℕ → List ℕ
-made f j = sets (replicate 16 0) 0 (bit_bytes f j)
-
-pub none_made : (f : ℕ → Bool) → replicate 16 0 ≡ made f 0
-unfolding tabulate
-none_made f = refl
-
-pub one-made : (out : List ℕ) (f : ℕ → Bool) (j x : ℕ) → out ≡ made f j → x < 256 → ((k : ℕ) → k < 8 → bit_of x k ≡ f (8 * j + k)) → set out j x ≡ made f (j + 1)
-unfolding tabulate
-one-made out f j x is h bits = rw (is, add-one j, ← packed-from x (λ k. f (8 * j + k)) h bits) (sets-next (replicate 16 0) 0 j (bit_bytes f j) (byte_of f j ∷ []) (omega (arith, tabulate-length (byte_of f) j)))
-
-pub all_made : (out : List ℕ) (f : ℕ → Bool) (j : ℕ) → out ≡ made f j → j ≡ 16 → out ≡ bit_bytes f 16
-all_made out f j is e =
-    is
-    ∙ ap (made f) e
-    ∙ ap (λ (l : List ℕ). sets l 0 (bit_bytes f 16)) (sym (append-nil (replicate 16 0)))
-    ∙ sets-front (replicate 16 0) [] (bit_bytes f 16) (length-replicate {A = ℕ} 16 0 ∙ sym (tabulate-length (byte_of f) 16))
-    ∙ append-nil (bit_bytes f 16)
-
--- the step of a bit in a block from byte `from` on, and its bits
-step_in : (from j k : ℕ) → 8 * (from + j) + k ≡ 8 * from + (8 * j + k)
-step_in from j k = omega arith
-
-pub active-in : (f : ℕ → Bool) (from j k : ℕ) (b : Bool) → b ≡ f (8 * (from + j) + k) → b ≡ f (8 * from + (8 * j + k))
-active-in f from j k b e = e ∙ ap f (step_in from j k)
-
-pub seen-in : (active : List ℕ) (s : ℕ → Bool) (from j k : ℕ) (b : Bool) → k < 8 → b ≡ (s (8 * (from + j) + k) || bit_of (get_or active j 0) k) → b ≡ (s (8 * from + (8 * j + k)) || bit_at active (8 * j + k))
-seen-in active s from j k b h e = e ∙ ap₂ (λ (p q : Bool). p || q) (ap s (step_in from j k)) (byte-at-bit active j k h)
-
-pub match-in : (active : List ℕ) (s m : ℕ → Bool) (from j k : ℕ) (b : Bool) → k < 8 → b ≡ (s (8 * (from + j) + k) || (bit_of (get_or active j 0) k && m (8 * (from + j) + k)))
-    → b ≡ (s (8 * from + (8 * j + k)) || (bit_at active (8 * j + k) && m (8 * from + (8 * j + k))))
-match-in active s m from j k b h e =
-    e ∙ ap₂ (λ (p q : Bool). p || q) (ap s (step_in from j k)) (ap₂ (λ (p q : Bool). p && q) (byte-at-bit active j k h) (ap m (step_in from j k)))
-
--- three blocks, the later two made of the first, stored one after the other
-pub block-put : (run run₁ run₂ run₃ x y z : List ℕ) (f s t m : ℕ → Bool) (d from at : ℕ) → at ≡ row_at (d + 1)
-    → x ≡ block f from → y ≡ bit_bytes (λ i. s (8 * from + i) || bit_at x i) 16 → z ≡ bit_bytes (λ i. t (8 * from + i) || (bit_at x i && m (8 * from + i))) 16
-    → run₁ ≡ sets run (at + active_in + from) x → run₂ ≡ sets run₁ (at + seen_in + from) y → run₃ ≡ sets run₂ (matches_at + from) z
-    → run₃ ≡ sets (sets (sets run (row_at (suc d) + active_in + from) (block f from)) (row_at (suc d) + seen_in + from) (block (λ i. s i || f i) from)) (matches_at + from) (block (λ i. t i || (f i && m i)) from)
-block-put run run₁ run₂ run₃ x y z f s t m d from at e ex ey ez p q r =
-    let row : at ≡ row_at (suc d) = e ∙ ap row_at (add-one d) in
-    let bit : (i : ℕ) → i < 8 * 16 → bit_at x i ≡ f (8 * from + i) = λ i h. ap (λ (l : List ℕ). bit_at l i) ex ∙ bits-bit (λ k. f (8 * from + k)) 16 i h in
-    let seen : y ≡ block (λ i. s i || f i) from = ey ∙ bits-same (λ i. s (8 * from + i) || bit_at x i) (λ i. s (8 * from + i) || f (8 * from + i)) 16 (λ i h. ap (λ (b : Bool). s (8 * from + i) || b) (bit i h)) in
-    let matched : z ≡ block (λ i. t i || (f i && m i)) from = ez
-    ∙ bits-same (λ i. t (8 * from + i) || (bit_at x i && m (8 * from + i))) (λ i. t (8 * from + i) || (f (8 * from + i) && m (8 * from + i))) 16 (λ i h. ap (λ (b : Bool). t (8 * from + i) || (b && m (8 * from + i))) (bit i h)) in
-    r ∙ rw (q, p, seen, matched, ex, row)
-
--- what is stored into zeros behind a front is filled up with zeros
-fill : (front rest vs : List ℕ) (at n : ℕ) → length front ≡ at → length vs ≤ n → sets (front ++ (replicate n 0 ++ rest)) at vs ≡ front ++ (padded n vs ++ rest)
-fill front rest vs at n e h =
-    past front (replicate n 0 ++ rest) at at 0 vs e (omega arith)
-    ∙ ap (λ (l : List ℕ). front ++ l) (ap (λ (l : List ℕ). sets (l ++ rest) 0 vs) (sym (padded-none n)) ∙ sets-padded n [] vs rest (omega arith))
 
 regroup : (f p s z y t : List ℕ) (n : ℕ) → f ++ ((n ∷ (p ++ (s ++ (z ++ y)))) ++ t) ≡ (f ++ (n ∷ (p ++ s))) ++ (z ++ (y ++ t))
 regroup f p s z y t n = simp append_assoc

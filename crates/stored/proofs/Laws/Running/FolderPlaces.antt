@@ -1,4 +1,5 @@
 -- Where numbers rise, the places of a folder's paths are those of the one folder that has its number, and none where no folder has it.
+use Rattle.std.proofs.Common.{Some, None}
 use Prim.Native.Nat.{ℕ, suc, ◌+◌, ◌≤◌, ◌<◌}
 use mathlib.Core.Path.{◌≡◌, refl}
 use mathlib.Core.Bool.{Bool, true, false, ◌||◌}
@@ -12,7 +13,6 @@ use Rattle.notation.specs.Sets.{folder, FolderSet, folder_number, folder_paths}
 use Rattle.notation.specs.Form.{paths_of, numbers_fall_after}
 use Rattle.text.specs.Lists.{any}
 use Rattle.notation.specs.Reads.{folder_index}
-use Rattle.notation.specs.declared.reads.FolderIndex.{FolderIndex}
 use Rattle.notation.proofs.Laws.Stored.FolderTable.{no_folder, paths_before}
 use Rattle.model.specs.Folders.{count_from, places_from}
 use Rattle.text.proofs.Laws.Tests.{cases}
@@ -22,8 +22,8 @@ abbrev pub has_number : FolderSet → ℕ → Bool
 has_number s number = any (λ f. eqb (folder_number f) number) s
 
 pub data Placed (first k number : ℕ) (fs : FolderSet) : Type 0 where
-  missing : has_number fs number ≡ false → folder_index number k fs ≡ FolderIndex.Missing → places_from first fs number ≡ [] → Placed first k number fs
-  at : (i : ℕ) → has_number fs number ≡ true → i < length fs → folder_index number k fs ≡ FolderIndex.At (k + i)
+  missing : has_number fs number ≡ false → folder_index number k fs ≡ None → places_from first fs number ≡ [] → Placed first k number fs
+  at : (i : ℕ) → has_number fs number ≡ true → i < length fs → folder_index number k fs ≡ Some (k + i)
       → places_from first fs number ≡ count_from (first + paths_before fs i) (length (folder_paths (get_or fs i no_folder))) → Placed first k number fs
 
 either-false : (x y : Bool) → (x || y) ≡ false → (x ≡ false) × (y ≡ false)

@@ -94,7 +94,7 @@ module _ (s : FolderSet) (a : List ℕ) (m : Means s a) (rest : List ℕ) where
         ∙ ap (λ (l : List Level). run_of s (closed_from l st) ++ rest) (sym c.innermost)
 
     closed-counters : (e : Name) → Closable st e → close_counters (counters_of st) ≡ counters_of (closed st)
-    unfolding close_counters closed_from
+    unfolding closed_from
     closed-counters e c = rw (add-one st.closes) (ap (λ (l : List Level). counters_of (closed_from l st)) (sym c.innermost))
 
     open-leaves : (e : Name) → leaves a (left_of s rest st) (open_call as_left e) ≡ left_of s rest (step s st (open_call as_left e))

@@ -1,4 +1,5 @@
 -- The automaton of a set holds its folders, in order, and the texts of its paths.
+use Rattle.std.proofs.Common.{Some}
 use Prim.Native.Nat.{ℕ, ◌<◌}
 use mathlib.Core.Path.{◌≡◌}
 use mathlib.Core.List.{List, []}
@@ -7,7 +8,6 @@ use Rattle.notation.specs.Sets.{FolderSet, folder_number, folder_paths}
 use Rattle.notation.specs.Form.{paths_of}
 use Rattle.notation.specs.Print.{print_path}
 use Rattle.notation.specs.declared.PathPlace.{PathPlace}
-use Rattle.notation.specs.declared.reads.FolderAt.{FolderAt}
 use Rattle.notation.proofs.Laws.Stored.FolderTable.{no_folder, paths_before}
 use Rattle.notation.proofs.Laws.Stored.Reads.{folders-read}
 use Rattle.notation.proofs.Laws.Stored.ReadFolders.{folder-read}
@@ -21,7 +21,7 @@ module _ (s : FolderSet) (a : List ℕ) (m : Means s a) where
   folders-held = rw m.stored (folders-read s m.fit m.more)
 
   pub folder-held : (i : ℕ) → i < length s
-      → folder_held a i ≡ FolderAt.Folder (record { 0 = folder_number (get_or s i no_folder) }) (record { 0 = paths_before s i }) (length (folder_paths (get_or s i no_folder)))
+      → folder_held a i ≡ Some (record { number = record { 0 = folder_number (get_or s i no_folder) }; first = record { 0 = paths_before s i }; paths = length (folder_paths (get_or s i no_folder)) })
   unfolding folder_held
   folder-held i h = rw m.stored (folder-read s m.fit m.more i h)
 

@@ -1,23 +1,25 @@
 -- What a list of calls leaves, computed call by call: the calls' contracts determine it, and any list of calls can be made.
-use Prim.Native.Nat.{ℕ, zero, suc}
+use Prim.Native.Nat.{ℕ}
 use mathlib.Core.Path.{◌≡◌, refl, sym, ◌∙◌, ap, ap₂}
 use mathlib.Core.Bool.{Bool, true, false, cond}
+use mathlib.Core.Option.{Option, none, some}
 use mathlib.Core.List.{List, [], ◌∷◌, ◌++◌}
 use native.Mathlib.Omega.{arith}
 use lib.Dec.{eqb}
-use Rattle.text.specs.Refusals.{number_of, short_buffer}
+use Rattle.text.specs.declared.refusals.Refusal.TheVariants.{ShortBuffer}
+use Rattle.text.specs.Refusals.{number_of}
 use Rattle.text.specs.Names.{Name}
-use Rattle.text.specs.Answers.{said, number_said}
-use Rattle.text.proofs.Laws.Said.{said-number}
-use Rattle.text.specs.Order.{first, given}
+use Rattle.std.specs.Prelude.{Result, Ok, Err}
+use Rattle.text.specs.declared.refusals.Refusal.{Refusal}
+use Rattle.text.specs.Answers.{said, says, refusal_in}
+use Rattle.text.proofs.Laws.Results.{err_says, number_in_said}
+use Rattle.text.specs.Order.{Condition, first, number_in, given}
 use Rattle.model.specs.Calls.{as_left, otherwise, Call, open_call, close_call}
 use Rattle.stored.specs.Automaton.{automaton_size}
-use Rattle.stored.specs.Answers.{opened_says}
-use Rattle.stored.specs.RunCalls.{no_counters, open_refusal, open_run, open_walk, open_counters, close_refusal, close_run, close_counters}
+use Rattle.stored.specs.RunCalls.{no_counters, open_conditions, open_refusal, open_run, open_walk, open_counters, close_refusal, close_run, close_counters}
 use Rattle.stored.specs.RunContracts.{Opens, Closes}
 use Rattle.stored.specs.Demand3.{Made, made_open, made_close, calls_of, Left, Calls, no_calls, an_open, a_close, other_open, other_close}
 use Rattle.stored.specs.declared.counters.Counters.{Counters}
-use Rattle.stored.specs.declared.answers.Opened.{Opened}
 
 -- a call lent all as last left leaves what its contract says; any other changes nothing of it
 abbrev pub leaves : List ℕ → Left → Call → Left
@@ -43,7 +45,7 @@ both_left true t u bytes counters p q = ap₂ (λ (x : List ℕ) (y : Counters).
 both_left false t u bytes counters p q = ap₂ (λ (x : List ℕ) (y : Counters). record { bytes = x; counters = y }) p q
 
 module _ (a : List ℕ) where
-  open-left : {t u : Left} {e : Name} {answer : Opened} → Opens a t.bytes t.counters e answer u.bytes u.counters → u ≡ leaves a t (open_call as_left e)
+  open-left : {t u : Left} {e : Name} {answer : Result ℕ Refusal} → Opens a t.bytes t.counters e answer u.bytes u.counters → u ≡ leaves a t (open_call as_left e)
   open-left {t} {u} {e} o =
       both_left (eqb (open_refusal a t.bytes t.counters e) 0) t u (open_run a t.bytes e) (open_counters a t.bytes t.counters e) o.run_after o.counters_after
 
@@ -71,7 +73,7 @@ module _ (a : List ℕ) where
   calls-split (made_open otherwise e answer ∷ before) (other_open o n c) = let r = calls-split before c in (r.0, other_open o n r.1, r.2)
   calls-split (made_close otherwise e answer ∷ before) (other_close o n c) = let r = calls-split before c in (r.0, other_close o n r.1, r.2)
 
-  pub split-open : {t v : Left} {e : Name} {answer : Opened} {later : List Made} → Calls a t (made_open as_left e answer ∷ later) v
+  pub split-open : {t v : Left} {e : Name} {answer : Result ℕ Refusal} {later : List Made} → Calls a t (made_open as_left e answer ∷ later) v
       → (u : Left) × Opens a t.bytes t.counters e answer u.bytes u.counters
   split-open (an_open {u = u} o c) = (u, o)
 
@@ -79,20 +81,26 @@ module _ (a : List ℕ) where
       → (u : Left) × Closes a t.bytes t.counters e answer u.bytes u.counters
   split-close (a_close {u = u} o c) = (u, o)
 
+-- whatever number an order gives, a `Result` says it
+can-say : (order : List Condition) (v : ℕ) → (answer : Result ℕ Refusal) × (says answer ≡ said (given order) v)
+unfolding given
+can-say order v = say (first order)
+  where
+    say : (o : Option Refusal) → (answer : Result ℕ Refusal) × (says answer ≡ said (number_in o) v)
+    say none = (Ok v, refl)
+    say (some r) = (Err r, err_says r (number_of r) v refl)
+
 -- what the contracts say of what is lent
-opens-so : (a : List ℕ) (t : Left) (e : Name) → (answer : Opened) × (u : Left) × (number_said (opened_says answer) ≡ open_refusal a t.bytes t.counters e) × Opens a t.bytes t.counters e answer u.bytes u.counters
+opens-so : (a : List ℕ) (t : Left) (e : Name) → (answer : Result ℕ Refusal) × (u : Left) × (refusal_in answer ≡ open_refusal a t.bytes t.counters e) × Opens a t.bytes t.counters e answer u.bytes u.counters
+unfolding open_refusal
 opens-so a t e =
     let ok = eqb (open_refusal a t.bytes t.counters e) 0 in
-    let says = can-say (open_refusal a t.bytes t.counters e) (open_walk a t.bytes e).moves in (
-      says.0,
+    let can = can-say (open_conditions a t.bytes t.counters e) (open_walk a t.bytes e).moves in (
+      can.0,
       record { bytes = cond ok (open_run a t.bytes e) t.bytes; counters = cond ok (open_counters a t.bytes t.counters e) t.counters },
-      ap number_said says.1 ∙ said-number (open_refusal a t.bytes t.counters e) (open_walk a t.bytes e).moves,
-      record { answers = says.1; run_after = refl; counters_after = refl },
+      number_in_said can.0 (open_refusal a t.bytes t.counters e) (open_walk a t.bytes e).moves can.1,
+      record { answers = can.1; run_after = refl; counters_after = refl },
     )
-  where
-    can-say : (n moves : ℕ) → (answer : Opened) × (opened_says answer ≡ said n moves)
-    can-say zero moves = (Opened.Accepted moves, refl)
-    can-say (suc n) moves = (Opened.Refused (suc n), refl)
 
 closes-so : (a : List ℕ) (t : Left) (e : Name) → (u : Left) × Closes a t.bytes t.counters e (close_refusal a t.bytes t.counters e) u.bytes u.counters
 closes-so a t e =
@@ -105,11 +113,11 @@ closes-so a t e =
 abbrev nothing : Left
 nothing = record { bytes = []; counters = no_counters }
 
-short-open : (e : Name) → open_refusal [] [] no_counters e ≡ number_of short_buffer
+short-open : (e : Name) → open_refusal [] [] no_counters e ≡ number_of ShortBuffer
 unfolding open_refusal given first automaton_size
 short-open e = refl
 
-short-close : (e : Name) → close_refusal [] [] no_counters e ≡ number_of short_buffer
+short-close : (e : Name) → close_refusal [] [] no_counters e ≡ number_of ShortBuffer
 unfolding close_refusal given first automaton_size
 short-close e = refl
 

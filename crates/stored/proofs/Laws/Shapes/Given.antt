@@ -11,7 +11,8 @@ use borrow.Author.Tests.{le-ltb, ltb-false, not-false, leb-false}
 use Rattle.text.specs.Names.{Name, name_form, too_long, max_name, same_name}
 use Rattle.text.specs.Bytes.{le16}
 use Rattle.notation.specs.Layout.{word_size}
-use Rattle.text.specs.Refusals.{short_buffer, name_too_long, over_capacity, syntax_error, not_one_root, too_deep, mismatched_close, not_found, bad_shape, number_of}
+use Rattle.text.specs.declared.refusals.Refusal.TheVariants.{ShortBuffer, NameTooLong, OverCapacity, SyntaxError, NotOneRoot, TooDeep, MismatchedClose, NotFound, BadShape}
+use Rattle.text.specs.Refusals.{number_of}
 use Rattle.model.specs.Limits.{max_depth, max_opens}
 use Rattle.text.specs.Order.{gives, given, first}
 use Rattle.stored.specs.Automaton.{automaton_size}
@@ -36,8 +37,8 @@ pub record MayStart (a run : List ℕ) : Type 0 where
 pub may-start : (a run : List ℕ) → start_refusal a run ≡ 0 → MayStart a run
 unfolding start_refusal
 may-start a run h =
-    let s = not-given (too_short a run) short_buffer _ h in
-    let t = not-given (not (automaton_shaped a)) bad_shape _ s.1 in
+    let s = not-given (too_short a run) ShortBuffer _ h in
+    let t = not-given (not (automaton_shaped a)) BadShape _ s.1 in
     let l = long-enough a run s.0 in
     record { size = l.0; run_length = l.1; shaped = not-false _ t.0 }
 
@@ -51,13 +52,13 @@ pub record MayOpen (a run : List ℕ) (c : Counters) (e : Name) : Type 0 where
 pub may-open : (a run : List ℕ) (c : Counters) (e : Name) → open_refusal a run c e ≡ 0 → MayOpen a run c e
 unfolding open_refusal shaped
 may-open a run c e h =
-    let s = not-given (too_short a run) short_buffer _ h in
-    let t = not-given (not (shaped a run c)) bad_shape _ s.1 in
-    let u = not-given (not (name_form e)) syntax_error _ t.1 in
-    let v = not-given (too_long e) name_too_long _ u.1 in
-    let w = not-given (root_closed run c) not_one_root _ v.1 in
-    let x = not-given (leb max_depth (depth_of run)) too_deep _ w.1 in
-    let y = not-given (leb max_opens c.opens) over_capacity _ x.1 in
+    let s = not-given (too_short a run) ShortBuffer _ h in
+    let t = not-given (not (shaped a run c)) BadShape _ s.1 in
+    let u = not-given (not (name_form e)) SyntaxError _ t.1 in
+    let v = not-given (too_long e) NameTooLong _ u.1 in
+    let w = not-given (root_closed run c) NotOneRoot _ v.1 in
+    let x = not-given (leb max_depth (depth_of run)) TooDeep _ w.1 in
+    let y = not-given (leb max_opens c.opens) OverCapacity _ x.1 in
     let l = long-enough a run s.0 in
     let f = both (automaton_shaped a) (run_shaped a run && counters_shaped run c) (not-false _ t.0) in
     let g = both (run_shaped a run) (counters_shaped run c) f.1 in
@@ -78,11 +79,11 @@ pub record MayClose (a run : List ℕ) (c : Counters) : Type 0 where
 pub may-close : (a run : List ℕ) (c : Counters) (e : Name) → close_refusal a run c e ≡ 0 → MayClose a run c
 unfolding close_refusal shaped
 may-close a run c e h =
-    let s = not-given (too_short a run) short_buffer _ h in
-    let t = not-given (not (shaped a run c)) bad_shape _ s.1 in
-    let u = not-given (not (name_form e)) syntax_error _ t.1 in
-    let v = not-given (too_long e) name_too_long _ u.1 in
-    let w = not-given (eqb (depth_of run) 0) not_one_root _ v.1 in
+    let s = not-given (too_short a run) ShortBuffer _ h in
+    let t = not-given (not (shaped a run c)) BadShape _ s.1 in
+    let u = not-given (not (name_form e)) SyntaxError _ t.1 in
+    let v = not-given (too_long e) NameTooLong _ u.1 in
+    let w = not-given (eqb (depth_of run) 0) NotOneRoot _ v.1 in
     let l = long-enough a run s.0 in
     let f = both (automaton_shaped a) (run_shaped a run && counters_shaped run c) (not-false _ t.0) in
     let g = both (run_shaped a run) (counters_shaped run c) f.1 in
@@ -91,9 +92,9 @@ may-close a run c e h =
 pub may-ask : (a run : List ℕ) (there : Bool) → ask_refusal a run there ≡ 0 → Ready a run × (there ≡ true)
 unfolding ask_refusal
 may-ask a run there h =
-    let s = not-given (too_short a run) short_buffer _ h in
-    let t = not-given (not (automaton_shaped a && run_shaped a run)) bad_shape _ s.1 in
-    let u = not-given (not there) not_found _ t.1 in
+    let s = not-given (too_short a run) ShortBuffer _ h in
+    let t = not-given (not (automaton_shaped a && run_shaped a run)) BadShape _ s.1 in
+    let u = not-given (not there) NotFound _ t.1 in
     let l = long-enough a run s.0 in
     let f = both (automaton_shaped a) (run_shaped a run) (not-false _ t.0) in
     (record { size = l.0; shaped = f.0; run_length = l.1; run_is_shaped = f.1 }, not-false _ u.0)
@@ -102,8 +103,8 @@ may-ask a run there h =
 pub lent-usable : (a run : List ℕ) (c : Counters) → given (lent_conditions a run c) ≡ 0 → Usable a run c
 unfolding shaped
 lent-usable a run c h =
-    let s = not-given (too_short a run) short_buffer _ h in
-    let t = not-given (not (shaped a run c)) bad_shape _ s.1 in
+    let s = not-given (too_short a run) ShortBuffer _ h in
+    let t = not-given (not (shaped a run c)) BadShape _ s.1 in
     let l = long-enough a run s.0 in
     let f = both (automaton_shaped a) (run_shaped a run && counters_shaped run c) (not-false _ t.0) in
     let g = both (run_shaped a run) (counters_shaped run c) f.1 in
@@ -139,11 +140,11 @@ module _ (a run : List ℕ) (c : Counters) (e : Name) where
   close-others u = given-then (lent_conditions a run c) (close_others run e) (usable-lent a run c u)
 
   -- and the first of them is 9
-  pub open-unformed : Usable a run c → name_form e ≡ false → open_refusal a run c e ≡ number_of syntax_error
+  pub open-unformed : Usable a run c → name_form e ≡ false → open_refusal a run c e ≡ number_of SyntaxError
   unfolding given first
   open-unformed u f = open-others u ∙ rw f
 
-  pub close-unformed : Usable a run c → name_form e ≡ false → close_refusal a run c e ≡ number_of syntax_error
+  pub close-unformed : Usable a run c → name_form e ≡ false → close_refusal a run c e ≡ number_of SyntaxError
   unfolding given first
   close-unformed u f = close-others u ∙ rw f
 
@@ -152,7 +153,7 @@ module _ (run : List ℕ) (c : Counters) (e : Name) where
   open-name n = given-first (name_conditions e) _ n
 
   pub open-named : given (name_conditions e) ≡ 0
-      → given (open_others run c e) ≡ given (gives (root_closed run c) not_one_root ∷ gives (leb max_depth (depth_of run)) too_deep ∷ gives (leb max_opens c.opens) over_capacity ∷ [])
+      → given (open_others run c e) ≡ given (gives (root_closed run c) NotOneRoot ∷ gives (leb max_depth (depth_of run)) TooDeep ∷ gives (leb max_opens c.opens) OverCapacity ∷ [])
   open-named z = given-then (name_conditions e) _ z
 
 module _ (run : List ℕ) (e : Name) where
@@ -160,7 +161,7 @@ module _ (run : List ℕ) (e : Name) where
   close-name n = given-first (name_conditions e) _ n
 
   pub close-named : given (name_conditions e) ≡ 0
-      → given (close_others run e) ≡ given (gives (eqb (depth_of run) 0) not_one_root ∷ gives (not (same_name (stored_name run (depth_of run)) e)) mismatched_close ∷ [])
+      → given (close_others run e) ≡ given (gives (eqb (depth_of run) 0) NotOneRoot ∷ gives (not (same_name (stored_name run (depth_of run)) e)) MismatchedClose ∷ [])
   close-named z = given-then (name_conditions e) _ z
 
 -- a fresh run

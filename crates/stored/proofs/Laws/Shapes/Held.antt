@@ -1,5 +1,6 @@
 -- What an automaton holds of a set: on one of the right shape a folder's number has four digits at most, and on any a matched place is one of
 -- those that there can be.
+use Rattle.std.proofs.Common.{Option, Some, None}
 use Prim.Native.Nat.{ℕ, ◌≤◌, ◌<◌}
 use mathlib.Core.Path.{◌≡◌}
 use mathlib.Core.Bool.{true, ◌&&◌, and-false}
@@ -11,7 +12,7 @@ use borrow.Author.Tests.{ltb-true}
 use Rattle.notation.specs.Limits.{max_number, max_paths}
 use Rattle.notation.specs.Layout.{set_size}
 use Rattle.notation.specs.Reads.{present, folder_count, folder_there, folder_at, path_count, path_at}
-use Rattle.notation.specs.declared.reads.FolderAt.{FolderAt}
+use Rattle.notation.specs.declared.reads.StoredFolder.{StoredFolder}
 use Rattle.stored.specs.Shape.{automaton_shaped}
 use Rattle.stored.specs.HeldSet.{folder_held}
 use Rattle.stored.specs.Asking.{place_matched}
@@ -19,9 +20,9 @@ use Rattle.text.proofs.Laws.Tests.{cases, both, clash}
 use Rattle.stored.proofs.Laws.Shapes.Shaped.{shaped-is}
 
 -- the number of a folder that is there
-abbrev pub number_held : FolderAt → ℕ
-number_held (FolderAt.Folder number first count) = number.0
-number_held FolderAt.Missing = 0
+abbrev pub number_held : Option StoredFolder → ℕ
+number_held (Some f) = f.number.0
+number_held None = 0
 
 pub number-most : (a : List ℕ) → automaton_shaped a ≡ true → (i : ℕ) → number_held (folder_held a i) ≤ max_number
 unfolding folder_held folder_at present

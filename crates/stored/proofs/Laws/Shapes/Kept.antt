@@ -340,7 +340,6 @@ module _ (a run : List ℕ) (r : Ready a run) where
       }
 
 pub close-usable : (a run : List ℕ) (c : Counters) (e : Name) → Usable a run c → close_refusal a run c e ≡ 0 → Usable a (close_run run) (close_counters c)
-unfolding close_counters
 close-usable a run c e u z =
     let r = u.ready in
     let some : 0 < depth_of run = omega (arith, eqb-false (depth_of run) 0 (may-close a run c e z).depth) in

@@ -11,7 +11,7 @@ use lib.Seq.{get_or_at}
 use Rattle.text.specs.Names.{max_name, Name, name_form, too_long, same_name}
 use Rattle.notation.specs.Sets.{FolderSet}
 use Rattle.text.specs.Lists.{non_empty}
-use Rattle.text.specs.Refusals.{syntax_error, name_too_long, not_one_root, mismatched_close}
+use Rattle.text.specs.declared.refusals.Refusal.TheVariants.{SyntaxError, NameTooLong, NotOneRoot, MismatchedClose}
 use Rattle.notation.specs.Reads.{label_count}
 use Rattle.model.specs.Limits.{max_depth, max_opens}
 use Rattle.model.specs.Prefix.{prefix_of}
@@ -45,7 +45,7 @@ module _ (s : FolderSet) (st : State) (g : Sound s st) where
   names-short n k = omega (arith, leb-false (suc max_name) (length n) (sound-names s st g n k).1)
 
 -- with nothing open, what comes after 10 is not asked
-nothing_left : (x y : Bool) (later other : List Condition) → given (gives x syntax_error ∷ gives y name_too_long ∷ gives true not_one_root ∷ later) ≡ given (gives x syntax_error ∷ gives y name_too_long ∷ gives true not_one_root ∷ other)
+nothing_left : (x y : Bool) (later other : List Condition) → given (gives x SyntaxError ∷ gives y NameTooLong ∷ gives true NotOneRoot ∷ later) ≡ given (gives x SyntaxError ∷ gives y NameTooLong ∷ gives true NotOneRoot ∷ other)
 unfolding given first
 nothing_left true y later other = refl
 nothing_left false true later other = refl
@@ -57,8 +57,8 @@ last_name n outer =
     ap (λ (l : List Name). get_or l (length outer) []) (reverse-cons n outer) ∙ get_or_at (reverse outer) n [] [] (length outer) (length-reverse outer)
 
 close-order-given : (levels : List Level) (stored e : Name) (x y : Bool) → stored ≡ get_or ([] ∷ names_of levels) (length levels) []
-    → given (gives x syntax_error ∷ gives y name_too_long ∷ gives (eqb (length levels) 0) not_one_root ∷ gives (not (same_name stored e)) mismatched_close ∷ [])
-    ≡ given (gives x syntax_error ∷ gives y name_too_long ∷ gives (not (non_empty levels)) not_one_root ∷ gives (not (is_innermost levels e)) mismatched_close ∷ [])
+    → given (gives x SyntaxError ∷ gives y NameTooLong ∷ gives (eqb (length levels) 0) NotOneRoot ∷ gives (not (same_name stored e)) MismatchedClose ∷ [])
+    ≡ given (gives x SyntaxError ∷ gives y NameTooLong ∷ gives (not (non_empty levels)) NotOneRoot ∷ gives (not (is_innermost levels e)) MismatchedClose ∷ [])
 close-order-given [] stored e x y h = nothing_left x y _ _
 close-order-given (level n w ∷ outer) stored e x y h =
     let last : stored ≡ n = h ∙ ap (λ (k : ℕ). get_or ([] ∷ names_of (level n w ∷ outer)) (suc k) []) (sym (length-map outer name_of)) ∙ last_name n (map name_of outer) in

@@ -8,6 +8,7 @@ use native.Mathlib.Omega.{arith}
 use lib.Dec.{leb}
 use lib.ListN.{length, get_or, length-map}
 use borrow.Author.Tests.{leb-true, ltb-false}
+use Rattle.std.proofs.lemmas.Option.{same_Some}
 use Rattle.text.specs.Names.{within, too_long, max_name}
 use Rattle.notation.specs.Limits.{max_number, max_paths, max_steps, max_labels}
 use Rattle.notation.specs.Sets.{child, descendant, label, star, Step, step, Path, Folder, folder, FolderSet, folder_number, folder_paths}
@@ -16,9 +17,9 @@ use Rattle.text.specs.Lists.{any, every, non_empty}
 use Rattle.notation.specs.Form.{formed_path, formed_folder, formed, paths_of, path_long, paths_long, names_long}
 use Rattle.notation.specs.Layout.{steps_at, step_entry, tables_of, set_part, step_kinds}
 use Rattle.notation.specs.Reads.{folder_count, path_count, step_count, label_count, stored_number, stored_first, folder_at, path_at, label_at}
-use Rattle.notation.specs.declared.reads.FolderAt.{FolderAt}
-use Rattle.notation.specs.declared.reads.PathAt.{PathAt}
-use Rattle.notation.specs.declared.reads.LabelAt.{LabelAt}
+use Rattle.notation.specs.declared.reads.StoredFolder.{StoredFolder}
+use Rattle.notation.specs.declared.reads.StoredPath.{StoredPath}
+use Rattle.notation.specs.declared.reads.StoredLabel.{StoredLabel}
 use Rattle.notation.proofs.Laws.Stored.Stands.{Stands, read, fits}
 use Rattle.notation.proofs.Laws.Stored.Entries.{entry, map_at}
 use Rattle.notation.proofs.Laws.Stored.Sections.{steps-stand}
@@ -68,43 +69,6 @@ unfolding formed_path
 some-steps [] h = absurd (let z : ◌≡◌ {A = ℕ} 0 1 = cc in omega arith)
 some-steps (x ∷ p) h = omega arith
 
--- the numbers of the answers
-abbrev number_in : FolderAt → ℕ
-number_in (FolderAt.Folder number first paths) = number.0
-number_in FolderAt.Missing = 0
-
-abbrev first_in : FolderAt → ℕ
-first_in (FolderAt.Folder number first paths) = first.0
-first_in FolderAt.Missing = 0
-
-abbrev path0 : PathAt → ℕ
-path0 (PathAt.Path first steps at size) = first
-path0 PathAt.Missing = 0
-
-abbrev path1 : PathAt → ℕ
-path1 (PathAt.Path first steps at size) = steps
-path1 PathAt.Missing = 0
-
-abbrev path2 : PathAt → ℕ
-path2 (PathAt.Path first steps at size) = at
-path2 PathAt.Missing = 0
-
-abbrev path3 : PathAt → ℕ
-path3 (PathAt.Path first steps at size) = size
-path3 PathAt.Missing = 0
-
-abbrev label0 : LabelAt → ℕ
-label0 (LabelAt.Label at size owner) = at
-label0 LabelAt.Missing = 0
-
-abbrev label1 : LabelAt → ℕ
-label1 (LabelAt.Label at size owner) = size
-label1 LabelAt.Missing = 0
-
-abbrev label2 : LabelAt → ℕ
-label2 (LabelAt.Label at size owner) = owner
-label2 LabelAt.Missing = 0
-
 byte_small : (x : Step) → get_or (step_entry x) 0 0 < step_kinds
 byte_small (step child (label n)) = omega arith
 byte_small (step child star) = omega arith
@@ -121,8 +85,8 @@ module _ (s : FolderSet) (fit : Fitting s) (rest : List ℕ) where
       let k : i < max_paths = omega (arith, fit.folders) in
       let e = folder-read s fit rest i h in
       let t = there s fit rest (length s) max_paths i h k in
-      let p = rw (folders-read s fit rest, t) at e in
-      (ap number_in p, ap first_in p)
+      let p = same_Some _ _ (rw (folders-read s fit rest, t) at e) in
+      (ap (λ (f : StoredFolder). f.number.0) p, ap (λ (f : StoredFolder). f.first.0) p)
 
   pub folder-facts : formed s ≡ true → (i : ℕ) → i < folder_count part → FolderFacts part i
   unfolding formed
@@ -142,15 +106,15 @@ module _ (s : FolderSet) (fit : Fitting s) (rest : List ℕ) where
       let k : i < max_paths = omega (arith, fit.paths) in
       let r = path-read s fit rest i h in
       let t = there s fit rest (length (paths_of s)) max_paths i h k in
-      let e = rw (paths-read s fit rest, t) at r.answer in
+      let e = same_Some _ _ (rw (paths-read s fit rest, t) at r.answer) in
       let p = get_or (paths_of s) i [] in
       let one : 1 ≤ length p = some-steps p (every-at formed_path [] (paths_of s) (all-formed s well) i h) in
       let most : length p ≤ max_steps = ltb-false max_steps (length p) (any_at path_long [] (paths_of s) few i h) in
       record {
-        some = rw (ap path1 e) one;
-        count = rw (ap path1 e) most;
-        steps = rw (ap path0 e, ap path1 e, steps-read s fit rest) (steps-through (paths_of s) i h);
-        text = rw (ap path2 e, ap path3 e, text-len s fit rest) (fits r.stands);
+        some = rw (ap (λ (x : StoredPath). x.steps) e) one;
+        count = rw (ap (λ (x : StoredPath). x.steps) e) most;
+        steps = rw (ap (λ (x : StoredPath). x.first) e, ap (λ (x : StoredPath). x.steps) e, steps-read s fit rest) (steps-through (paths_of s) i h);
+        text = rw (ap (λ (x : StoredPath). x.at) e, ap (λ (x : StoredPath). x.size) e, text-len s fit rest) (fits r.stands);
       }
 
   pub step-fact : (i : ℕ) → i < step_count part → get_or part (steps_at + i) 0 < step_kinds
@@ -171,11 +135,11 @@ module _ (s : FolderSet) (fit : Fitting s) (rest : List ℕ) where
       let k : i < max_labels = omega (arith, fit.labels) in
       let r = label-read s fit rest i h in
       let t = there s fit rest (length (all_labels s)) max_labels i h k in
-      let e = rw (labels-read s fit rest, t) at r.answer in
+      let e = same_Some _ _ (rw (labels-read s fit rest, t) at r.answer) in
       let n = get_or (all_labels s) i [] in
       let most : length n ≤ max_name = ltb-false max_name (length n) (any_at too_long [] (all_labels s) short i h) in
       record {
-        text = rw (ap label0 e, ap label1 e, text-len s fit rest) (fits r.stands);
-        size = rw (ap label1 e) most;
-        step = rw (ap label2 e, steps-read s fit rest) r.below;
+        text = rw (ap (λ (x : StoredLabel). x.at) e, ap (λ (x : StoredLabel). x.size) e, text-len s fit rest) (fits r.stands);
+        size = rw (ap (λ (x : StoredLabel). x.size) e) most;
+        step = rw (ap (λ (x : StoredLabel). x.step) e, steps-read s fit rest) r.below;
       }

@@ -1,13 +1,14 @@
 -- A test put together from tests: what is stored takes the place of what was read, one test at a time.
 use Prim.Native.Nat.{ℕ, zero, suc, ◌+◌, ◌-◌, ◌^◌, ◌≤◌, ◌<◌, max}
-use mathlib.Core.Path.{◌≡◌, refl, sym, ◌∙◌}
-use mathlib.Core.Bool.{Bool, true, false, not, ◌&&◌}
-use mathlib.Core.List.{List}
+use mathlib.Core.Path.{◌≡◌, refl, sym, ap, ◌∙◌}
+use mathlib.Core.Bool.{Bool, true, false, not, ◌&&◌, and-true, and_assoc}
+use mathlib.Core.List.{List, [], ◌∷◌}
 use native.Mathlib.Nat.{max-le, le-max_left, le-max_right}
 use native.Mathlib.Omega.{arith}
 use borrow.Author.Tests.{leb-true, le-leb, ltb-true, lt-ltb, not-true, not-false}
 use lib.Bits.{bit_or, or_lt, or_add_and, and_le_l, and_le_r}
 use lib.Dec.{leb, ltb}
+use Rattle.std.specs.List.{fold, list_all}
 use Rattle.text.specs.Names.{within}
 use Rattle.text.proofs.Laws.Tests.{cases}
 use Rattle.stored.specs.Tables.{size_at, size_of}
@@ -63,6 +64,14 @@ or-below k x y =
     (λ p q. lt-ltb (bit_or x y) (2 ^ k) (or_lt k x y (ltb-true x (2 ^ k) p) (ltb-true y (2 ^ k) q)))
     (λ t. let h = ltb-true (bit_or x y) (2 ^ k) t in
     (lt-ltb x (2 ^ k) (omega (arith, or_add_and x y, and_le_r x y)), lt-ltb y (2 ^ k) (omega (arith, or_add_and x y, and_le_l x y))))
+
+-- and so many numbers
+pub or-all : (k : ℕ) (xs : List ℕ) (b : ℕ) → ltb (fold bit_or b xs) (2 ^ k) ≡ (ltb b (2 ^ k) && list_all (λ x. ltb x (2 ^ k)) xs)
+or-all k [] b = sym (and-true (ltb b (2 ^ k)))
+or-all k (x ∷ xs) b =
+    or-all k xs (bit_or b x)
+    ∙ (ap (λ t. t && list_all (λ x. ltb x (2 ^ k)) xs) (or-below k b x)
+    ∙ and_assoc (ltb b (2 ^ k)) (ltb x (2 ^ k)) (list_all (λ x. ltb x (2 ^ k)) xs))
 
 pub max-within : (x y top : ℕ) → leb (max x y) top ≡ (leb x top && leb y top)
 max-within x y top =

@@ -13,18 +13,11 @@ unfoldable pub left : ℕ → ℕ → ℕ
 left n zero = 0
 left n (suc l) = n - l
 
-closer : (a : List ℕ) (l j : ℕ) → l < label_count a → After a l j → left (label_count a) j < left (label_count a) (suc l)
+-- the place after label l is further along
+pub closer : (a : List ℕ) (l j : ℕ) → l < label_count a → After a l j → left (label_count a) j < left (label_count a) (suc l)
 unfolding left
 closer a l zero h f = omega arith
 closer a l (suc m) h f = omega (arith, f.within, f.later m refl)
-
--- at place k, which is 1 more than its label
-module _ (a : List ℕ) (k : ℕ) (some : k ≡ 0 → ⊥) (h : k ≤ label_count a) where
-  pub low : k - 1 < label_count a
-  low = omega arith
-
-  pub rises : (j : ℕ) → After a (k - 1) j → left (label_count a) j < left (label_count a) k
-  rises j f = let s : k ≡ suc (k - 1) = omega arith in rw s (closer a (k - 1) j low f)
 
 -- a function f of how many labels are looked at and the place, which puts each label to what it finds from the next place on
 module _ {A : Type 0} (a : List ℕ) (few : label_count a ≤ max_labels) (next : ℕ → ℕ) (after : (l : ℕ) → l < label_count a → After a l (next l))
@@ -40,10 +33,6 @@ module _ {A : Type 0} (a : List ℕ) (few : label_count a ≤ max_labels) (next 
       rw (turn m l, turn n l) (ap (put l) (enough m n (next l) (after l i).within (omega arith) (omega arith)))
 
   -- one label more
-  along : (l : ℕ) → l < label_count a → f max_labels (suc l) ≡ put l (f max_labels (next l))
+  pub along : (l : ℕ) → l < label_count a → f max_labels (suc l) ≡ put l (f max_labels (next l))
   unfolding left
   along l i = enough max_labels (suc max_labels) (suc l) i (omega arith) (omega arith) ∙ turn max_labels l
-
-  pub along-at : (k : ℕ) → (k ≡ 0 → ⊥) → k ≤ label_count a → f max_labels k ≡ put (k - 1) (f max_labels (next (k - 1)))
-  along-at zero z h = absurd (z refl)
-  along-at (suc l) z h = let s : suc l - 1 ≡ l = omega arith in rw s (along l h)

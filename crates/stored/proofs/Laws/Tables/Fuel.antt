@@ -1,6 +1,6 @@
 -- The walk over an automaton's tables, turn by turn: the bounds in its definitions on how far to look are enough where the tables are
 -- walkable, so that they never show.
-use Prim.Native.Nat.{ℕ, zero, suc, ◌-◌, ◌≤◌, ◌<◌}
+use Prim.Native.Nat.{ℕ, zero, suc, ◌≤◌, ◌<◌}
 use mathlib.Core.Path.{◌≡◌, refl, sym, ◌∙◌, ap}
 use mathlib.Core.Bool.{not, ◌&&◌, cond}
 use mathlib.Core.List.{List}
@@ -13,26 +13,26 @@ use Rattle.stored.specs.Tables.{next_at, parent_at, size_of, fail_of, goto_from,
 use Rattle.stored.specs.Usable.{Searchable, Falling, Walkable}
 use Rattle.stored.specs.declared.walk.Walk.{Walk}
 use Rattle.text.proofs.Laws.Tests.{cases}
-use Rattle.stored.proofs.Laws.Tables.Along.{along-at}
+use Rattle.stored.proofs.Laws.Tables.Along.{along}
 
 pub goto-end : (more : ℕ) (a : List ℕ) (q : ℕ) → goto_from more a q 0 ≡ 0
 unfolding goto_from
 goto-end zero a q = refl
 goto-end (suc more) a q = refl
 
-module _ (a : List ℕ) (c : Searchable a) (q k : ℕ) where
-  goto-at : (k ≡ 0 → ⊥) → k ≤ label_count a → goto_from max_labels a q k ≡ cond (eqb (parent_at a (k - 1)) q) (suc (suc (k - 1))) (goto_from max_labels a q (next_at a (k - 1)))
+module _ (a : List ℕ) (c : Searchable a) (q l : ℕ) (h : l < label_count a) where
+  goto-at : goto_from max_labels a q (suc l) ≡ cond (eqb (parent_at a l) q) (suc (suc l)) (goto_from max_labels a q (next_at a l))
   unfolding goto_from
-  goto-at z h =
-      along-at a c.lookable.few (next_at a) c.next (λ m. goto_from m a q) (λ l. cond (eqb (parent_at a l) q) (suc (suc l)))
-      (λ m n. goto-end m a q ∙ sym (goto-end n a q)) (λ m l. refl) k z h
+  goto-at =
+      along a c.lookable.few (next_at a) c.next (λ m. goto_from m a q) (λ l. cond (eqb (parent_at a l) q) (suc (suc l)))
+      (λ m n. goto-end m a q ∙ sym (goto-end n a q)) (λ m l. refl) l h
 
-  -- at place k, which is 1 more than its label: the label's state if its parent is q, else the search goes on
-  pub goto-found : (k ≡ 0 → ⊥) → k ≤ label_count a → parent_at a (k - 1) ≡ q → goto_from max_labels a q k ≡ suc k
-  goto-found z h t = goto-at z h ∙ rw (eq-eqb (parent_at a (k - 1)) q t) (omega arith)
+  -- the label's state if its parent is q, else the search goes on
+  pub goto-found : parent_at a l ≡ q → goto_from max_labels a q (suc l) ≡ suc (suc l)
+  goto-found t = goto-at ∙ rw (eq-eqb (parent_at a l) q t)
 
-  pub goto-further : (k ≡ 0 → ⊥) → k ≤ label_count a → (parent_at a (k - 1) ≡ q → ⊥) → goto_from max_labels a q k ≡ goto_from max_labels a q (next_at a (k - 1))
-  goto-further z h t = goto-at z h ∙ rw (ne_eqb (parent_at a (k - 1)) q t)
+  pub goto-further : (parent_at a l ≡ q → ⊥) → goto_from max_labels a q (suc l) ≡ goto_from max_labels a q (next_at a l)
+  goto-further t = goto-at ∙ rw (ne_eqb (parent_at a l) q t)
 
 -- a state that is found is a label's
 goto-within : (a : List ℕ) → Searchable a → (q m k : ℕ) → k ≤ label_count a → goto_from m a q k ≤ suc (label_count a)

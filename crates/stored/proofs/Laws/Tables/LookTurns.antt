@@ -1,5 +1,5 @@
 -- Looking up a name, label by label: the bound of the definition is enough where names can be looked up.
-use Prim.Native.Nat.{ℕ, zero, suc, ◌-◌, ◌≤◌}
+use Prim.Native.Nat.{ℕ, zero, suc, ◌≤◌, ◌<◌}
 use mathlib.Core.Path.{◌≡◌, refl, sym, ◌∙◌}
 use mathlib.Core.Bool.{true, false, cond}
 use mathlib.Core.List.{List}
@@ -12,7 +12,7 @@ use Rattle.stored.specs.Tables.{head_at, other_at, first_at, look_from, look_up,
 use Rattle.stored.specs.Usable.{Lookable, Searchable}
 use Rattle.text.proofs.Laws.Tests.{cases}
 use Rattle.stored.proofs.Laws.Tables.Goto.{hash-small}
-use Rattle.stored.proofs.Laws.Tables.Along.{along-at}
+use Rattle.stored.proofs.Laws.Tables.Along.{along}
 
 pub look-end : (more : ℕ) (a : List ℕ) (e : Name) → look_from more a e 0 ≡ 0
 unfolding look_from
@@ -20,18 +20,18 @@ look-end zero a e = refl
 look-end (suc more) a e = refl
 
 module _ (a : List ℕ) (c : Lookable a) (e : Name) where
-  look_at : (k : ℕ) → (k ≡ 0 → ⊥) → k ≤ label_count a → look_from max_labels a e k ≡ cond (same_name (label_name a (k - 1)) e) (suc (k - 1)) (look_from max_labels a e (other_at a (k - 1)))
+  look_at : (l : ℕ) → l < label_count a → look_from max_labels a e (suc l) ≡ cond (same_name (label_name a l) e) (suc l) (look_from max_labels a e (other_at a l))
   unfolding look_from
   look_at =
-      along-at a c.few (other_at a) c.other (λ m. look_from m a e) (λ l. cond (same_name (label_name a l) e) (suc l))
+      along a c.few (other_at a) c.other (λ m. look_from m a e) (λ l. cond (same_name (label_name a l) e) (suc l))
       (λ m n. look-end m a e ∙ sym (look-end n a e)) (λ m l. refl)
 
-  -- at place k, which is 1 more than its label: the place itself if the label has the name, else the search goes on
-  pub look-found : (k : ℕ) → (k ≡ 0 → ⊥) → k ≤ label_count a → same_name (label_name a (k - 1)) e ≡ true → look_from max_labels a e k ≡ k
-  look-found k z h t = look_at k z h ∙ rw t (omega arith)
+  -- the label itself if it has the name, else the search goes on
+  pub look-found : (l : ℕ) → l < label_count a → same_name (label_name a l) e ≡ true → look_from max_labels a e (suc l) ≡ suc l
+  look-found l h t = look_at l h ∙ rw t
 
-  pub look-further : (k : ℕ) → (k ≡ 0 → ⊥) → k ≤ label_count a → same_name (label_name a (k - 1)) e ≡ false → look_from max_labels a e k ≡ look_from max_labels a e (other_at a (k - 1))
-  look-further k z h t = look_at k z h ∙ rw t
+  pub look-further : (l : ℕ) → l < label_count a → same_name (label_name a l) e ≡ false → look_from max_labels a e (suc l) ≡ look_from max_labels a e (other_at a l)
+  look-further l h t = look_at l h ∙ rw t
 
   -- a place that is found is a label's
   from-within : (m k : ℕ) → k ≤ label_count a → look_from m a e k ≤ label_count a
@@ -52,15 +52,11 @@ first-within a c e = go (look_up a e) (look-within a c.lookable e)
     go zero h = omega arith
     go (suc l) h = c.first l h
 
--- by the place that is found
+-- by what is found
 pub first-none : (a : List ℕ) (e : Name) → look_up a e ≡ 0 → first_of a e ≡ 0
 unfolding first_of
 first-none a e z = rw z
 
-pub first-at : (a : List ℕ) (e : Name) (k : ℕ) → k ≡ look_up a e → (k ≡ 0 → ⊥) → first_of a e ≡ first_at a (k - 1)
+pub first-at : (a : List ℕ) (e : Name) (l : ℕ) → look_up a e ≡ suc l → first_of a e ≡ first_at a l
 unfolding first_of
-first-at a e k p z = rw (← p) (go k z)
-  where
-    go : (k : ℕ) → (k ≡ 0 → ⊥) → first_after a k ≡ first_at a (k - 1)
-    go zero z = absurd (z refl)
-    go (suc l) z = let s : suc l - 1 ≡ l = omega arith in rw s
+first-at a e l p = rw p

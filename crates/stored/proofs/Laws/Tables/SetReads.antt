@@ -4,14 +4,15 @@ use native.Mathlib.Omega.{arith}
 use mathlib.Core.Path.{◌≡◌, sym, ap, subst}
 use mathlib.Core.List.{List, [], ◌++◌}
 use lib.ListN.{length, get_or, take}
+use Rattle.std.proofs.Common.{Some}
+use Rattle.std.proofs.lemmas.Option.{same_Some}
 use Rattle.notation.specs.Limits.{max_labels}
 use Rattle.notation.specs.Print.{print}
-use Rattle.notation.specs.Sets.{label, FolderSet, axis_of, test_of}
+use Rattle.notation.specs.Sets.{label, FolderSet, test_of}
 use Rattle.notation.specs.Form.{labels_of}
 use Rattle.notation.specs.Layout.{set_part}
-use Rattle.notation.specs.Reads.{step_count, label_count, label_name, label_at, label_step, step_at, is_descendant, is_star}
-use Rattle.notation.specs.declared.reads.LabelAt.{LabelAt}
-use Rattle.notation.specs.declared.reads.StepAt.{StepAt}
+use Rattle.notation.specs.Reads.{step_count, label_count, label_name, label_at, label_step, step_at, stored_step}
+use Rattle.notation.specs.declared.reads.StoredLabel.{StoredLabel}
 use Rattle.notation.proofs.Laws.Stored.LabelTable.{no_step}
 use Rattle.notation.proofs.Laws.Refused.Fitting.{Fitting}
 use Rattle.notation.proofs.Laws.Stored.Reads.{steps-read, labels-read, there}
@@ -26,16 +27,13 @@ pub record LabelStep (s : FolderSet) (l owner : ℕ) : Type 0 where
   pub test : test_of (get_or (all_steps s) owner no_step) ≡ label (get_or (all_labels s) l [])
   pub nth : length (labels_of (take owner (all_steps s))) ≡ l
 
-owner_in : LabelAt → ℕ
-owner_in (LabelAt.Label at size owner) = owner
-owner_in LabelAt.Missing = 0
-
 owner : (s : FolderSet) → Fitting s → (more : List ℕ) (l : ℕ) → l < length (all_labels s) → LabelStep s l (label_step (set_part s ++ more) l)
-unfolding label_at owner_in
+unfolding label_at
 owner s fit more l h =
     let r = label-read s fit more l h in
     let k : l < max_labels = omega (arith, fit.labels) in
-    let e : label_step (set_part s ++ more) l ≡ r.index = ap owner_in (rw (labels-read s fit more, there s fit more (length (all_labels s)) max_labels l h k) at r.answer) in
+    let e : label_step (set_part s ++ more) l ≡ r.index =
+    ap (λ (x : StoredLabel). x.step) (same_Some _ _ (rw (labels-read s fit more, there s fit more (length (all_labels s)) max_labels l h k) at r.answer)) in
     rw e (record { below = r.below; test = r.test; nth = r.nth })
 
 module _ (s : FolderSet) (fit : Fitting s) (hs : List ℕ) (ls : List Link) (ms : List ℕ) (f : ℕ) (rest : List ℕ) where
@@ -60,7 +58,7 @@ module _ (s : FolderSet) (fit : Fitting s) (hs : List ℕ) (ls : List Link) (ms 
   label-owner l h = of-set (λ a. LabelStep s l (label_step a l)) (λ more. owner s fit more l h)
 
   pub step-entry : (i : ℕ) → i < length (all_steps s)
-      → step_at (assembled s hs ls ms f ++ rest) i ≡ StepAt.Step (is_descendant (axis_of (get_or (all_steps s) i no_step))) (is_star (test_of (get_or (all_steps s) i no_step)))
+      → step_at (assembled s hs ls ms f ++ rest) i ≡ Some (stored_step (get_or (all_steps s) i no_step))
   step-entry i h =
-      of-set (λ a. step_at a i ≡ StepAt.Step (is_descendant (axis_of (get_or (all_steps s) i no_step))) (is_star (test_of (get_or (all_steps s) i no_step))))
+      of-set (λ a. step_at a i ≡ Some (stored_step (get_or (all_steps s) i no_step)))
       (λ more. step-read s fit more i h)

@@ -1,14 +1,24 @@
--- `text::names::name_form` meets its contract: after a first byte of a name, the run of name bytes must go to the end.
-use mathlib.Core.Path.{sym, ◌∙◌}
-use native.Mathlib.Omega.{arith}
-use Rattle.text.proofs.Laws.Bytes.Names.{form-empty, form-no, form-run}
+-- `text::names::name_form` meets its contract: it has a first byte that can begin a name, and all others can be in one.
+use Rattle.std.proofs.Common.{rules, tests}
+use Rattle.std.proofs.lemmas.Iterator.{YieldsList-from_slice}
+use Rattle.std.proofs.lemmas.Iterator.Search.{all_from_yields_List}
+use Rattle.std.proofs.lemmas.List.{nil_from_length}
+use Rattle.text.specs.Names.{name_form}
+use Rattle.text.specs.Classes.{class_of, can_follow}
+use Rattle.text.proofs.Laws.Bytes.Classes.{begins-class, all-in-class}
 use Rattle.text.proofs.names.name_form.Goals as goal
 
-pub returns-then-s-eq0 : goal.returns-then-s-eq0
-returns-then-s-eq0 c = sym (form-empty _ c.if-s-eq0.true)
+pub returns-then-begins_name : goal.returns-then-begins_name
+unfolding name_form
+returns-then-begins_name c =
+    let rest = c.in-Some.rest.now in
+    let all = all_from_yields_List (λ b. can_follow (class_of b)) _ _ c.all.result c.all.ensures.ran (YieldsList-from_slice rest cc) (λ x b q k. search (rules, tests)) in
+    rw (c.in-Some.ensures.cases.0, begins-class, ← c.class_of.ensures, ← c.begins_name.ensures, c.if-begins_name.true, all-in-class) all
 
-pub returns-then-not-begins_class : goal.returns-then-not-begins_class
-returns-then-not-begins_class c = sym (form-no _ (sym c.begins_class.ensures ∙ c.if-not-begins_class.true))
+pub returns-else-begins_name : goal.returns-else-begins_name
+unfolding name_form
+returns-else-begins_name c = rw (c.in-Some.ensures.cases.0, begins-class, ← c.class_of.ensures, ← c.begins_name.ensures, c.if-begins_name.false)
 
-pub returns : goal.returns
-returns c = rw c.class_end.ensures (sym (form-run _ (omega arith) (sym c.begins_class.ensures ∙ c.if-not-begins_class.false)))
+pub returns-in-None : goal.returns-in-None
+unfolding name_form
+returns-in-None c = rw (nil_from_length c.args.s.now c.in-None.ensures.cases)

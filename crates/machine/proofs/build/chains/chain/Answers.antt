@@ -1,7 +1,7 @@
 -- `build::chains::chain`: what the labels still to do make of the bytes is what all labels make of those at entry, and a name can be looked up
 -- at each of them.
 use Prim.Native.Nat.{ℕ, suc, ◌-◌, ◌<◌}
-use mathlib.Core.Path.{◌≡◌, refl, sym, ◌∙◌, ap}
+use mathlib.Core.Path.{◌≡◌, sym, ◌∙◌, ap}
 use mathlib.Core.List.{List}
 use native.Mathlib.Omega.{arith}
 use Rattle.stored.specs.Usable.{Lookable}
@@ -21,24 +21,17 @@ none_left : (l : ℕ) (a : List ℕ) → l ≡ 0 → a ≡ chained l a
 unfolding chained
 none_left l a e = rw e
 
-pub loop-l-init : goal.loop-l-init
-loop-l-init c =
-    (c.label_count-l.ensures.1, refl, rw c.label_count-l.ensures.0 c.requires.0, ap (λ (n : ℕ). chained n c.args.part.now) c.label_count-l.ensures.0)
-
 pub link_label-requires : goal.link_label-requires
-link_label-requires c = let l = c.loop-l in (omega arith, ((ready l.l l.part (omega arith) l.invariant.2).0, omega arith))
+link_label-requires c = let l = c.loop-l in (omega arith, ((ready l.l l.part (omega arith) l.invariant.ready).0, omega arith))
 
 pub loop-l-preserved : goal.loop-l-preserved
-loop-l-preserved c = let l = c.loop-l in
-    let e = c.link_label.ensures in (
-      omega arith,
-      c.link_label.auto.part ∙ l.invariant.1,
-      rw e (ready l.l l.part (omega arith) l.invariant.2).1,
-      next l.l l.part (omega arith) e ∙ l.invariant.3,
-    )
-
-pub shape_of-part : goal.shape_of-part
-shape_of-part c = c.loop-l.invariant.1
+loop-l-preserved c =
+    let l = c.loop-l in
+    let e = c.link_label.ensures in
+    record {
+      ready = rw e (ready l.l l.part (omega arith) l.invariant.ready).1;
+      rest = next l.l l.part (omega arith) e ∙ l.invariant.rest;
+    }
 
 pub returns : goal.returns
-returns c = none_left c.loop-l.l c.loop-l.part (omega arith) ∙ c.loop-l.invariant.3
+returns c = none_left c.loop-l.l c.loop-l.part (omega arith) ∙ c.loop-l.invariant.rest

@@ -1,6 +1,6 @@
 -- `build::groups::group`: what the labels still to do make of the bytes is what all labels make of those at entry.
 use Prim.Native.Nat.{ℕ, suc, ◌-◌, ◌<◌}
-use mathlib.Core.Path.{◌≡◌, refl, sym, ◌∙◌, ap}
+use mathlib.Core.Path.{◌≡◌, sym, ◌∙◌, ap}
 use mathlib.Core.List.{List}
 use native.Mathlib.Omega.{arith}
 use Rattle.stored.specs.Code.Groups.{grouped, grouped_below}
@@ -15,22 +15,9 @@ none_left : (l : ℕ) (a : List ℕ) → l ≡ 0 → a ≡ grouped_below l a
 unfolding grouped_below
 none_left l a e = rw e
 
-pub loop-l-init : goal.loop-l-init
-loop-l-init c =
-    (c.label_count-l.ensures.1, refl, ap (λ (n : ℕ). grouped_below n c.args.part.now) c.label_count-l.ensures.0)
-
-pub group_label-requires : goal.group_label-requires
-group_label-requires c = (omega arith, omega arith)
-
 pub loop-l-preserved : goal.loop-l-preserved
-loop-l-preserved c = let l = c.loop-l in (
-  omega arith,
-  c.group_label.auto.part ∙ l.invariant.1,
-  next l.l l.part (omega arith) c.group_label.ensures ∙ l.invariant.2,
-)
-
-pub shape_of-part : goal.shape_of-part
-shape_of-part c = c.loop-l.invariant.1
+loop-l-preserved c =
+    next c.loop-l.l c.loop-l.part (omega arith) c.group_label.ensures ∙ c.loop-l.invariant
 
 pub returns : goal.returns
-returns c = none_left c.loop-l.l c.loop-l.part (omega arith) ∙ c.loop-l.invariant.2
+returns c = none_left c.loop-l.l c.loop-l.part (omega arith) ∙ c.loop-l.invariant

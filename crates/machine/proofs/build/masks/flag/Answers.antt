@@ -1,27 +1,32 @@
-use Rattle.stored.specs.Code.Masks.{flagged}
-use Rattle.stored.specs.Automaton.{mask_size, masks_at, automaton_size}
+use mathlib.Core.Path.{◌≡◌, refl}
+use Prim.Native.Nat.{◌*◌, ◌^◌, ◌%◌, ◌+◌}
 use native.Mathlib.Omega.{arith}
+use denote.Enum.Declared.{tag_of}
+use Rattle.machine.specs.contracts.layout.Mask.{the_type}
+use Rattle.machine.specs.declared.layout.Mask.{Mask}
+use Rattle.machine.specs.declared.layout.Mask.TheVariants.{Star, Child, Descendant, Anywhere, Root, Last}
+use Rattle.machine.specs.Masks.{mask_number}
+use Rattle.stored.proofs.Laws.Bytes.ByteBits.{power_small}
+use Rattle.stored.specs.Automaton.{mask_size, masks_at}
+use Rattle.stored.specs.Bits.{with_bit}
+use Rattle.stored.specs.Code.Masks.{flagged}
 use Rattle.machine.proofs.build.masks.flag.Goals as goal
 
-pub overflow_add-j : goal.overflow_add-j
-unfolding mask_size
-overflow_add-j c = omega arith
-
-pub overflow_add-at : goal.overflow_add-at
-unfolding mask_size
-overflow_add-at c = omega arith
-
-pub bounds-part-at : goal.bounds-part-at
-unfolding mask_size automaton_size
-bounds-part-at c = omega arith
-
-pub bounds-part-at-then-on : goal.bounds-part-at-then-on
-unfolding mask_size automaton_size
-bounds-part-at-then-on c = omega arith
+-- what `as` makes of a mask
+number : (m : Mask) → tag_of the_type m ≡ mask_number m
+number Star = refl
+number Child = refl
+number Descendant = refl
+number Anywhere = refl
+number Root = refl
+number Last = refl
 
 pub returns-then-on : goal.returns-then-on
-unfolding flagged mask_size masks_at
-returns-then-on c = rw (c.if-on.true, c.with_bit.ensures.0, c.wide.ensures.0)
+unfolding flagged with_bit mask_size masks_at
+returns-then-on c =
+    let k = (2048 * mask_number c.args.mask + c.args.i) % 8 in
+    let e : 1 * 2 ^ k % 256 ≡ 2 ^ k = omega (arith, power_small k (omega arith)) in
+    rw (c.if-on.true, number c.args.mask, e)
 
 pub returns-else-on : goal.returns-else-on
 unfolding flagged

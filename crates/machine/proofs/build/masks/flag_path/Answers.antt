@@ -1,15 +1,11 @@
-use native.Mathlib.Omega.{arith}
 use Rattle.stored.specs.Code.Masks.{flag_path}
 use mathlib.Core.Path.{sym, ◌∙◌}
 use Rattle.machine.proofs.build.masks.flag_path.Goals as goal
 
-pub flag_steps-requires : goal.flag_steps-requires
-flag_steps-requires c = let h = rw c.in-Path.is at c.path_at.ensures.1 in omega arith
-
-pub returns-in-Path : goal.returns-in-Path
+pub returns-in-Some : goal.returns-in-Some
 unfolding flag_path
-returns-in-Path c = rw (sym c.path_at.ensures.0 ∙ c.in-Path.is) c.flag_steps.ensures
+returns-in-Some c = rw (sym c.path_at.ensures.0 ∙ c.in-Some.is) c.flag_steps.ensures
 
-pub returns-in-Missing : goal.returns-in-Missing
+pub returns-in_default : goal.returns-in_default
 unfolding flag_path
-returns-in-Missing c = rw (sym c.path_at.ensures.0 ∙ c.in-Missing.is)
+returns-in_default c = rw (sym c.path_at.ensures.0 ∙ c.in_default.is)

@@ -12,12 +12,12 @@ returns-then-i-ge-STEP_BITS c = rw (le-ltb c.args.i (8 * mask_size) c.if-i-ge-ST
 
 pub flag_role-requires : goal.flag_role-requires
 unfolding mask_size
-flag_role-requires c = omega arith
+flag_role-requires c = (omega arith, c.requires)
 
-pub returns-in-Step : goal.returns-in-Step
+pub returns-in-Some : goal.returns-in-Some
 unfolding flag_step mask_size
-returns-in-Step c = rw (lt-ltb c.args.i (8 * mask_size) c.if-i-ge-STEP_BITS.false, sym c.step_at.ensures ∙ c.in-Step.is) c.flag_role.ensures
+returns-in-Some c = rw (lt-ltb c.args.i (8 * mask_size) c.if-i-ge-STEP_BITS.false, sym c.step_at.ensures ∙ c.in-Some.is) c.flag_role.ensures
 
-pub returns-in-Missing : goal.returns-in-Missing
+pub returns-in_default : goal.returns-in_default
 unfolding flag_step mask_size
-returns-in-Missing c = rw (lt-ltb c.args.i (8 * mask_size) c.if-i-ge-STEP_BITS.false, sym c.step_at.ensures ∙ c.in-Missing.is)
+returns-in_default c = rw (lt-ltb c.args.i (8 * mask_size) c.if-i-ge-STEP_BITS.false, sym c.step_at.ensures ∙ c.in_default.is)

@@ -1,13 +1,9 @@
-use Rattle.stored.specs.Code.Masks.{flag_steps}
-use lib.ListN.{length}
-use lib.Dec.{eqb}
-use mathlib.Core.Bool.{true}
-use Prim.Native.Nat.{◌+◌, ◌-◌, ◌≤◌}
+use Prim.Native.Nat.{◌+◌, ◌-◌}
 use mathlib.Core.Path.{◌≡◌}
+use mathlib.Core.Bool.{true}
+use lib.Dec.{eqb}
+use Rattle.stored.specs.Code.Masks.{flag_steps}
 use Rattle.machine.proofs.build.masks.flag_steps.Given as goal
 
 abbrev pub invariant-loop-k : goal.invariant-loop-k
-invariant-loop-k l = (l.k ≤ l.steps) × (flag_steps (l.steps - l.k) (l.from + l.k) (eqb l.k 0) l.part ≡ flag_steps l.steps l.from true l.initial.part) × (length l.part ≡ length l.initial.part)
-
-abbrev pub decreases-loop-k : goal.decreases-loop-k
-decreases-loop-k l = l.steps - l.k
+invariant-loop-k l = flag_steps (l.steps - l.k) (l.from + l.k) (eqb l.k 0) l.part ≡ flag_steps l.steps l.from true l.initial.part

@@ -1,22 +1,23 @@
-use Rattle.stored.proofs.Laws.Building.Flagging.{paths-start, paths-turn, paths-end}
-use Rattle.stored.specs.Code.Masks.{flag_paths, with_masks}
-use lib.ListN.{length}
-use Prim.Native.Nat.{ℕ}
+use Prim.Native.Nat.{◌<◌, ◌≤◌}
+use mathlib.Core.Path.{sym, ◌∙◌}
 use native.Mathlib.Omega.{arith}
-use mathlib.Core.Path.{refl, sym, ◌∙◌, ap}
+use Rattle.notation.specs.Reads.{path_count}
+use Rattle.stored.proofs.Laws.Building.Flagging.{paths-start, paths-turn, paths-end}
+use Rattle.stored.specs.Code.Masks.{with_masks}
 use Rattle.machine.proofs.build.masks.write_masks.Goals as goal
 
 pub loop-place-init : goal.loop-place-init
-loop-place-init c = (omega arith, paths-start c.paths-n.result c.args.part.now, refl)
+unfolding with_masks
+loop-place-init c = paths-start (path_count c.args.part.now) c.args.part.now
 
 pub loop-place-preserved : goal.loop-place-preserved
-loop-place-preserved c = let l = c.loop-place in
-    rw c.flag_path.ensures (omega arith, sym (paths-turn c.paths-n.result l.place l.part c.loop-place-test.true) ∙ l.invariant.1, ap length (sym c.flag_path.ensures) ∙ c.flag_path.auto.part ∙ l.invariant.2)
-
-pub shape_of-part : goal.shape_of-part
-shape_of-part c = c.loop-place.invariant.2
+loop-place-preserved c =
+    let n = path_count c.args.part.now in
+    let below : c.loop-place.place < n = omega (arith, c.paths-place-end.ensures.0) in
+    rw c.flag_path.ensures (sym (paths-turn n c.loop-place.place c.loop-place.part below) ∙ c.loop-place.invariant)
 
 pub returns : goal.returns
-unfolding with_masks
-returns c = let l = c.loop-place in
-    sym (paths-end c.paths-n.result l.place l.part c.loop-place-test.false) ∙ l.invariant.1 ∙ ap (λ (m : ℕ). flag_paths m 0 c.args.part.now) c.paths-n.ensures.0
+returns c =
+    let n = path_count c.args.part.now in
+    let past : n ≤ c.loop-place.place = omega (arith, c.paths-place-end.ensures.0) in
+    sym (paths-end n c.loop-place.place c.loop-place.part past) ∙ c.loop-place.invariant

@@ -31,11 +31,7 @@ unfolding max_labels
 returns-then-l-ge-MAX_LABELS c = let at = c.args.at in
     let a = c.args.part.now in
     let e = over_capacity at a c.if-l-ge-MAX_LABELS.true in
-    (sym (ap (λ (r : Passed). r.bytes) e), (sym (ap (λ (r : Passed). r.place) e), record { searchable = c.requires.0; paths = omega arith; state = c.requires.1.0 }))
-
-pub store_word-requires : goal.store_word-requires
-unfolding max_labels
-store_word-requires c = (c.if-l-ge-MAX_LABELS.false, c.requires.1.0, c.requires.1.1)
+    record { bytes = sym (ap (λ (r : Passed). r.bytes) e); place = sym (ap (λ (r : Passed). r.place) e); sound = record { searchable = c.requires.0; paths = omega arith; state = c.requires.1.0 } }
 
 pub follow-requires : goal.follow-requires
 follow-requires c =
@@ -48,7 +44,9 @@ returns c =
     let at = args.at in
     let a = args.part.now in
     let e = roomy at a c.store_word.new.part c.follow.result c.if-l-ge-MAX_LABELS.false c.store_word.ensures c.follow.ensures.0 in
-    let s : Searchable c.store_word.new.part = subst Searchable (sym c.store_word.ensures) (searchable-stored at.labels at.state a c.requires.0) in (
-      sym (ap (λ (r : Passed). r.bytes) e),
-      (sym (ap (λ (r : Passed). r.place) e), record { searchable = s; paths = omega arith; state = small c.store_word.new.part c.follow.result s c.follow.ensures.1 }),
-    )
+    let s : Searchable c.store_word.new.part = subst Searchable (sym c.store_word.ensures) (searchable-stored at.labels at.state a c.requires.0) in
+    record {
+      bytes = sym (ap (λ (r : Passed). r.bytes) e);
+      place = sym (ap (λ (r : Passed). r.place) e);
+      sound = record { searchable = s; paths = omega arith; state = small c.store_word.new.part c.follow.result s c.follow.ensures.1 };
+    }

@@ -1,15 +1,14 @@
-use native.Mathlib.Omega.{arith}
-use mathlib.Core.Path.{sym, ◌∙◌, ap}
-use Rattle.stored.specs.HeldSet.{top_held}
-use Rattle.text.specs.Lists.{any}
+use Rattle.std.proofs.Common.{◌+◌, refl, ap, ◌∙◌, rules, tests, arith}
+use Rattle.std.proofs.lemmas.Iterator.{YieldsList-from_range}
+use Rattle.std.proofs.lemmas.Iterator.Search.{any_from_yields_List}
+use Rattle.stored.specs.Asking.{place_matched, any_matched, paths_of_folder}
+use Rattle.stored.proofs.Laws.Bytes.Ranges.{any-in_range}
 use Rattle.machine.proofs.run.matches.folder_paths_matched.Goals as goal
 
-pub any_matched-requires : goal.any_matched-requires
-any_matched-requires c = (omega (arith, ap top_held c.in-Folder.is, c.folder_at.ensures.1), omega (arith, ap top_held c.in-Folder.is, c.folder_at.ensures.1))
-
-pub returns-in-Folder : goal.returns-in-Folder
-returns-in-Folder c = rw (sym c.folder_at.ensures.0 ∙ c.in-Folder.is) c.any_matched.ensures
-
-pub returns-in-Missing : goal.returns-in-Missing
-unfolding any
-returns-in-Missing c = rw (sym c.folder_at.ensures.0 ∙ c.in-Missing.is)
+pub returns-in-Some : goal.returns-in-Some
+returns-in-Some c =
+    let b = c.args in
+    let f = c.in-Some.folder in
+    any_from_yields_List (λ p. place_matched b.a.now b.run.now (record { 0 = p })) _ _ _ c.any.ensures.ran (YieldsList-from_range f.first.0 (f.first.0 + f.paths) f.paths refl (omega arith)) (λ x b q k. search (rules, tests))
+    ∙ any-in_range (λ p. place_matched b.a.now b.run.now (record { 0 = p })) f.first.0 f.paths
+    ∙ ap (λ o. any_matched b.a.now b.run.now (paths_of_folder o)) c.in-Some.ensures.0

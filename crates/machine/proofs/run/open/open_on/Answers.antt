@@ -12,27 +12,27 @@ use Rattle.machine.proofs.run.open.open_on.Goals as goal
 
 pub first_label-first-requires : goal.first_label-first-requires
 first_label-first-requires c =
-    ((openable c.args.a.now c.requires.0.shaped c.requires.0.size).walkable.searchable, (c.hash_of.ensures.0, c.requires.0.size))
+    (openable c.args.a.now c.requires.0.shaped c.requires.0.size).walkable.searchable
 
 pub walk_from-walked-requires : goal.walk_from-walked-requires
 walk_from-walked-requires c =
-    let d = c.depth_in-d in
+    let d = c.depth-d in
     let s = run-shape c.args.a.now c.args.run.now c.requires.0.run_is_shaped in
-    let q : c.state_in.result ≤ suc (label_count c.args.a.now) = rw c.state_in.ensures.0 (s.state d.result (omega (arith, d.ensures.0))) in
-    ((openable c.args.a.now c.requires.0.shaped c.requires.0.size).walkable, (q, (c.first_label-first.ensures.1, c.requires.0.size)))
+    let q : c.state.result ≤ suc (label_count c.args.a.now) = rw c.state.ensures.value (s.state d.result (omega (arith, d.ensures))) in
+    record { walkable = (openable c.args.a.now c.requires.0.shaped c.requires.0.size).walkable; state = q; within = c.first_label-first.ensures.within }
 
 pub write-requires : goal.write-requires
 write-requires c =
     let A = c.args.a.now in
     let R = c.args.run.now in
     let E = c.args.e.now in
-    let d = c.depth_in-d in
-    let q = c.state_in in
+    let d = c.depth-d in
+    let q = c.state in
     let f = c.first_label-first in
-    let at : q.result ≡ state_at R (depth_of R) = q.ensures.0 ∙ ap (λ (n : ℕ). state_at R n) d.ensures.0 in
-    let w : c.walk_from-walked.result ≡ open_walk A R E = c.walk_from-walked.ensures.0 ∙ ap₂ (walk_by A) at f.ensures.0 in record {
-      openable = (openable A c.requires.0.shaped c.requires.0.size, (c.requires.0.run_length, (omega (arith, d.ensures.0, c.requires.1.0), c.requires.1.1)));
-      first_value = (f.ensures.0, (d.ensures.0, ap (λ (x : Walk). x.state) w));
+    let at : q.result ≡ state_at R (depth_of R) = q.ensures.value ∙ ap (λ (n : ℕ). state_at R n) d.ensures in
+    let w : c.walk_from-walked.result ≡ open_walk A R E = c.walk_from-walked.ensures.walked ∙ ap₂ (walk_by A) at f.ensures.found in record {
+      openable = (openable A c.requires.0.shaped c.requires.0.size, (c.requires.0.run_length, (omega (arith, d.ensures, c.requires.1.0), c.requires.1.1)));
+      first_value = (f.ensures.found, (d.ensures, ap (λ (x : Walk). x.state) w));
     }
 
 pub returns : goal.returns
@@ -40,12 +40,12 @@ returns c =
     let A = c.args.a.now in
     let R = c.args.run.now in
     let E = c.args.e.now in
-    let d = c.depth_in-d in
-    let q = c.state_in in
+    let d = c.depth-d in
+    let q = c.state in
     let w = c.walk_from-walked in
     let f = c.first_label-first in
-    let at : q.result ≡ state_at R (depth_of R) = q.ensures.0 ∙ ap (λ (n : ℕ). state_at R n) d.ensures.0 in
+    let at : q.result ≡ state_at R (depth_of R) = q.ensures.value ∙ ap (λ (n : ℕ). state_at R n) d.ensures in
     let l : q.result ≤ suc (label_count A) = rw at ((run-shape A R c.requires.0.run_is_shaped).state (depth_of R) (omega arith)) in (
-      w.ensures.0 ∙ ap₂ (walk_by A) at f.ensures.0,
-      (omega (arith, w.ensures.1.1, size-within A (openable A c.requires.0.shaped c.requires.0.size).walkable.falling q.result l), c.write.ensures),
+      w.ensures.walked ∙ ap₂ (walk_by A) at f.ensures.found,
+      (omega (arith, w.ensures.moves, size-within A (openable A c.requires.0.shaped c.requires.0.size).walkable.falling q.result l), c.write.ensures),
     )

@@ -1,6 +1,0 @@
--- The loop ends, and keeps the buffer's length.
-use mathlib.Core.Path.{refl}
-use Rattle.cases_filing.proofs.texts.numbered.Goals as goal
-
-pub loop-i-init : goal.loop-i-init
-loop-i-init c = refl

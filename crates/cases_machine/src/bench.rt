@@ -1,0 +1,126 @@
+// A line of the script is carried out. `NAME = TEXT`: the text is built. `>NAME`: the set is written back. `^N NAME`: what was written, N
+// bytes, is built. `!AT BYTE NAME`: the worked example with one byte changed is written back. `?`: something asked. `=`: something put in
+// place. `;`: a remark, shown: what the offsets after it are.
+use anyhow::{Context, Result, bail};
+use cases::answers::{Answer, Number, done, written};
+use cases::lent::Lent;
+use cases::script::{byte, number, numbers, split_word};
+use cases::texts::{expand, split_name};
+use machine::build;
+use machine::layout::AUTOMATON_SIZE;
+use machine::write::write_set;
+use notation::layout::WORD_SIZE;
+use notation::limits::MAX_SET_BYTES;
+use notation::reads::{byte_at, word_at};
+use std::alloc::Global;
+
+const EXAMPLE: &str =
+    "(folders\n(folder 3 (//clock/drift) (/lock/*/drift))\n(folder 8 (//*/lock))\n)\n";
+
+// What the calls are lent, the automaton with a byte after it.
+#[derive(Drop)]
+pub struct Bench {
+    automaton: Lent,
+    out: Lent,
+}
+
+impl Bench {
+    pub fn new(alloc: Global) -> Result<Self> {
+        let automaton = Lent::new(alloc, 7, AUTOMATON_SIZE + 1, AUTOMATON_SIZE)?;
+        let out = Lent::new(alloc, b'.', MAX_SET_BYTES, MAX_SET_BYTES)?;
+        Ok(Bench { automaton, out })
+    }
+
+    pub fn carry_out(&mut self, rt: &(impl Print + AllocGlobal), line: &str) -> Result<()> {
+        let mut rest = line.chars();
+        match rest.next() {
+            None => Ok(()),
+            Some(';') => Ok(println!(rt; "{}", rest.as_str())?),
+            Some('>') => self.write_back(rt, rest.as_str()),
+            Some('^') => self.build_again(rt, rest.as_str()),
+            Some('!') => self.damage(rt, rest.as_str()),
+            Some('?') => self.ask(rt, rest.as_str()),
+            Some('=') => self.put(rest.as_str()),
+            Some(_) => self.build_text(rt, line),
+        }
+    }
+
+    fn build(&mut self, rt: &impl Print, name: &str, text: &[u8]) -> Result<()> {
+        let answer = done(build::build(text, self.automaton.get_mut()));
+        Ok(println!(rt; "{name}: {}", Number(answer))?)
+    }
+
+    fn build_text(&mut self, rt: &(impl Print + AllocGlobal), line: &str) -> Result<()> {
+        let (name, text) = split_name(line)?;
+        let set = expand(rt.alloc(), text)?;
+        self.build(rt, name, set.as_slice())
+    }
+
+    fn build_again(&mut self, rt: &impl Print, rest: &str) -> Result<()> {
+        let (size, name) = split_word(rest);
+        let text = self
+            .out
+            .get()
+            .get(..number(size)?)
+            .context("a text past the buffer")?;
+        let answer = done(build::build(text, self.automaton.get_mut()));
+        Ok(println!(rt; "{name}: {}", Number(answer))?)
+    }
+
+    fn write_back(&mut self, rt: &impl Print, name: &str) -> Result<()> {
+        let answer = written(write_set(self.automaton.get(), self.out.get_mut()));
+        Ok(println!(rt; "{name}: {}", Answer("bytes ", answer))?)
+    }
+
+    fn damage(&mut self, rt: &impl Print, rest: &str) -> Result<()> {
+        let (at, rest) = split_word(rest);
+        let (value, name) = split_word(rest);
+        build::build(EXAMPLE.as_bytes(), self.automaton.get_mut());
+        self.automaton.put(number(at)?, byte(value)?)?;
+        self.write_back(rt, name)
+    }
+
+    // `four AT`, `word AT`, `byte AT` of the automaton, and `text N`: the first bytes of what was written.
+    fn ask(&self, rt: &impl Print, question: &str) -> Result<()> {
+        let (word, rest) = split_word(question);
+        let at = number(rest)?;
+        let a = self.automaton.get();
+        match word {
+            "four" => {
+                let part = a.get(at..).context("past the automaton")?;
+                println!(rt;
+                    "at {at}: {} {} {} {}",
+                    word_at(part, 0),
+                    word_at(part, WORD_SIZE),
+                    word_at(part, 2 * WORD_SIZE),
+                    word_at(part, 3 * WORD_SIZE)
+                )?;
+            }
+            "word" => println!(rt; "at {at}: {}", word_at(a, at))?,
+            "byte" => println!(rt; "byte {at}: {}", byte_at(a, at))?,
+            "text" => {
+                rt.write_all(self.out.get().get(..at).context("a text past the buffer")?)?;
+                println!(rt; "")?;
+            }
+            _ => bail!("no such question: {word}"),
+        }
+        Ok(())
+    }
+
+    // `sizes AUTOMATON OUT`, `fill BYTE`: every byte of the automaton.
+    fn put(&mut self, line: &str) -> Result<()> {
+        let (word, rest) = split_word(line);
+        match word {
+            "sizes" => {
+                let [automaton, out] = numbers::<2>(rest)?;
+                self.automaton.lend(automaton)?;
+                self.out.lend(out)
+            }
+            "fill" => {
+                self.automaton.get_mut().fill(byte(rest)?);
+                Ok(())
+            }
+            _ => bail!("nothing to put: {word}"),
+        }
+    }
+}

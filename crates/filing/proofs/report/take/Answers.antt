@@ -1,0 +1,57 @@
+-- `report::take`: each kind of token by what its calls say.
+use mathlib.Core.Path.{sym, ◌∙◌, ap}
+use Rattle.text.specs.Answers.{refusal_in}
+use Rattle.text.proofs.Laws.Numbers.{some_number}
+use Rattle.text.proofs.Laws.Results.{handed_number}
+use Rattle.filing.proofs.Laws.Filing.Taking.{open-taken, close-taken, taken-stops, taken-on, opened-usable, text-blank, text-outside, text-inside}
+use Rattle.filing.proofs.report.take.Goals as goal
+use Rattle.filing.proofs.report.take.Goals.{else-not-blank-via-then-not-blank+else-depth-eq0, else-not-blank-via-else-not-blank}
+
+pub returns-in_err-open_usable-in-Start : goal.returns-in_err-open_usable-in-Start
+returns-in_err-open_usable-in-Start c =
+    let a = c.args in
+    let same = handed_number _ _ _ c.from_residual.ensures.1 (sym (ap refusal_in c.in_err-open_usable-in-Start.was)) in
+    rw (c.in-Start.is, same) (open-taken a.a.now a.run.now a.counters.now a.name.now c.requires.0 _ _ _ c.open_usable.ensures)
+
+pub returns-in_ok-open_usable-in-Start : goal.returns-in_ok-open_usable-in-Start
+returns-in_ok-open_usable-in-Start c =
+    let a = c.args in
+    rw c.in-Start.is (rw (ap refusal_in c.in_ok-open_usable-in-Start.was) at (open-taken a.a.now a.run.now a.counters.now a.name.now c.requires.0 _ _ _ c.open_usable.ensures))
+
+pub returns-in-End : goal.returns-in-End
+returns-in-End c = let a = c.args in rw c.in-End.is (close-taken a.a.now a.run.now a.counters.now a.name.now c.requires.0 _ _ _ c.close_usable.ensures)
+
+pub returns-in_err-open_usable-in-Empty : goal.returns-in_err-open_usable-in-Empty
+returns-in_err-open_usable-in-Empty c =
+    let a = c.args in
+    let is = ap refusal_in c.in_err-open_usable-in-Empty.was in
+    let same = handed_number _ _ _ c.from_residual-in_err-open_usable-in-Empty.ensures.1 (sym is) in
+    let opened = open-taken a.a.now a.run.now a.counters.now a.name.now c.requires.0 _ _ _ c.open_usable-in-Empty.ensures in
+    rw (c.in-Empty.is, same) (taken-stops _ _ _ _ _ _ _ opened (λ z. some_number _ (sym is ∙ z)))
+
+pub close_usable-requires-in-Empty : goal.close_usable-requires-in-Empty
+close_usable-requires-in-Empty c =
+    let a = c.args in
+    let opened = open-taken a.a.now a.run.now a.counters.now a.name.now c.requires.0 _ _ _ c.open_usable-in-Empty.ensures in
+    (opened-usable _ _ _ _ _ _ _ opened c.requires.0 (ap refusal_in c.in_ok-open_usable-in-Empty.was), rw c.in-Empty.is at c.requires.1)
+
+pub returns-in_ok-open_usable-in-Empty : goal.returns-in_ok-open_usable-in-Empty
+returns-in_ok-open_usable-in-Empty c =
+    let a = c.args in
+    let z = ap refusal_in c.in_ok-open_usable-in-Empty.was in
+    let opened = open-taken a.a.now a.run.now a.counters.now a.name.now c.requires.0 _ _ _ c.open_usable-in-Empty.ensures in
+    let usable = opened-usable _ _ _ _ _ _ _ opened c.requires.0 z in
+    rw c.in-Empty.is (taken-on _ _ _ _ _ _ _ _ _ _ opened z (close-taken a.a.now _ _ a.name.now usable _ _ _ c.close_usable-in-Empty.ensures))
+
+pub returns-then-depth-eq0 : goal.returns-then-depth-eq0
+returns-then-depth-eq0 c =
+    let a = c.args in
+    rw (c.in-Text.is, c.if-not-blank.true) (text-outside a.a.now a.run.now a.counters.now (sym c.depth.ensures.0 ∙ c.if-depth-eq0.true))
+
+pub returns-else-not-blank : goal.returns-else-not-blank
+returns-else-not-blank c =
+    let a = c.args in
+    elim c.else-not-blank.branch [
+      | else-not-blank-via-then-not-blank+else-depth-eq0 w ↦ rw (c.in-Text.is, w.if-not-blank.true) (text-inside a.a.now a.run.now a.counters.now (λ z. w.if-depth-eq0.false (w.depth.ensures.0 ∙ z)))
+      | else-not-blank-via-else-not-blank w ↦ rw (c.in-Text.is, w.if-not-blank.false) (text-blank a.a.now a.run.now a.counters.now)
+    ]

@@ -1,0 +1,31 @@
+-- `Tables::heads_shaped`: the largest head so far is within its range exactly if each so far is.
+use mathlib.Core.Path.{◌≡◌, refl, sym, ap, ◌∙◌}
+use native.Mathlib.Omega.{arith}
+use borrow.Author.Tests.{le-leb}
+use lib.Dec.{leb}
+use Rattle.notation.specs.Reads.{label_count}
+use Rattle.stored.specs.Automaton.{hashes, heads_at}
+use Rattle.stored.specs.Tables.{head_at}
+use Rattle.stored.specs.Shape.{all_below, head_shaped}
+use Rattle.stored.proofs.Laws.Bytes.AllBelow.{all_none, all-next, all_end}
+use Rattle.stored.proofs.Laws.Shapes.Tested.{leb-by, max-within}
+use Rattle.machine.proofs.shape.Tables.heads_shaped.Goals as goal
+
+pub loop-h-init : goal.loop-h-init
+loop-h-init c =
+    let a = c.args.self.now in
+    le-leb 0 (label_count a) (omega arith) ∙ all_none (head_shaped a)
+
+pub loop-h-preserved : goal.loop-h-preserved
+unfolding heads_at
+loop-h-preserved c =
+    let a = c.args.self.now in
+    let turn = c.loop-h in
+    all-next turn.h (head_shaped a) (leb-by c.max-most.ensures refl ∙ max-within turn.most c.word.result (label_count a)) turn.invariant (leb-by (c.word.ensures.value ∙ ap (λ b. head_at b turn.h) c.self.view_is) refl)
+
+pub returns : goal.returns
+unfolding hashes
+returns c =
+    let a = c.args.self.now in
+    leb-by c.from.ensures (c.self.invariant.4 ∙ ap label_count c.self.view_is)
+    ∙ all_end hashes (head_shaped a) c.loop-h.invariant (omega arith)

@@ -1,5 +1,0 @@
-use Rattle.stored.specs.Tables.{size_of}
-use Rattle.machine.proofs.walk.+walk_from.Given as goal
-
-abbrev pub decreases-walk_from : goal.decreases-walk_from
-decreases-walk_from l = size_of l.a.now l.q

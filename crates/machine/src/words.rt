@@ -1,0 +1,13 @@
+// Numbers as they are stored, read without a range test: for callers that know that they lie within the buffer.
+ghost use Rattle.std.specs.Prelude.{◌≡◌, ◌+◌, ◌≤◌, ◌<◌, length};
+ghost use Rattle.notation.specs.Layout.{word_size};
+ghost use Rattle.notation.specs.Reads.{word16};
+
+// A number of two bytes, the lower first.
+#[tactic(auto, unfolding(notation::specs::Reads::word16))]
+pub fn word(a: &[u8], at: usize) -> usize
+    requires { at + word_size ≤ length a.now }
+    ensures { (result ≡ word16 a.now at) × (result < 65536) }
+{
+    usize::from(u16::from_le_bytes([a[at], a[at + 1]]))
+}
