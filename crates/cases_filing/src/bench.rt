@@ -1,6 +1,6 @@
 // Files a report with a set and prints what the program prints.
-use anyhow::{Context, Result};
-use cases::answers::{Number, Shown, done, written};
+use anyhow::{Context, Result, ensure};
+use cases::answers::{Number, Shown};
 use cases::lent::Lent;
 use filing::limits::LISTING_SIZE;
 use filing::listing::{write_listing, write_refused};
@@ -27,7 +27,8 @@ impl Bench {
     fn new(rt: &(impl Print + AllocGlobal), set: &str, name: &[u8]) -> Result<Self> {
         println!(rt; "{set}{}", Shown(name))?;
         let mut automaton = Lent::new(rt.alloc(), 0, AUTOMATON_SIZE, AUTOMATON_SIZE)?;
-        build(set.as_bytes(), automaton.get_mut());
+        let built = build(set.as_bytes(), automaton.get_mut());
+        ensure!(built.is_ok(), "a set that is refused");
         Ok(Bench {
             automaton,
             run: Lent::new(rt.alloc(), 0, RUN_SIZE, RUN_SIZE)?,
@@ -37,11 +38,11 @@ impl Bench {
 
     fn file(&mut self, report: &[u8]) -> Result<(), Refusal> {
         let counters = &mut self.counters;
-        done(file_report(self.automaton.get(), self.run.get_mut(), counters, report))
+        file_report(self.automaton.get(), self.run.get_mut(), counters, report)
     }
 
     fn list(&self, page: &mut [u8]) -> Result<usize, Refusal> {
-        written(write_listing(self.automaton.get(), self.run.get(), self.counters, page))
+        write_listing(self.automaton.get(), self.run.get(), self.counters, page)
     }
 
     fn print_listing(&self, rt: &impl Print) -> Result<()> {
@@ -62,7 +63,7 @@ fn print_page(rt: &impl Print, answer: Result<usize, Refusal>, page: &[u8]) -> R
 
 fn print_refused(rt: &impl Print, refusal: Refusal) -> Result<()> {
     let mut page = [0; LISTING_SIZE];
-    let answer = written(write_refused(refusal.number(), &mut page));
+    let answer = write_refused(refusal.number(), &mut page);
     print_page(rt, answer, &page)
 }
 

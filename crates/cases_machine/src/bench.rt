@@ -1,8 +1,8 @@
 // A line of the script is carried out. `NAME = TEXT`: the text is built. `>NAME`: the set is written back. `^N NAME`: what was written, N
 // bytes, is built. `!AT BYTE NAME`: the worked example with one byte changed is written back. `?`: something asked. `=`: something put in
 // place. `;`: a remark, shown: what the offsets after it are.
-use anyhow::{Context, Result, bail};
-use cases::answers::{Answer, Number, done, written};
+use anyhow::{Context, Result, bail, ensure};
+use cases::answers::{Answer, Number};
 use cases::lent::Lent;
 use cases::script::{byte, number, numbers, split_word};
 use cases::texts::{expand, split_name};
@@ -46,7 +46,7 @@ impl Bench {
     }
 
     fn build(&mut self, rt: &impl Print, name: &str, text: &[u8]) -> Result<()> {
-        let answer = done(build::build(text, self.automaton.get_mut()));
+        let answer = build::build(text, self.automaton.get_mut());
         Ok(println!(rt; "{name}: {}", Number(answer))?)
     }
 
@@ -63,19 +63,20 @@ impl Bench {
             .get()
             .get(..number(size)?)
             .context("a text past the buffer")?;
-        let answer = done(build::build(text, self.automaton.get_mut()));
+        let answer = build::build(text, self.automaton.get_mut());
         Ok(println!(rt; "{name}: {}", Number(answer))?)
     }
 
     fn write_back(&mut self, rt: &impl Print, name: &str) -> Result<()> {
-        let answer = written(write_set(self.automaton.get(), self.out.get_mut()));
+        let answer = write_set(self.automaton.get(), self.out.get_mut());
         Ok(println!(rt; "{name}: {}", Answer("bytes ", answer))?)
     }
 
     fn damage(&mut self, rt: &impl Print, rest: &str) -> Result<()> {
         let (at, rest) = split_word(rest);
         let (value, name) = split_word(rest);
-        build::build(EXAMPLE.as_bytes(), self.automaton.get_mut());
+        let built = build::build(EXAMPLE.as_bytes(), self.automaton.get_mut());
+        ensure!(built.is_ok(), "a set that is refused");
         self.automaton.put(number(at)?, byte(value)?)?;
         self.write_back(rt, name)
     }

@@ -1,6 +1,6 @@
 // A line of the script is carried out. `# TITLE`. `(`: a set, built. `?`: something asked. `=`: something put in place. `;`: a remark.
 // Any other line is a call that changes the run.
-use anyhow::{Result, bail};
+use anyhow::{Result, bail, ensure};
 use cases::answers::{Answer, Shown, YesNo};
 use cases::lent::Lent;
 use cases::script::{number, numbers, place, split_word};
@@ -47,7 +47,8 @@ impl Bench {
 
     fn build(&mut self, alloc: Global, line: &str) -> Result<()> {
         let set = expand(alloc, line)?;
-        build::build(set.as_slice(), self.automaton.get_mut());
+        let built = build::build(set.as_slice(), self.automaton.get_mut());
+        ensure!(built.is_ok(), "a set that is refused");
         Ok(())
     }
 

@@ -1,7 +1,7 @@
 // A line of the script is carried out. `(`: a set, built. `<`: a report, filed. `=`: something put in place. `;`: a remark, shown. Any other
 // line names a case: the sheet is written and shown.
 use anyhow::{Result, bail};
-use cases::answers::{Answer, Number, done, written};
+use cases::answers::{Answer, Number};
 use cases::lent::Lent;
 use cases::script::{byte, numbers, place, split_word};
 use cases::texts::expand;
@@ -50,19 +50,19 @@ impl Bench {
 
     fn build(&mut self, rt: &(impl Print + AllocGlobal), line: &str) -> Result<()> {
         let set = expand(rt.alloc(), line)?;
-        let answer = done(build::build(set.as_slice(), self.automaton.get_mut()));
+        let answer = build::build(set.as_slice(), self.automaton.get_mut());
         Ok(println!(rt; "built: {}", Number(answer))?)
     }
 
     // A report stands as it is: its tags would be taken for folders.
     fn file(&mut self, rt: &impl Print, line: &str) -> Result<()> {
         let mut counters = Counters::none();
-        let answer = done(file_report(
+        let answer = file_report(
             self.automaton.get(),
             self.run.get_mut(),
             &mut counters,
             line.as_bytes(),
-        ));
+        );
         Ok(println!(rt; "filed: {}", Number(answer))?)
     }
 
@@ -94,7 +94,7 @@ impl Bench {
     fn show(&mut self, rt: &impl Print, name: &str) -> Result<()> {
         let out = self.out.get_mut();
         out.fill(self.filler);
-        let answer = written(write_sheet(self.automaton.get(), self.run.get(), out));
+        let answer = write_sheet(self.automaton.get(), self.run.get(), out);
         println!(rt; "{name}: {}", Answer("bytes ", answer))?;
         let (sheet, rest) = out.split_at(answer.unwrap_or(0).min(out.len()));
         rt.write_all(sheet)?;

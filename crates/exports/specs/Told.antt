@@ -1,8 +1,7 @@
 -- How a program in C or Rust is told an answer: the refusal's number, 0 for none, is returned, and a value is put behind a pointer.
-use Rattle.std.specs.Prelude.{ℕ, ◌≡◌, Bool, cond, List, get_or}
-use Rattle.text.specs.Answers.{Answer, refused, value, number_said}
-use Rattle.text.specs.Written.{written_says}
-use Rattle.text.specs.declared.written.Written.{Written}
+use Rattle.std.specs.Prelude.{ℕ, ◌≡◌, Bool, cond, List, Result, get_or}
+use Rattle.text.specs.declared.refusals.Refusal.{Refusal}
+use Rattle.text.specs.Answers.{Answer, refused, value, number_said, says}
 use Rattle.stored.specs.declared.counters.Counters.{Counters}
 
 -- three numbers in a row
@@ -27,7 +26,7 @@ abbrev pub MatchTold : Answer Bool → ℕ → ℕ → ℕ → Type 0
 MatchTold says before answer after = Told (as_number says) before answer after
 
 -- of a call that writes a text, by its own contract
-pub record LengthTold (Writes : Written → Type 0) (before answer after : ℕ) : Type 0 where
-  pub written : Written
+pub record LengthTold (Writes : Result ℕ Refusal → Type 0) (before answer after : ℕ) : Type 0 where
+  pub written : Result ℕ Refusal
   pub writes : Writes written
-  pub told : Told (written_says written) before answer after
+  pub told : Told (says written) before answer after

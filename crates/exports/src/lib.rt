@@ -14,7 +14,7 @@ ghost use Rattle.exports.specs.Told.{counters_in, MatchTold, LengthTold};
 
 use filing::listing::write_listing;
 use filing::printing::print_filing;
-use filing::report::file_by;
+use filing::report::file_report;
 use machine::build::build;
 use machine::run::asking::{folder_matched, path_matched};
 use notation::{FolderNumber, PathPlace};
@@ -24,7 +24,7 @@ use sheets::sheet::write_sheet;
 pub fn rannvoul_build(text: &[u8], automaton: &mut [u8]) -> u8
     ensures { Built text.now automaton.old result automaton.new }
 {
-    build(text, automaton)
+    told::number(build(text, automaton))
 }
 
 // Files a report.
@@ -36,10 +36,10 @@ pub fn rannvoul_file(
 ) -> u8
     ensures { Files automaton.now run.old (counters_in counters.old) report.now result run.new (counters_in counters.new) }
 {
-    let done = file_by(automaton, run, told::counters_in(counters), report);
-    let after = done.counters;
-    told::put_counters(after, counters);
-    done.refusal
+    let mut counted = told::counters_in(counters);
+    let answer = file_report(automaton, run, &mut counted, report);
+    told::put_counters(counted, counters);
+    told::number(answer)
 }
 
 // Is a path matched, by its place among all paths of the set?
@@ -70,7 +70,7 @@ pub fn rannvoul_list(
     ensures { LengthTold (λ w. ListingWritten automaton.now run.now (counters_in counters.now) out.old w out.new) length.old result length.new }
 {
     let written = write_listing(automaton, run, told::counters_in(counters), out);
-    told::tell_length(written, length)
+    told::tell(written, length)
 }
 
 // Writes the class sheet of a run.
@@ -78,7 +78,7 @@ pub fn rannvoul_sheet(automaton: &[u8], run: &[u8], out: &mut [u8], length: &mut
     ensures { LengthTold (λ w. SheetWritten automaton.now run.now out.old w out.new) length.old result length.new }
 {
     let written = write_sheet(automaton, run, out);
-    told::tell_length(written, length)
+    told::tell(written, length)
 }
 
 // Writes what a set and a report print, by the bytes of both.
@@ -93,5 +93,5 @@ pub fn rannvoul_print(
     ensures { LengthTold (λ w. Prints text.now report.now automaton.old run.old out.old w automaton.new run.new out.new) length.old result length.new }
 {
     let written = print_filing(text, report, automaton, run, out);
-    told::tell_length(written, length)
+    told::tell(written, length)
 }

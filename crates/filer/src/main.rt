@@ -3,7 +3,7 @@
 #![tactic(auto)]
 
 ghost use Rattle.std.specs.Prelude.{IfOk};
-ghost use Rattle.filing.specs.Printed.{PrintedText};
+ghost use Rattle.filing.specs.Printed.{PrintedFor};
 ghost use Rattle.programs.specs.Shows.{Shows};
 
 use filing::limits::LISTING_SIZE;
@@ -16,7 +16,7 @@ use std::io;
 
 // What a set and a report print.
 fn filed(alloc: Global, set: &[u8], report: &[u8]) -> Result<Vec<u8>, AllocError>
-    ensures { IfOk result (λ page. Shows PrintedText set.now report.now page.items) }
+    ensures { IfOk result (λ page. Shows PrintedFor set.now report.now page.items) }
 {
     let mut automaton = [0; AUTOMATON_SIZE];
     let mut run = [0; RUN_SIZE];

@@ -63,19 +63,19 @@ RefusesShort size a run out answer a' run' out' =
     AnswersBy (gives (too_small size a run out) ShortBuffer ∷ []) (says answer)
     × IfRefused (number_said (says answer)) ((a' ≡ a) × ((run' ≡ run) × (out' ≡ out)))
 
--- a set is built and a report filed with it: the counters, or the number of the set's refusal, or of the report's
-pub data FilesText (text report a run : List ℕ) : Result Counters ℕ → List ℕ → List ℕ → Type 0 where
-  set_refused : {n : ℕ} {a' : List ℕ} → (n ≡ 0 → ⊥) → Built text a n a' → FilesText text report a run (Err n) a' run
-  report_refused : {n : ℕ} {a' run' : List ℕ} (c' : Counters) → (n ≡ 0 → ⊥) → Built text a 0 a' → Files a' run no_counters report n run' c' → FilesText text report a run (Err n) a' run'
+-- a set is built and a report filed with it: the counters, or the set's refusal, or the report's
+pub data FilesText (text report a run : List ℕ) : Result Counters Refusal → List ℕ → List ℕ → Type 0 where
+  set_refused : {r : Refusal} {a' : List ℕ} → Built text a (number_of r) a' → FilesText text report a run (Err r) a' run
+  report_refused : {r : Refusal} {a' run' : List ℕ} (c' : Counters) → Built text a 0 a' → Files a' run no_counters report (number_of r) run' c' → FilesText text report a run (Err r) a' run'
   report_filed : {a' run' : List ℕ} {c' : Counters} → Built text a 0 a' → Files a' run no_counters report 0 run' c' → FilesText text report a run (Ok c') a' run'
 
 module _ (shows : List ℕ → List ℕ → Counters → List ℕ → Result ℕ Refusal → List ℕ → Type 0) where
   -- what was filed is shown, or the line of a refusal written
-  abbrev pub ShownAs : Result Counters ℕ → List ℕ → List ℕ → List ℕ → Result ℕ Refusal → List ℕ → Type 0
+  abbrev pub ShownAs : Result Counters Refusal → List ℕ → List ℕ → List ℕ → Result ℕ Refusal → List ℕ → Type 0
   ShownAs (Ok c) a run before answer after = shows a run c before answer after
-  ShownAs (Err n) a run before answer after = TextWritten [] (refused_line n) before answer after
+  ShownAs (Err r) a run before answer after = TextWritten [] (refused_line (number_of r)) before answer after
 
   -- the whole job, by what a show of what filing left answers and leaves
   pub record PrintsWith (size : ℕ) (text report a run out : List ℕ) (answer : Result ℕ Refusal) (a' run' out' : List ℕ) : Type 0 where
     pub short : too_small size a run out ≡ true → (answer ≡ Err ShortBuffer) × ((a' ≡ a) × ((run' ≡ run) × (out' ≡ out)))
-    pub done : too_small size a run out ≡ false → (filed : Result Counters ℕ) × FilesText text report a run filed a' run' × ShownAs filed a' run' out answer out'
+    pub done : too_small size a run out ≡ false → (filed : Result Counters Refusal) × FilesText text report a run filed a' run' × ShownAs filed a' run' out answer out'

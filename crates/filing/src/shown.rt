@@ -40,24 +40,19 @@ fn too_small(a: &[u8], run: &[u8], out: &[u8], size: usize) -> bool
     lent::too_short(a, run) || out.len() < size
 }
 
-// Builds a set and files a report with it: the number of the set's refusal, or of the report's.
+// Builds a set and files a report with it: the refusal is the set's, or the report's.
 fn file_text(
     text: &[u8],
     report: &[u8],
     automaton: &mut [u8],
     run: &mut [u8],
-) -> Result<Counters, u8>
+) -> Result<Counters, Refusal>
     ensures { FilesText text.now report.now automaton.old run.old result automaton.new run.new }
 {
-    let refused = build(text, automaton);
-    if refused != 0 {
-        return Err(refused);
-    }
+    build(text, automaton)?;
     let mut counters = Counters::none();
-    match file_report(automaton, run, &mut counters, report) {
-        Ok(()) => Ok(counters),
-        Err(refusal) => Err(refusal.number()),
-    }
+    file_report(automaton, run, &mut counters, report)?;
+    Ok(counters)
 }
 
 // Writes what is shown of a set's text and a report to the first bytes of `out` and answers its length, or 1 where a buffer is short. Bytes past
@@ -76,6 +71,6 @@ pub fn print_shown<S: Show>(
     }
     match file_text(text, report, automaton, run) {
         Ok(counters) => S::show(automaton, run, counters, out),
-        Err(number) => write_line(number, out),
+        Err(refusal) => write_line(refusal.number(), out),
     }
 }

@@ -1,21 +1,19 @@
 // What a program prints.
 ghost use Rattle.std.specs.Prelude.{◌≡◌, take};
-ghost use Rattle.programs.specs.Shows.{size_of};
+ghost use Rattle.std.specs.Result.{result_unwrap_or};
 
 use crate::files::read_both;
 use std::alloc::{AllocError, Global};
 use std::io;
 use std::rt::Files;
-use text::written::Written;
+use text::refusals::Refusal;
 
 // What was written at the start of a buffer. In buffers of their sizes nothing is refused.
-pub fn written(answer: Written, buffer: &[u8]) -> &[u8]
-    ensures { result.now ≡ take (size_of answer) buffer.now }
+pub fn written(answer: Result<usize, Refusal>, buffer: &[u8]) -> &[u8]
+    ensures { result.now ≡ take (result_unwrap_or answer 0) buffer.now }
 {
-    match answer {
-        Written::Bytes(n) => &buffer[..n.min(buffer.len())],
-        Written::Refused(_) => &buffer[..0],
-    }
+    let size = answer.unwrap_or(0).min(buffer.len());
+    &buffer[..size]
 }
 
 // Reads the two files, and prints the page that is made of them. Where one cannot be read nothing is printed.

@@ -3,7 +3,6 @@
 #![tactic(auto)]
 
 ghost use Rattle.std.specs.Prelude.{IfOk};
-ghost use Rattle.filing.specs.Shown.{ShownText};
 ghost use Rattle.sheets.specs.SheetOf.{SheetFor};
 ghost use Rattle.programs.specs.Shows.{Shows};
 
@@ -17,7 +16,7 @@ use std::io;
 
 // The class sheet of a set and a report, or the line of a refusal.
 fn shown(alloc: Global, set: &[u8], report: &[u8]) -> Result<Vec<u8>, AllocError>
-    ensures { IfOk result (λ page. Shows (ShownText SheetFor) set.now report.now page.items) }
+    ensures { IfOk result (λ page. Shows SheetFor set.now report.now page.items) }
 {
     let mut automaton = [0; AUTOMATON_SIZE];
     let mut run = [0; RUN_SIZE];

@@ -115,6 +115,15 @@ ran_out {s} (a_piece {t = t} {u} {piece} {bytes} p r) n e i h =
     let stays = late r (rw k) ∙ k in
     (ap (λ (x : Front). x.end) stays, ([], piece ++ bytes, refl, ap (λ (x : Front). x.out) stays)))
 
+-- whatever the room, some first bytes were written
+pub front-written : {s t : Front} {text : List ℕ} → Adds fronted s text t → (n : ℕ) → s.end ≡ Some n → n ≤ length s.out.now
+    → (front later : List ℕ) × (front ++ later ≡ text) × (t.out ≡ record s.out { now = sets s.out.now n front })
+front-written {s} {text = text} x n e i =
+    let size = length s.out.now in
+    cases (leb (n + length text) size)
+    (λ y. (text, [], append-nil text, ap (λ (f : Front). f.out) (filled x n e (leb-true (n + length text) size y))))
+    (λ f. (ran_out x n e i (leb-false (n + length text) size f)).1)
+
 -- a refusal changes nothing
 pub into-kept : (n : ℕ) (text before : List ℕ) → (n ≡ 0 → ⊥) → written_into n text before ≡ before
 into-kept zero text before z = absurd (z refl)

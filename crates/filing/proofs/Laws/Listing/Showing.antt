@@ -177,10 +177,10 @@ module _ (size : ℕ) (For : FolderSet → List ℕ → List ℕ → Type 0) (te
               subst (λ (z : List ℕ). PrintsText size z out answer after) (faithful.once s report own bytes y x) p
 
       -- by what building and filing left
-      shown-by : {a' run' : List ℕ} (r : Result Counters ℕ) → FilesText text report a run r a' run' → ShownAs shows r a' run' out answer after
+      shown-by : {a' run' : List ℕ} (r : Result Counters Refusal) → FilesText text report a run r a' run' → ShownAs shows r a' run' out answer after
           → PrintsBy size For text report a run out answer a' run' after
-      shown-by (Err n) (set_refused some b) w = set-refused some b w
-      shown-by (Err n) (report_refused c' some b f) w = report-refused some b f w
+      shown-by (Err r) (set_refused b) w = set-refused (some_number r) b w
+      shown-by (Err r) (report_refused c' b f) w = report-refused (some_number r) b f w
       shown-by (Ok c') (report_filed b f) w = report-filed b f w
 
   pub prints-by : {shows : List ℕ → List ℕ → Counters → List ℕ → Result ℕ Refusal → List ℕ → Type 0} → Faithful size For shows → {answer : Result ℕ Refusal} {a' run' out' : List ℕ}
