@@ -45,3 +45,12 @@ name_of (Empty n twice) = Some n
 name_of (End n) = Some n
 name_of Blank = None
 name_of Text = None
+
+-- from where to where; 0 to 0 where there is none
+abbrev pub from_in : Option Span → ℕ
+from_in None = 0
+from_in (Some p) = p.from
+
+abbrev pub to_in : Option Span → ℕ
+to_in None = 0
+to_in (Some p) = p.to

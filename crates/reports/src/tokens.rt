@@ -35,7 +35,7 @@ pub enum Kind {
 
 impl Kind {
     // Where the name of a tag stands.
-    fn name(self) -> Option<Span>
+    pub fn name(self) -> Option<Span>
         ensures { result ≡ name_of self }
     {
         match self {
@@ -258,10 +258,13 @@ pub fn is_run(s: &[u8]) -> bool
 {
     let mut i = 0;
     while i < s.len() {
-        match token_at(s, i) {
-            Some(found) if i == 0 || !matches!(found.kind, Kind::Declaration) => i = found.end,
-            _ => return false,
+        let Some(found) = token_at(s, i) else {
+            return false;
+        };
+        if i != 0 && matches!(found.kind, Kind::Declaration) {
+            return false;
         }
+        i = found.end;
     }
     true
 }

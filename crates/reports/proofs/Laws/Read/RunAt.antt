@@ -62,6 +62,21 @@ shown-other total (text ps) at n = refl
 unfoldable pub run_from : List ℕ → ℕ → Bool
 run_from s i = is_got (tokens_from s (eqb i 0) i)
 
+-- what was found at an offset was read there
+pub record Was (s : List ℕ) (i : ℕ) (f : Found) : Type 0 where
+  pub token : Token
+  pub rest : List ℕ
+  pub read : read_token (drop i s) ≡ got token rest
+  pub kind : f.kind ≡ shown (length s) token i
+  pub end : f.end ≡ length s - length rest
+
+pub was_read : (s : List ℕ) (i : ℕ) (f : Found) → found_of (length s) i (read_token (drop i s)) ≡ Some f → Was s i f
+was_read s i f found = go (read_token (drop i s)) refl found
+  where
+    go : (m : Read Token) → read_token (drop i s) ≡ m → found_of (length s) i m ≡ Some f → Was s i f
+    go fail is e = never e
+    go (got t r) is e = record { token = t; rest = r; read = is; kind = sym (ap (λ (x : Found). x.kind) (some_is e)); end = sym (ap (λ (x : Found). x.end) (some_is e)) }
+
 module _ (s : List ℕ) (i : ℕ) (h : i < length s) where
   pub run-none : found_of (length s) i (read_token (drop i s)) ≡ None → run_from s i ≡ false
   unfolding run_from
@@ -72,20 +87,8 @@ module _ (s : List ℕ) (i : ℕ) (h : i < length s) where
       go (got t r) is e = never (sym e)
 
   module _ (f : Found) (found : found_of (length s) i (read_token (drop i s)) ≡ Some f) where
-    -- what was found was read
-    record Was : Type 0 where
-      token : Token
-      rest : List ℕ
-      read : read_token (drop i s) ≡ got token rest
-      kind : f.kind ≡ shown (length s) token i
-      end : f.end ≡ length s - length rest
-
-    was : Was
-    was = go (read_token (drop i s)) refl found
-      where
-        go : (m : Read Token) → read_token (drop i s) ≡ m → found_of (length s) i m ≡ Some f → Was
-        go fail is e = never e
-        go (got t r) is e = record { token = t; rest = r; read = is; kind = sym (ap (λ (x : Found). x.kind) (some_is e)); end = sym (ap (λ (x : Found). x.end) (some_is e)) }
+    was : Was s i f
+    was = was_read s i f found
 
     pub run-past : i < f.end
     run-past = omega (arith, (token-next s i was.token was.rest was.read).1, was.end)

@@ -17,18 +17,9 @@ use Rattle.documents.specs.TagAt.{start, empty, end, WholeTag, TagAt}
 use Rattle.text.proofs.Laws.Reads.{WhenRead, holds-got}
 use Rattle.documents.proofs.Laws.Read.ReadSound.{Good, token-sound}
 use Rattle.documents.proofs.Laws.Printed.TagAt.{Cut, nowhere, none_read, other-read, whole-cut, one-tag-at}
-use Rattle.reports.specs.Seen.{text_kind, shown, found_of, name_of}
+use Rattle.reports.specs.Seen.{text_kind, shown, found_of, name_of, from_in, to_in}
 use Rattle.reports.specs.NamePart.{SpanAt}
 use Rattle.reports.specs.Code.Seen.{tag_name, name_of_token}
-
--- the offsets in a span; 0 and 0 in none
-abbrev pub from_in : Option Span → ℕ
-from_in None = 0
-from_in (Some p) = p.from
-
-abbrev pub to_in : Option Span → ℕ
-to_in None = 0
-to_in (Some p) = p.to
 
 -- where the name of what was found stands
 abbrev pub name_in : Option Found → Option Span

@@ -9,16 +9,9 @@ use borrow.Author.Tests.{ltb-true, ltb-false, eqb-true, eqb-false}
 use Rattle.std.proofs.lemmas.List.{take_rest}
 use Rattle.std.specs.List.{starts_with as begins}
 use Rattle.text.specs.Read.{starts_with}
-use Rattle.text.proofs.Laws.Scans.{begins-other, begins-here, begins-past}
+use Rattle.text.proofs.Laws.Scans.{begins-other, begins-here, begins-past, begins-is}
 use Rattle.text.proofs.Laws.Tests.{cases}
 use Rattle.reports.specs.Code.Seen.{has_byte}
-
--- std's test is ours
-begins-is : (w l : List ℕ) → starts_with w l ≡ begins eqb l w
-unfolding starts_with
-begins-is [] l = refl
-begins-is (b ∷ w) [] = refl
-begins-is (b ∷ w) (c ∷ l) = ap (◌&&◌ (eqb b c)) (begins-is w l)
 
 -- what std's test of the slice from an offset on tells of a word
 pub told : (s w : List ℕ) (at : ℕ) {t u : Bool} → t ≡ begins eqb (take (length s - at) (drop at s)) w → t ≡ u → starts_with w (drop at s) ≡ u
