@@ -7,7 +7,7 @@ ghost use Rattle.notation.specs.Reads.{path_at, step_count, label_count, label_n
 ghost use Rattle.stored.specs.Automaton.{automaton_size};
 ghost use Rattle.stored.specs.Tables.{goto};
 ghost use Rattle.stored.specs.Usable.{Searchable};
-ghost use Rattle.stored.specs.Code.Parents.{starts_at, word_stored, labelled, passed, parented, before_paths, Sound};
+ghost use Rattle.stored.specs.Code.Parents.{starts_at, entered, emptied, word_stored, labelled, passed, parented, before_paths, Sound};
 
 use crate::automaton::Automaton;
 use crate::layout::{LINK_SIZE, LINKS_AT, PARENT_IN, SIZE_IN};
@@ -21,6 +21,29 @@ fn starts_path(part: &[u8], p: usize, i: usize) -> bool
     ensures { result ≡ starts_at (path_at part.now (record { 0 = p })) i }
 {
     reads::path_at(part, PathPlace(p)).is_some_and(|path| path.first == i)
+}
+
+// Before a step's test: a path's first step starts from `#` or, by `//`, from nothing; `//` starts from nothing.
+fn enter(at: Place, first: bool, deep: bool) -> Place
+    requires { at.paths < 65536 }
+    ensures { result ≡ entered first deep at }
+{
+    match (first, deep) {
+        (true, _) => Place {
+            paths: at.paths + 1,
+            state: if deep { 0 } else { 1 },
+            ..at
+        },
+        (false, true) => emptied(at),
+        (false, false) => at,
+    }
+}
+
+// After `*` the word is empty.
+fn emptied(at: Place) -> Place
+    ensures { result ≡ emptied at }
+{
+    Place { state: 0, ..at }
 }
 
 fn store_word(part: &mut [u8], l: usize, q: usize)
@@ -74,9 +97,9 @@ fn pass_step(part: &mut [u8], i: usize, at: Place) -> Place
     let Some(step) = reads::step_at(part, i) else {
         return at;
     };
-    let on = at.enter(first, step.descendant);
+    let on = enter(at, first, step.descendant);
     if step.star {
-        on.emptied()
+        emptied(on)
     } else {
         put_word(part, on)
     }
