@@ -1,44 +1,23 @@
 // The walk of an open over the automaton's tables.
 #![tactic(auto, unfolding(notation::specs::Limits::max_labels, stored::specs::Automaton::links_at, stored::specs::Automaton::link_size))]
 
-ghost use Rattle.std.specs.Prelude.{◌≡◌, suc, ◌+◌, ◌≤◌, ◌<◌, unwrap_or, IfSome};
+ghost use Rattle.std.specs.Prelude.{◌≡◌, suc, ◌≤◌, ◌<◌, unwrap_or, IfSome};
 ghost use Rattle.notation.specs.Limits.{max_labels};
-ghost use Rattle.notation.specs.Reads.{word16, label_count};
-ghost use Rattle.stored.specs.Automaton.{link_entry_at};
+ghost use Rattle.notation.specs.Reads.{label_count};
 ghost use Rattle.stored.specs.Tables.{size_of, fail_of, goto_by, walk_by};
 ghost use Rattle.stored.specs.Usable.{Searchable, Walkable};
 ghost use Rattle.machine.specs.Places.{place_of};
 
 use crate::automaton::{Automaton, Label};
-use crate::layout::{FAIL_IN, LINK_SIZE, LINKS_AT, NEXT_IN, PARENT_IN, SIZE_IN};
-use notation::reads::word_at;
+use crate::layout::{FAIL_IN, NEXT_IN, PARENT_IN, SIZE_IN};
 use stored::walk::Walk;
-
-// A field of the links of label `l`, of any bytes.
-pub fn link_field(a: &[u8], l: usize, field: usize) -> usize
-    requires { (l ≤ 65536) × (field ≤ 65536) }
-    ensures { (result ≡ word16 a.now (link_entry_at l + field)) × (result < 65536) }
-{
-    word_at(a, LINKS_AT + LINK_SIZE * l + field)
-}
-
-// The length of the word of state `q`, of any bytes.
-pub fn size_of(a: &[u8], q: usize) -> usize
-    requires { q < 65536 }
-    ensures { (result ≡ size_of a.now q) × (result < 65536) }
-{
-    if q < 2 {
-        q
-    } else {
-        link_field(a, q - 2, SIZE_IN)
-    }
-}
 
 impl<'a> Automaton<'a> {
     // The length of the word of state `q`: of a label's, of `#` or of the empty word.
     pub fn size_of(&self, q: usize) -> usize
         requires { q ≤ suc max_labels }
-        ensures { result ≡ size_of self.now q }
+        ensures value { result ≡ size_of self.now q }
+        ensures bound { result < 65536 }
     {
         if q < 2 { q } else { self.link(q - 2, SIZE_IN) }
     }

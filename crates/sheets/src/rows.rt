@@ -10,7 +10,7 @@ use machine::set;
 use notation::PathPlace;
 use notation::limits::MAX_PATHS;
 
-// The places of the matched paths, in order, in the front of a table.
+// The places of the matched paths, in order, in the front of a table: how many there are is known at the end, and there is no heap to collect them.
 pub fn matched_places<'t>(a: &[u8], run: &[u8], table: &'t mut [u8; MAX_PATHS]) -> &'t [u8]
     ensures { result.now ≡ matched_places a.now run.now }
 {

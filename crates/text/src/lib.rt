@@ -8,4 +8,3 @@ pub mod refusals;
 pub mod store;
 pub mod truth;
 pub mod words;
-pub mod written;

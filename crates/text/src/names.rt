@@ -2,7 +2,7 @@
 ghost use Rattle.std.specs.Prelude.{◌≡◌, ◌+◌, length, drop};
 ghost use Rattle.text.specs.Read.{front};
 ghost use Rattle.text.specs.Classes.{class_of, can_begin, can_follow};
-ghost use Rattle.text.specs.Names.{begins_name, in_name, name_form, too_long, same_name};
+ghost use Rattle.text.specs.Names.{begins_name, in_name, name_form, too_long};
 
 // Bytes of a name at most.
 pub const MAX_NAME: usize = 32;
@@ -110,13 +110,6 @@ pub fn too_long(s: &[u8]) -> bool
     ensures { result ≡ too_long s.now }
 {
     MAX_NAME < s.len()
-}
-
-// Whether two names have the same bytes.
-pub fn same_name(a: &[u8], b: &[u8]) -> bool
-    ensures { result ≡ same_name a.now b.now }
-{
-    a == b
 }
 
 // The class of each byte below 128.

@@ -79,7 +79,7 @@ fn put_digit<S: Sink>(to: &mut S, d: usize)
     to.put(&[48 + d as u8]);
 }
 
-// A number's decimal digits, a piece each.
+// A number's decimal digits, a piece each. Not by `Display`: what writes that takes a `str`, and can fail.
 pub fn put_number<S: Sink>(to: &mut S, n: usize)
     ensures { Adds S.puts to.old (decimal n) to.new }
 {

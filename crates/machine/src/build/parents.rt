@@ -11,7 +11,6 @@ ghost use Rattle.stored.specs.Code.Parents.{starts_at, word_stored, labelled, pa
 
 use crate::automaton::Automaton;
 use crate::layout::{LINK_SIZE, LINKS_AT, PARENT_IN, SIZE_IN};
-use crate::walk::size_of;
 use notation::limits::MAX_LABELS;
 use notation::{PathPlace, reads};
 use stored::place::Place;
@@ -25,10 +24,11 @@ fn starts_path(part: &[u8], p: usize, i: usize) -> bool
 }
 
 fn store_word(part: &mut [u8], l: usize, q: usize)
-    requires { (l < max_labels) × (q < 65536) × (automaton_size ≤ length part.old) }
+    requires { (l < max_labels) × (q ≤ suc max_labels) × (automaton_size ≤ length part.old) }
     ensures { part.new ≡ word_stored l q part.old }
 {
-    let size = size_of(part, q) + 1;
+    let automaton = Automaton { bytes: part };
+    let size = automaton.size_of(q) + 1;
     let from = LINKS_AT + LINK_SIZE * l;
     put16(part, from + PARENT_IN, q);
     put16(part, from + SIZE_IN, size);
@@ -46,7 +46,7 @@ fn follow(part: &[u8], q: usize, l: usize) -> usize
 
 // A label's step: its parent and length are stored, and its word's state is the next one.
 fn put_word(part: &mut [u8], at: Place) -> Place
-    requires { Searchable part.old × ((at.state < 65536) × (automaton_size ≤ length part.old)) }
+    requires { Searchable part.old × ((at.state ≤ suc (label_count part.old)) × (automaton_size ≤ length part.old)) }
     ensures bytes { part.new ≡ (labelled at part.old).bytes }
     ensures place { result ≡ (labelled at part.old).place }
     ensures sound { Sound at.paths result part.new }

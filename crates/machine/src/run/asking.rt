@@ -7,13 +7,13 @@ ghost use Rattle.stored.specs.Usable.{Ready};
 ghost use Rattle.stored.specs.RunCalls.{depth_of, active_at};
 ghost use Rattle.stored.specs.Asking.{ask_path, ask_folder, ask_step, ask_prefix, name_refusal, OpenName};
 
+use crate::automaton::Automaton;
 use crate::bits::bit_in;
 use crate::run::layout::ACTIVE_IN;
 use crate::run::lent::pair_refusal;
 use crate::run::refusals::stored_name;
 use crate::run::rows::Run;
 use crate::run::{matches, rows};
-use crate::walk::size_of;
 use notation::{FolderNumber, PathPlace, reads};
 use text::refusals::Refusal;
 
@@ -62,7 +62,7 @@ pub fn prefix_length(a: &[u8], run: &[u8]) -> Result<usize, Refusal>
 {
     pair_refusal(a, run)?;
     let run = Run { bytes: run };
-    Ok(size_of(a, run.state(run.depth())))
+    Ok(Automaton { bytes: a }.size_of(run.state(run.depth())))
 }
 
 // The refusal of the open name at a depth.

@@ -63,6 +63,7 @@ pub fn open_others(run: &Run, c: Counters, e: &[u8]) -> Result<(), Refusal>
 }
 
 // A close's others, of a name of name form: 5, 10, 12.
+#[tactic(auto, using(text::proofs::Laws::Bytes::SameName::same_name_equal), unfolding(text::specs::Order::given, text::specs::Order::first))]
 pub fn close_others(a: &[u8], run: &[u8], e: &[u8]) -> Result<(), Refusal>
     requires { (Ready a.now run.now) × (name_form e.now ≡ true) }
     ensures { refusal_in result ≡ given (close_others run.now e.now) }
@@ -72,7 +73,7 @@ pub fn close_others(a: &[u8], run: &[u8], e: &[u8]) -> Result<(), Refusal>
     if d == 0 {
         return Err(Refusal::NotOneRoot);
     }
-    if !names::same_name(stored_name(a, run, d), e) {
+    if stored_name(a, run, d) != e {
         return Err(Refusal::MismatchedClose);
     }
     Ok(())

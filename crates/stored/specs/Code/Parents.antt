@@ -1,10 +1,10 @@
 -- The pass over an automaton's bytes that stores each label's parent and the length of its word, step by step in set order. It follows the
 -- code; a law says that it stores those of the automaton's definition.
-use Rattle.std.specs.Prelude.{ℕ, zero, suc, ◌+◌, ◌≤◌, ◌<◌, Bool, true, false, cond, List, eqb, ltb, Option, Some, None}
+use Rattle.std.specs.Prelude.{ℕ, zero, suc, ◌+◌, ◌≤◌, Bool, true, false, cond, List, eqb, ltb, Option, Some, None}
 use Rattle.std.proofs.lemmas.List.Edits.{sets}
 use Rattle.notation.specs.Limits.{max_labels}
 use Rattle.text.specs.Bytes.{le16}
-use Rattle.notation.specs.Reads.{label_name, path_at, step_at}
+use Rattle.notation.specs.Reads.{label_count, label_name, path_at, step_at}
 use Rattle.notation.specs.declared.reads.StoredPath.{StoredPath}
 use Rattle.notation.specs.declared.reads.StoredStep.{StoredStep}
 use Rattle.stored.specs.Automaton.{parent_in, size_in, link_entry_at}
@@ -69,8 +69,8 @@ parented (suc left) i at a = parented left (i + 1) (passed i at a).place (passed
 abbrev pub before_paths : Place
 before_paths = record { labels = 0; paths = 0; state = 0 }
 
--- between steps the chains can be searched, and the numbers stay small
+-- between steps the chains can be searched, no more paths are met than steps, and the state is one
 pub record Sound (most : ℕ) (at : Place) (a : List ℕ) : Type 0 where
   pub searchable : Searchable a
   pub paths : at.paths ≤ most
-  pub state : at.state < 65536
+  pub state : at.state ≤ suc (label_count a)

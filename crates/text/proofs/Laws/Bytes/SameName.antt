@@ -11,17 +11,17 @@ use Rattle.std.proofs.lemmas.Slice.Eq.{bytes_eq-Decides}
 use Rattle.text.specs.Names.{same_name}
 use Rattle.text.proofs.Laws.Tests.{cases}
 
-pub same_name-equal : (a b : List ℕ) → same_name a b ≡ pointwise eqb a b
+pub same_name_equal : (a b : List ℕ) → same_name a b ≡ pointwise eqb a b
 unfolding same_name
-same_name-equal [] [] = refl
-same_name-equal [] (y ∷ b) = refl
-same_name-equal (x ∷ a) [] = refl
-same_name-equal (x ∷ a) (y ∷ b) = rw (same_name-equal a b)
+same_name_equal [] [] = refl
+same_name_equal [] (y ∷ b) = refl
+same_name_equal (x ∷ a) [] = refl
+same_name_equal (x ∷ a) (y ∷ b) = rw (same_name_equal a b)
 
 pub same_name-is : (a b : List ℕ) → (same_name a b ≡ true) ↔ (a ≡ b)
 same_name-is a b =
     let decides = bytes_eq-Decides a b in
-    (λ t. decides.0 (sym (same_name-equal a b) ∙ t), λ e. same_name-equal a b ∙ decides.1 e)
+    (λ t. decides.0 (sym (same_name_equal a b) ∙ t), λ e. same_name_equal a b ∙ decides.1 e)
 
 pub unequal-length : (a b : List ℕ) → (length a ≡ length b → ⊥) → same_name a b ≡ false
 unequal-length a b h = cases (same_name a b) (λ e. absurd (h (ap length ((same_name-is a b).0 e)))) (λ e. e)

@@ -1,12 +1,12 @@
 -- `build::parents::pass_step`: the step's axis, then its test.
 use Rattle.std.proofs.Common.{Option, Some, None}
-use Prim.Native.Nat.{ℕ, ◌+◌, ◌≤◌, ◌<◌}
+use Prim.Native.Nat.{ℕ, suc, ◌+◌, ◌≤◌, ◌<◌}
 use mathlib.Core.Path.{◌≡◌, sym, ap, ap₂, ◌∙◌}
 use mathlib.Core.Bool.{Bool, true, false}
 use mathlib.Core.List.{List}
 use Rattle.std.proofs.Common.{Option, Some, None}
 use native.Mathlib.Omega.{arith}
-use Rattle.notation.specs.Reads.{path_at, step_at}
+use Rattle.notation.specs.Reads.{label_count, path_at, step_at}
 use Rattle.notation.specs.declared.reads.StoredStep.{StoredStep}
 use Rattle.stored.specs.Code.Parents.{Passed, starts_at, entered, emptied, labelled, passed_by, passed}
 use Rattle.stored.specs.declared.place.Place.{Place}
@@ -34,11 +34,11 @@ entered-paths true deep at = omega arith
 entered-paths false true at = omega arith
 entered-paths false false at = omega arith
 
-entered-state : (first deep : Bool) (at : Place) → at.state < 65536 → (entered first deep at).state < 65536
-entered-state true true at h = omega arith
-entered-state true false at h = omega arith
-entered-state false true at h = omega arith
-entered-state false false at h = h
+entered-state : (first deep : Bool) (at : Place) (n : ℕ) → at.state ≤ suc n → (entered first deep at).state ≤ suc n
+entered-state true true at n h = omega arith
+entered-state true false at n h = omega arith
+entered-state false true at n h = omega arith
+entered-state false false at n h = h
 
 pub returns-then-step : goal.returns-then-step
 returns-then-step c =
@@ -59,7 +59,7 @@ returns-then-step c =
 pub put_word-requires : goal.put_word-requires
 put_word-requires c = (
   c.requires.0.searchable,
-  (rw c.enter-on.ensures (entered-state c.starts_path-first.result c.in-Some.step.descendant c.args.at c.requires.0.state), c.requires.1.1),
+  (rw c.enter-on.ensures (entered-state c.starts_path-first.result c.in-Some.step.descendant c.args.at (label_count c.args.part.now) c.requires.0.state), c.requires.1.1),
 )
 
 pub returns-else-step : goal.returns-else-step

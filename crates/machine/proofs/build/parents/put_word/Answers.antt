@@ -22,10 +22,6 @@ roomy : (at : Place) (a b : List ℕ) (r : ℕ) → at.labels < max_labels → b
 unfolding labelled
 roomy at a b r h e f = rw (lt-ltb at.labels max_labels h, ← e, f)
 
-small : (a : List ℕ) (r : ℕ) → Searchable a → r ≤ suc (label_count a) → r < 65536
-unfolding max_labels
-small a r s h = omega (arith, s.lookable.few)
-
 pub returns-then-l-ge-MAX_LABELS : goal.returns-then-l-ge-MAX_LABELS
 unfolding max_labels
 returns-then-l-ge-MAX_LABELS c = let at = c.args.at in
@@ -48,5 +44,5 @@ returns c =
     record {
       bytes = sym (ap (λ (r : Passed). r.bytes) e);
       place = sym (ap (λ (r : Passed). r.place) e);
-      sound = record { searchable = s; paths = omega arith; state = small c.store_word.new.part c.follow.result s c.follow.ensures.1 };
+      sound = record { searchable = s; paths = omega arith; state = c.follow.ensures.1 };
     }
