@@ -17,6 +17,11 @@ use std::alloc::Global;
 const EXAMPLE: &str =
     "(folders\n(folder 3 (//clock/drift) (/lock/*/drift))\n(folder 8 (//*/lock))\n)\n";
 
+fn build(rt: &impl Print, name: &str, text: &[u8], automaton: &mut Lent) -> Result<()> {
+    let answer = build::build(text, automaton.get_mut());
+    Ok(println!(rt; "{name}: {}", Number(answer))?)
+}
+
 // What the calls are lent, the automaton with a byte after it.
 #[derive(Drop)]
 pub struct Bench {
@@ -45,15 +50,10 @@ impl Bench {
         }
     }
 
-    fn build(&mut self, rt: &impl Print, name: &str, text: &[u8]) -> Result<()> {
-        let answer = build::build(text, self.automaton.get_mut());
-        Ok(println!(rt; "{name}: {}", Number(answer))?)
-    }
-
     fn build_text(&mut self, rt: &(impl Print + AllocGlobal), line: &str) -> Result<()> {
         let (name, text) = split_name(line)?;
         let set = expand(rt.alloc(), text)?;
-        self.build(rt, name, set.as_slice())
+        build(rt, name, set.as_slice(), &mut self.automaton)
     }
 
     fn build_again(&mut self, rt: &impl Print, rest: &str) -> Result<()> {
@@ -63,8 +63,7 @@ impl Bench {
             .get()
             .get(..number(size)?)
             .context("a text past the buffer")?;
-        let answer = build::build(text, self.automaton.get_mut());
-        Ok(println!(rt; "{name}: {}", Number(answer))?)
+        build(rt, name, text, &mut self.automaton)
     }
 
     fn write_back(&mut self, rt: &impl Print, name: &str) -> Result<()> {

@@ -1,4 +1,4 @@
-// Answers and counters as C has them: numbers, some behind a pointer.
+// Answers and counters as numbers, some behind a pointer: the C interface needs them so.
 ghost use Rattle.std.specs.Prelude.{◌≡◌};
 ghost use Rattle.text.specs.Answers.{says, refusal_in};
 ghost use Rattle.exports.specs.Told.{counters_in, Told, MatchTold};

@@ -18,7 +18,8 @@ pub struct Inputs {
     pub report: Vec<u8>,
 }
 
-// Reads until the reader ends or the buffer is full; the count of bytes. A read that fails is never taken for the end.
+// Reads until the reader ends or the buffer is full; the count of bytes. A read that fails is never taken for the end. A loop of its own, since
+// what std's `take(..).read_to_end(..)` leaves of the reader no clause of std says.
 fn read_all<R: io::Read>(from: &mut R, buf: &mut [u8]) -> io::Result<usize>
     ensures within { IfOk result (λ n. n ≤ length buf.new) }
     ensures bytes { IfOk result (λ n. Consumes (R.remaining from.old) (R.remaining from.new) (take n buf.new)) }
