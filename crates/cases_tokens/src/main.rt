@@ -5,7 +5,7 @@
 
 use anyhow::Result;
 use cases::answers::Shown;
-use reports::tokens::{Found, end_of, is_run, tag_name, tag_span, token_at};
+use reports::tokens::{Kind, is_run, tag_name, tag_span, token_at};
 
 const CASES: [&[u8]; 71] = [
     // Declarations.
@@ -101,31 +101,31 @@ const SPANS: [(&[u8], usize); 10] = [
     (b"<ab c='' c=''/>", 0),
 ];
 
-fn letter(token: Found) -> &'static str {
-    match token {
-        Found::Nothing => "-",
-        Found::Declaration(_) => "d",
-        Found::Comment(_) => "c",
-        Found::Start { twice: false, .. } => "s:",
-        Found::Start { twice: true, .. } => "ss:",
-        Found::Empty { twice: false, .. } => "x:",
-        Found::Empty { twice: true, .. } => "xx:",
-        Found::End { .. } => "e:",
-        Found::Text { blank: true, .. } => "b",
-        Found::Text { blank: false, .. } => "t",
+fn letter(kind: Kind) -> &'static str {
+    match kind {
+        Kind::Declaration => "d",
+        Kind::Comment => "c",
+        Kind::Start { twice: false, .. } => "s:",
+        Kind::Start { twice: true, .. } => "ss:",
+        Kind::Empty { twice: false, .. } => "x:",
+        Kind::Empty { twice: true, .. } => "xx:",
+        Kind::End { .. } => "e:",
+        Kind::Blank => "b",
+        Kind::Text => "t",
     }
 }
 
+#[tactic(auto, using(reports::proofs::Laws::Read::RunAt::runs))]
 fn print_tokens(rt: &impl Print, bytes: &[u8]) -> Result<()> {
     let mut at = 0;
     while at < bytes.len() {
-        let token = token_at(bytes, at);
-        print!(rt; " {}{}", letter(token), Shown(tag_name(bytes, at)))?;
-        let end = end_of(token);
-        if end <= at {
+        let Some(token) = token_at(bytes, at) else {
+            print!(rt; " -")?;
             break;
-        }
-        at = end;
+        };
+        let name = Shown(tag_name(bytes, at));
+        print!(rt; " {}{name}", letter(token.kind))?;
+        at = token.end;
     }
     Ok(())
 }
@@ -137,14 +137,9 @@ fn print_case(rt: &impl Print, bytes: &[u8]) -> Result<()> {
 }
 
 fn print_span(rt: &impl Print, bytes: &[u8], at: usize) -> Result<()> {
-    let span = tag_span(bytes, at);
+    let (from, to) = tag_span(bytes, at).map_or((0, 0), |span| (span.from, span.to));
     let name = Shown(tag_name(bytes, at));
-    Ok(println!(rt;
-        "{} | at {at} from {} to {} {name}",
-        Shown(bytes),
-        span.from,
-        span.to
-    )?)
+    Ok(println!(rt; "{} | at {at} from {from} to {to} {name}", Shown(bytes))?)
 }
 
 fn main(rt: HostRuntime) -> Result<()> {

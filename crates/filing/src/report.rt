@@ -5,59 +5,46 @@ ghost use Rattle.stored.specs.Usable.{Usable};
 ghost use Rattle.stored.specs.Demand3.{Left};
 ghost use Rattle.documents.specs.Reading.{read_report};
 ghost use Rattle.documents.specs.Limits.{max_report_bytes};
-ghost use Rattle.reports.specs.Seen.{name_from, name_to};
+ghost use Rattle.reports.specs.Seen.{name_of, from_in, to_in};
 ghost use Rattle.filing.specs.Filing.{Outcome, filed, and_then};
 ghost use Rattle.filing.specs.ReportRefusals.{stored_machine, Files};
 ghost use Rattle.filing.specs.Code.Filing.{file_report};
-ghost use Rattle.filing.specs.Code.Taking.{Answered, Taking, Named, end_of, late_declaration, repeats, with_repeat, file_found, file_last, run_from};
+ghost use Rattle.filing.specs.Code.Taking.{Answered, Taking, Named, late_declaration, repeats, with_repeat, file_found, file_last, run_from};
 
 use machine::run::close::close_usable;
 use machine::run::open::open_usable;
 use machine::run::shape::depth;
 use machine::run::start::{start, start_on};
 use reports::limits::MAX_REPORT;
-use reports::tokens::{Found, all_listed, token_at};
+use reports::tokens::{Kind, all_listed, token_at};
 use stored::counters::Counters;
 use text::refusals::Refusal;
 
-// Where a token ends; nowhere where there is none.
-fn end_of(found: Found) -> Option<usize>
-    ensures { result ≡ end_of found }
-{
-    match found {
-        Found::Nothing => None,
-        Found::Declaration(end) | Found::Comment(end) => Some(end),
-        Found::Start { end, .. } | Found::Empty { end, .. } => Some(end),
-        Found::End { end, .. } | Found::Text { end, .. } => Some(end),
-    }
-}
-
 // The name of a tag, and none of another token.
-fn name_in(s: &[u8], found: Found) -> &[u8]
-    requires { (name_from found ≤ name_to found) × (name_to found ≤ length s.now) }
-    ensures { result.now ≡ take (name_to found - name_from found) (drop (name_from found) s.now) }
+fn name_in(s: &[u8], kind: Kind) -> &[u8]
+    requires { (from_in (name_of kind) ≤ to_in (name_of kind)) × (to_in (name_of kind) ≤ length s.now) }
+    ensures { result.now ≡ take (to_in (name_of kind) - from_in (name_of kind)) (drop (from_in (name_of kind)) s.now) }
 {
-    match found {
-        Found::Start { from, to, .. } | Found::Empty { from, to, .. } => &s[from..to],
-        Found::End { from, to, .. } => &s[from..to],
-        Found::Nothing | Found::Declaration(_) | Found::Comment(_) | Found::Text { .. } => &s[..0],
+    match kind.name() {
+        Some(name) => &s[name.from..name.to],
+        None => &s[..0],
     }
 }
 
 // A declaration stands at offset 0 only.
-fn is_late(found: Found, at: usize) -> bool
-    ensures { result ≡ late_declaration at found }
+fn is_late(kind: Kind, at: usize) -> bool
+    ensures { result ≡ late_declaration at kind }
 {
-    at != 0 && matches!(found, Found::Declaration(_))
+    at != 0 && matches!(kind, Kind::Declaration)
 }
 
 // A tag repeats an attribute's name.
-fn repeats(found: Found) -> bool
-    ensures { result ≡ repeats found }
+fn repeats(kind: Kind) -> bool
+    ensures { result ≡ repeats kind }
 {
     matches!(
-        found,
-        Found::Start { twice: true, .. } | Found::Empty { twice: true, .. }
+        kind,
+        Kind::Start { twice: true, .. } | Kind::Empty { twice: true, .. }
     )
 }
 
@@ -66,30 +53,29 @@ fn take(
     a: &[u8],
     run: &mut [u8],
     counters: &mut Counters,
-    found: Found,
+    kind: Kind,
     name: &[u8],
 ) -> Result<(), Refusal>
-    requires { (Usable a.now run.old counters.old) × Named found name.now }
-    ensures { Taking a.now run.old (file_found a.now (record { bytes = run.old; counters = counters.old }) found name.now) (refusal_in result) run.new counters.new }
+    requires { (Usable a.now run.old counters.old) × Named kind name.now }
+    ensures { Taking a.now run.old (file_found a.now (record { bytes = run.old; counters = counters.old }) kind name.now) (refusal_in result) run.new counters.new }
 {
-    match found {
-        Found::Start { .. } => {
+    match kind {
+        Kind::Start { .. } => {
             open_usable(a, run, counters, name)?;
             Ok(())
         }
-        Found::End { .. } => close_usable(a, run, counters, name),
-        Found::Empty { .. } => {
+        Kind::End { .. } => close_usable(a, run, counters, name),
+        Kind::Empty { .. } => {
             open_usable(a, run, counters, name)?;
             close_usable(a, run, counters, name)
         }
-        Found::Text { blank, .. } => {
-            if !blank && depth(run) == 0 {
+        Kind::Text => {
+            if depth(run) == 0 {
                 return Err(Refusal::NotOneRoot);
             }
             Ok(())
         }
-        Found::Comment(_) | Found::Declaration(_) => Ok(()),
-        Found::Nothing => Err(Refusal::SyntaxError),
+        Kind::Blank | Kind::Comment | Kind::Declaration => Ok(()),
     }
 }
 
@@ -100,17 +86,17 @@ fn take_next(
     run: &mut [u8],
     counters: &mut Counters,
     taken: Result<(), Refusal>,
-    found: Found,
+    kind: Kind,
     name: &[u8],
 ) -> Result<(), Refusal>
-    requires { (refusal_in taken ≡ 0 → Usable a.now run.old counters.old) × Named found name.now }
-    ensures { (o : Outcome Left) → Answered o (refusal_in taken) run.old counters.old → Taking a.now run.old (and_then (with_repeat (repeats found) o) (λ t. file_found a.now t found name.now)) (refusal_in result) run.new counters.new }
+    requires { (refusal_in taken ≡ 0 → Usable a.now run.old counters.old) × Named kind name.now }
+    ensures { (o : Outcome Left) → Answered o (refusal_in taken) run.old counters.old → Taking a.now run.old (and_then (with_repeat (repeats kind) o) (λ t. file_found a.now t kind name.now)) (refusal_in result) run.new counters.new }
 {
-    if repeats(found) {
+    if repeats(kind) {
         return Err(Refusal::RepeatedAttribute);
     }
     taken?;
-    take(a, run, counters, found, name)
+    take(a, run, counters, kind, name)
 }
 
 // The tokens in order. The first refusal of a token is kept, and the rest is only read, for 9 and 15, which come before it; nothing comes before 9.
@@ -121,13 +107,13 @@ fn take_tokens(a: &[u8], run: &mut [u8], counters: &mut Counters, s: &[u8]) -> R
     let mut taken = Ok(());
     let mut at = 0;
     while at < s.len() {
-        let found = token_at(s, at);
-        if is_late(found, at) {
+        let found = token_at(s, at).ok_or(Refusal::SyntaxError)?;
+        let kind = found.kind;
+        if is_late(kind, at) {
             return Err(Refusal::SyntaxError);
         }
-        let end = end_of(found).ok_or(Refusal::SyntaxError)?;
-        taken = take_next(a, run, counters, taken, found, name_in(s, found));
-        at = end;
+        taken = take_next(a, run, counters, taken, kind, name_in(s, kind));
+        at = found.end;
     }
     taken
 }

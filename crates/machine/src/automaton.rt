@@ -5,13 +5,13 @@
 ghost use Rattle.std.specs.Prelude.{◌≡◌, suc, ◌+◌, ◌*◌, ◌≤◌, ◌<◌, length, take, drop};
 ghost use Rattle.notation.specs.Layout.{word_size, steps_at};
 ghost use Rattle.notation.specs.Limits.{max_paths, max_steps, max_labels};
-ghost use Rattle.notation.specs.Reads.{word16, label_count};
+ghost use Rattle.notation.specs.Reads.{word16};
 ghost use Rattle.stored.specs.Automaton.{automaton_size, hashes, bits_in, link_entry_at};
 ghost use Rattle.stored.specs.Tables.{head_at};
 
 use crate::layout::{HEADS_AT, LINK_SIZE, LINKS_AT};
 use crate::words::word;
-use notation::layout::{LABEL_COUNT_AT, STEPS_AT, WORD_SIZE};
+use notation::layout::{STEPS_AT, WORD_SIZE};
 use std::marker::Model;
 
 #[derive(Drop)]
@@ -67,12 +67,6 @@ impl<'a> Automaton<'a> {
         ensures bound { result < 65536 }
     {
         word(self.bytes, at)
-    }
-
-    pub fn labels(&self) -> usize
-        ensures { result ≡ label_count self.now }
-    {
-        self.word(LABEL_COUNT_AT)
     }
 
     // The kinds of so many steps.

@@ -1,4 +1,6 @@
-// Building an automaton: a set is read into its first bytes, and a pass for each of its tables makes the others behind it.
+// Building an automaton: a set is read into its first bytes, and a pass for each of its tables makes the others behind it. A pass takes the bytes
+// with their size in its clauses, not a type that has it, as readers do (Automaton): each store would have to show it anew, and a clause could
+// not name the bytes alone.
 mod chains;
 mod fails;
 mod groups;

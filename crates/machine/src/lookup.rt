@@ -31,6 +31,7 @@ impl<'a> Automaton<'a> {
             return e.is_empty();
         }
         let name = &bytes[from..to];
+        // By bytes: `==` calls out for a name of four bytes or more, and filing a report took 2 % more instructions.
         name.len() == e.len() && name.iter().zip(e).all(|(x, y)| x == y)
     }
 

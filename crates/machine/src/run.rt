@@ -1,4 +1,4 @@
-// The calls on a run (paper 01: the tray).
+// The calls on a run.
 pub mod asking;
 mod candidates;
 pub mod close;

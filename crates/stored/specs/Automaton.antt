@@ -1,7 +1,7 @@
--- The automaton (paper 01: the board): a set's bytes as the notation keeps them, and the shared machine's tables after them. What is stored
+-- The automaton: a set's bytes as the notation keeps them, and the shared machine's tables after them. What is stored
 -- is the definitions written down; numbers take two bytes, the lower first, and spare bytes are 0.
 -- The layout is the program's choice: which tables there are, where they stand and which number a word has. What every choice has in common:
--- its tables mean the shared machine (Compiled), the set's text is written back from it, and its runs meet demand 3 (Demand3).
+-- its tables mean the shared machine (Compiled), the set's text is written back from it, and its runs answer as the machine does (Demand3).
 use Rattle.std.specs.Prelude.{ℕ, zero, suc, ◌+◌, ◌*◌, ◌/◌, ◌%◌, Bool, true, false, not, ◌&&◌, cond, List, [], ◌∷◌, ◌++◌, map, leb, eqb, length, get_or}
 use Rattle.text.specs.Names.{Name, same_name}
 use Rattle.text.specs.Lists.{any}

@@ -1,4 +1,4 @@
--- Demand 3 of the letter, as one statement: what holds after any list of open and close calls on a fresh run of any accepted set. The
+-- As one statement: what holds after any list of open and close calls on a fresh run of any accepted set. The
 -- program's side is the calls' contracts alone; the machine's side is fed the calls alone.
 use Rattle.std.specs.Prelude.{ℕ, ◌+◌, ◌≤◌, ◌<◌, ◌≡◌, Bool, true, false, Result, ◌↔◌, length}
 use Rattle.std.proofs.Math.Option.{none, some}
@@ -95,7 +95,7 @@ pub record HasMatchedPath (s : FolderSet) (a bytes : List ℕ) (number : ℕ) : 
 abbrev pub StepThere : FolderSet → ℕ → ℕ → Type 0
 StepThere s place k = (place < length (paths_of s)) × (1 ≤ k) × (k ≤ length (path_of_place s place))
 
--- the answered length is that of the current prefix of the names (paper 01: the held word)
+-- the answered length is that of the current prefix of the names
 pub record PrefixAnswered (s : FolderSet) (names : List Name) (answer : Answer ℕ) : Type 0 where
   pub word : Word
   pub is_prefix : CurrentPrefix s names word
@@ -150,6 +150,6 @@ pub record Demand3 (s : FolderSet) (a buffer : List ℕ) : Type 0 where
   -- any list of calls from a fresh run, whichever call made it
   pub calls : (made : List Made) (t : Left) → Calls a (started a buffer) made t → Holds s a made (calls_of made) (still_open s (calls_of made)) t
 
--- demand 3 itself: of every accepted set, the automaton that a build of its text left in any buffer, and any buffer of a run's size or more
+-- the whole: of every accepted set, the automaton that a build of its text left in any buffer, and any buffer of a run's size or more
 abbrev pub Demand3Whole : Type 0
 Demand3Whole = (text before a : List ℕ) (s : FolderSet) → Accepted text s → Built text before 0 a → (buffer : List ℕ) → run_size ≤ length buffer → Demand3 s a buffer

@@ -1,4 +1,4 @@
--- What is stored, in reading order: demand 3 and the contracts it is over, their equations, the bytes of automaton and run, and what they mean.
+-- What is stored, in reading order: what holds after any calls, the contracts that is over, their equations, the bytes of automaton and run, and what they mean.
 pub mod Demand3
 pub mod RunContracts
 pub mod Build

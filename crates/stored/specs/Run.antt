@@ -1,4 +1,4 @@
--- The run (paper 01: the tray): what is stored of the machine's state in the lent buffer. It is nothing but the definitions written down:
+-- The run: what is stored of the machine's state in the lent buffer. It is nothing but the definitions written down:
 -- the depth, a match bit for the last step of each path, and for each depth a row with the innermost name, the state of the current prefix,
 -- the active steps, and the steps active here or further out. The layout is the program's choice; what every choice has in common is what the
 -- asking calls answer of it (Demand3).

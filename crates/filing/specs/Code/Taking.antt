@@ -1,6 +1,5 @@
 -- What the calls of a report's tokens answer, by what the code says of each token (follows the code; laws tie it to the tokens' events).
 use Rattle.std.specs.Prelude.{ℕ, ◌≡◌, Bool, true, false, not, ◌&&◌, ◌||◌, cond, List, [], ◌∷◌, eqb, Option, None, Some}
-use Rattle.std.specs.Option.{is_none}
 use Rattle.text.specs.Names.{Name, name_form}
 use Rattle.text.specs.declared.refusals.Refusal.TheVariants.{SyntaxError, NotOneRoot, RepeatedAttribute}
 use Rattle.text.specs.Refusals.{number_of}
@@ -8,8 +7,8 @@ use Rattle.text.specs.Order.{gives, first}
 use Rattle.stored.specs.RunCalls.{depth_of, start_run}
 use Rattle.stored.specs.Demand3.{Left}
 use Rattle.stored.specs.declared.counters.Counters.{Counters}
-use Rattle.reports.specs.declared.tokens.Found.{Found}
-use Rattle.reports.specs.declared.tokens.Found.TheVariants.{Nothing, Declaration, Comment, Start, Empty, End, Text}
+use Rattle.reports.specs.declared.tokens.Kind.{Kind}
+use Rattle.reports.specs.declared.tokens.Kind.TheVariants.{Declaration, Comment, Start, Empty, End, Blank, Text}
 use Rattle.documents.specs.Tokens.{Token}
 use Rattle.documents.specs.Repeats.{repeats_in}
 use Rattle.text.specs.Read.{Read, fail, got}
@@ -38,63 +37,53 @@ abbrev pub file_text : Left → Bool → Outcome Left
 file_text t all = unless (first (gives (eqb (depth_of t.bytes) 0 && not all) NotOneRoot ∷ [])) t
 
 -- a declaration past offset 0
-abbrev pub late_declaration : ℕ → Found → Bool
-late_declaration at Nothing = false
-late_declaration at (Declaration end) = not (eqb at 0)
-late_declaration at (Comment end) = false
-late_declaration at (Start from to end twice) = false
-late_declaration at (Empty from to end twice) = false
-late_declaration at (End from to end) = false
-late_declaration at (Text all end) = false
-
--- where a token ends, if there is one
-abbrev pub end_of : Found → Option ℕ
-end_of Nothing = None
-end_of (Declaration end) = Some end
-end_of (Comment end) = Some end
-end_of (Start from to end twice) = Some end
-end_of (Empty from to end twice) = Some end
-end_of (End from to end) = Some end
-end_of (Text all end) = Some end
+abbrev pub late_declaration : ℕ → Kind → Bool
+late_declaration at Declaration = not (eqb at 0)
+late_declaration at Comment = false
+late_declaration at (Start n twice) = false
+late_declaration at (Empty n twice) = false
+late_declaration at (End n) = false
+late_declaration at Blank = false
+late_declaration at Text = false
 
 -- a tag's name has name form
-abbrev pub Named : Found → Name → Type 0
-Named Nothing e = Unit {0}
-Named (Declaration end) e = Unit {0}
-Named (Comment end) e = Unit {0}
-Named (Start from to end twice) e = name_form e ≡ true
-Named (Empty from to end twice) e = name_form e ≡ true
-Named (End from to end) e = name_form e ≡ true
-Named (Text all end) e = Unit {0}
+abbrev pub Named : Kind → Name → Type 0
+Named Declaration e = Unit {0}
+Named Comment e = Unit {0}
+Named (Start n twice) e = name_form e ≡ true
+Named (Empty n twice) e = name_form e ≡ true
+Named (End n) e = name_form e ≡ true
+Named Blank e = Unit {0}
+Named Text e = Unit {0}
 
 -- what a token makes of what was filed before it, with its tag's name
-abbrev pub file_found : List ℕ → Left → Found → Name → Outcome Left
-file_found a t Nothing e = refused SyntaxError
-file_found a t (Declaration end) e = filed t
-file_found a t (Comment end) e = filed t
-file_found a t (Start from to end twice) e = file_open a t e
-file_found a t (Empty from to end twice) e = and_then (file_open a t e) (λ u. file_close a u e)
-file_found a t (End from to end) e = file_close a t e
-file_found a t (Text all end) e = file_text t all
+abbrev pub file_found : List ℕ → Left → Kind → Name → Outcome Left
+file_found a t Declaration e = filed t
+file_found a t Comment e = filed t
+file_found a t (Start n twice) e = file_open a t e
+file_found a t (Empty n twice) e = and_then (file_open a t e) (λ u. file_close a u e)
+file_found a t (End n) e = file_close a t e
+file_found a t Blank e = file_text t true
+file_found a t Text e = file_text t false
 
 -- a tag that repeats an attribute's name
-abbrev pub repeats : Found → Bool
-repeats Nothing = false
-repeats (Declaration end) = false
-repeats (Comment end) = false
-repeats (Start from to end twice) = twice
-repeats (Empty from to end twice) = twice
-repeats (End from to end) = false
-repeats (Text all end) = false
+abbrev pub repeats : Kind → Bool
+repeats Declaration = false
+repeats Comment = false
+repeats (Start n twice) = twice
+repeats (Empty n twice) = twice
+repeats (End n) = false
+repeats Blank = false
+repeats Text = false
 
 -- 15 for a tag that repeats an attribute's name, whatever was answered before
 abbrev pub with_repeat : Bool → Outcome Left → Outcome Left
 with_repeat true o = refused RepeatedAttribute
 with_repeat false o = o
 
--- what the token at an offset makes of an outcome, with its tag's name: 9 where there is none, and of a declaration past offset 0
-abbrev pub step_found : List ℕ → ℕ → Outcome Left → Found → Name → Outcome Left
-step_found a at o f e = cond (is_none (end_of f) || late_declaration at f) (refused SyntaxError) (and_then (with_repeat (repeats f) o) (λ t. file_found a t f e))
+-- what a token makes of an outcome, with its tag's name
+abbrev pub step_found : List ℕ → Outcome Left → Kind → Name → Outcome Left
+step_found a o k e = and_then (with_repeat (repeats k) o) (λ t. file_found a t k e)
 
 -- the end asks nothing of the automaton
 abbrev pub file_last : Left → Outcome Left

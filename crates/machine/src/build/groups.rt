@@ -5,7 +5,7 @@ ghost use Rattle.std.specs.Prelude.{◌≡◌, ◌+◌, ◌/◌, ◌≤◌, ◌<
 ghost use Rattle.notation.specs.Limits.{max_labels};
 ghost use Rattle.notation.specs.Reads.{word16, label_count, label_step};
 ghost use Rattle.stored.specs.Automaton.{automaton_size, link_entry_at};
-ghost use Rattle.stored.specs.Code.Groups.{joins, far_over, bits_over, group_stored, grouped, grouped_below};
+ghost use Rattle.stored.specs.Code.Groups.{joins, far_over, bits_over, grouped, grouped_below};
 ghost use Rattle.machine.specs.Places.{place_of};
 
 use crate::automaton::{Automaton, Label};
@@ -14,6 +14,13 @@ use crate::layout::{BITS_IN, FAR_IN, LINK_SIZE, LINKS_AT, NEXT_IN};
 use notation::layout::{LABEL_SIZE, LABEL_STEP_IN, LABELS_AT};
 use notation::reads::word_at;
 use text::store::put16;
+
+// What a label takes over: the place of the next label of its name in a later byte, and bits of steps in its own.
+#[derive(Clone, Copy)]
+struct Taken {
+    far: usize,
+    bits: usize,
+}
 
 fn step_of(part: &[u8], l: usize) -> usize
     requires { l ≤ 65536 }
@@ -30,44 +37,24 @@ fn link_field(part: &[u8], l: usize, field: usize) -> usize
     word_at(part, LINKS_AT + LINK_SIZE * l + field)
 }
 
-// Whether a label has its step in byte b.
-fn joins_byte(part: &[u8], b: usize, label: Option<Label>) -> bool
-    requires { place_of label ≤ 65536 }
-    ensures { result ≡ joins part.now b (place_of label) }
-{
-    label.is_some_and(|l| step_of(part, l.number()) / 8 == b)
-}
-
-// The place that a label takes over from the next one of its name.
-fn far_over(part: &[u8], on: bool, next: Option<Label>) -> usize
+// From the next label of the name: if it has its step in the same byte, its group goes on.
+fn taken_over(part: &[u8], byte: usize, next: Option<Label>) -> Taken
     requires { place_of next < 65536 }
-    ensures { (result ≡ far_over on part.now (place_of next)) × (result < 65536) }
+    ensures far { result.far ≡ far_over (joins part.now byte (place_of next)) part.now (place_of next) }
+    ensures bits { result.bits ≡ bits_over (joins part.now byte (place_of next)) part.now (place_of next) }
+    ensures bound { (result.far < 65536) × (result.bits < 256) }
 {
     match next {
-        Some(l) if on => link_field(part, l.number(), FAR_IN),
-        Some(l) => l.place,
-        None => 0,
+        Some(l) if step_of(part, l.number()) / 8 == byte => Taken {
+            far: link_field(part, l.number(), FAR_IN),
+            bits: link_field(part, l.number(), BITS_IN) % 256,
+        },
+        Some(l) => Taken {
+            far: l.place,
+            bits: 0,
+        },
+        None => Taken { far: 0, bits: 0 },
     }
-}
-
-// The bits that it takes over.
-fn bits_over(part: &[u8], on: bool, next: Option<Label>) -> usize
-    requires { place_of next < 65536 }
-    ensures { (result ≡ bits_over on part.now (place_of next)) × (result < 256) }
-{
-    match next {
-        Some(l) if on => link_field(part, l.number(), BITS_IN) % 256,
-        _ => 0,
-    }
-}
-
-fn store_group(part: &mut [u8], l: usize, far: usize, bits: usize)
-    requires { (l < max_labels) × (automaton_size ≤ length part.old) }
-    ensures { part.new ≡ group_stored l far bits part.old }
-{
-    let at = LINKS_AT + LINK_SIZE * l;
-    put16(part, at + FAR_IN, far);
-    put16(part, at + BITS_IN, bits);
 }
 
 // The group of label l, from that of the next label of its name.
@@ -77,11 +64,12 @@ fn group_label(part: &mut [u8], l: usize)
 {
     let step = step_of(part, l);
     let byte = step / 8;
-    let next = Automaton { bytes: part }.linked(l, NEXT_IN);
-    let on = joins_byte(part, byte, next);
-    let far = far_over(part, on, next);
-    let bits = bits_over(part, on, next) | 1 << (step % 8);
-    store_group(part, l, far, bits + 256 * byte);
+    let automaton = Automaton { bytes: part };
+    let taken = taken_over(part, byte, automaton.linked(l, NEXT_IN));
+    let bits = taken.bits | 1 << (step % 8);
+    let at = LINKS_AT + LINK_SIZE * l;
+    put16(part, at + FAR_IN, taken.far);
+    put16(part, at + BITS_IN, bits + 256 * byte);
 }
 
 // Every label's, from the last to the first.

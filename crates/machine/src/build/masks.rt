@@ -8,21 +8,19 @@ ghost use Rattle.notation.specs.Reads.{step_at, path_count};
 ghost use Rattle.machine.specs.Masks.{mask_number};
 
 use crate::layout::{MASK_SIZE, MASKS_AT, Mask, START_AT};
+use notation::reads::StoredStep;
 use notation::{PathPlace, reads};
 use text::store::put16;
 
 const STEP_BITS: usize = 8 * MASK_SIZE;
 
-// Bit i of a mask.
-fn flag(part: &mut [u8], on: bool, mask: Mask, i: usize)
+// Bit i of a mask is set.
+fn flag(part: &mut [u8], mask: Mask, i: usize)
     requires { (i < 8 * mask_size) × (automaton_size ≤ length part.old) }
-    ensures { part.new ≡ flagged on (mask_number mask) i part.old }
+    ensures { part.new ≡ flagged true (mask_number mask) i part.old }
 {
-    if on {
-        let j = STEP_BITS * mask as usize + i;
-        let at = MASKS_AT + j / 8;
-        part[at] |= 1 << (j % 8);
-    }
+    let j = STEP_BITS * mask as usize + i;
+    part[MASKS_AT + j / 8] |= 1 << (j % 8);
 }
 
 // The mask of a step's axis.
@@ -38,14 +36,17 @@ fn axis_mask(first: bool, deep: bool) -> Mask
 }
 
 // A step in the masks.
-fn flag_role(part: &mut [u8], i: usize, deep: bool, star: bool, first: bool, last: bool)
+fn flag_role(part: &mut [u8], i: usize, step: StoredStep, first: bool, last: bool)
     requires { (i < 8 * mask_size) × (automaton_size ≤ length part.old) }
-    ensures { part.new ≡ flag_role i deep star first last part.old }
+    ensures { part.new ≡ flag_role i step.descendant step.star first last part.old }
 {
-    let axis = axis_mask(first, deep);
-    flag(part, star, Mask::Star, i);
-    flag(part, true, axis, i);
-    flag(part, last, Mask::Last, i);
+    if step.star {
+        flag(part, Mask::Star, i);
+    }
+    flag(part, axis_mask(first, step.descendant), i);
+    if last {
+        flag(part, Mask::Last, i);
+    }
 }
 
 fn flag_step(part: &mut [u8], i: usize, first: bool, last: bool)
@@ -56,7 +57,7 @@ fn flag_step(part: &mut [u8], i: usize, first: bool, last: bool)
         return;
     }
     if let Some(step) = reads::step_at(part, i) {
-        flag_role(part, i, step.descendant, step.star, first, last);
+        flag_role(part, i, step, first, last);
     }
 }
 

@@ -1,4 +1,6 @@
 // An open: the walk, and the new element's row.
+#![tactic(auto, unfolding(model::specs::Limits::max_depth, stored::specs::Automaton::mask_size, stored::specs::Run::row_size, stored::specs::Run::run_size))]
+
 ghost use Rattle.std.specs.Prelude.{◌≡◌, suc, ◌≤◌, ◌<◌, length, true};
 ghost use Rattle.text.specs.Names.{max_name, name_form};
 ghost use Rattle.notation.specs.Limits.{max_steps};
@@ -7,41 +9,38 @@ ghost use Rattle.stored.specs.Tables.{first_of};
 ghost use Rattle.stored.specs.RunContracts.{Opens};
 ghost use Rattle.stored.specs.Usable.{Openable, Ready, Usable};
 ghost use Rattle.stored.specs.Run.{run_size};
-ghost use Rattle.stored.specs.RunCalls.{depth_of, with_row, open_run, open_walk};
-ghost use Rattle.stored.specs.Code.OpenSteps.{blank_row};
+ghost use Rattle.stored.specs.RunCalls.{depth_of, open_run, open_walk};
 ghost use Rattle.machine.specs.Places.{place_of};
 
 use crate::automaton::{Automaton, Label};
 use crate::layout::MASK_SIZE;
 use crate::run::layout::{DEPTH_AT, ROW_SIZE};
 use crate::run::rows::Run;
-use crate::run::{candidates, lent, refusals, row, rows, steps};
+use crate::run::{lent, refusals, row, rows};
 use stored::counters::Counters;
 use stored::walk::Walk;
 use text::names::name_form;
 use text::refusals::Refusal;
 
-// The new element's row before its bits: a part from the middle of the run, lent to the function that writes it. d is the depth before.
-fn store(run: &mut [u8], d: usize, e: &[u8], state: usize)
-    requires { (d < max_depth) × ((run_size ≤ length run.old) × (length e.now ≤ max_name)) }
-    ensures { run.new ≡ with_row run.old (suc d) (blank_row e.now state) }
-{
-    let at = rows::row_at(d + 1);
-    let end = at + ROW_SIZE;
-    row::write_row(&mut run[at..end], e, state);
-}
-
-// What an open writes: the new row, the matches, the depth, which was d. `first` is the first label with the name, `state`
-// the state that the walk ends in.
-fn write(a: &[u8], run: &mut [u8], e: &[u8], first: Option<Label>, d: usize, state: usize)
-    requires openable { (Openable a.now) × ((run_size ≤ length run.old) × ((d < max_depth) × (length e.now ≤ max_name))) }
-    requires first_value { (place_of first ≡ first_of a.now e.now) × ((d ≡ depth_of run.old) × (state ≡ (open_walk a.now run.old e.now).state)) }
-    ensures { run.new ≡ open_run a.now run.old e.now }
+// What an open writes: the new row, the matches, the depth, which was d. `first` is the first label with the name, `state` the state that the
+// walk ends in.
+fn write(
+    automaton: &Automaton,
+    run: &mut [u8],
+    e: &[u8],
+    first: Option<Label>,
+    d: usize,
+    state: usize,
+)
+    requires openable { (Openable automaton.now) × ((run_size ≤ length run.old) × ((d < max_depth) × (length e.now ≤ max_name))) }
+    requires first_value { (place_of first ≡ first_of automaton.now e.now) × ((d ≡ depth_of run.old) × (state ≡ (open_walk automaton.now run.old e.now).state)) }
+    ensures { run.new ≡ open_run automaton.now run.old e.now }
 {
     let mut taken = [0; MASK_SIZE];
-    candidates::flag_labels(&mut taken, a, first);
-    store(run, d, e, state);
-    steps::store_bits(a, run, &taken, d, steps::used_blocks(a));
+    automaton.flag_labels(first, &mut taken);
+    let at = rows::row_at(d + 1);
+    row::write_row(&mut run[at..at + ROW_SIZE], e, state);
+    automaton.store_bits(run, &taken, d);
     row::put_word(run, DEPTH_AT, d + 1);
 }
 
@@ -55,7 +54,7 @@ fn open_on(a: &[u8], run: &mut [u8], e: &[u8]) -> Walk
     let before = Run { bytes: run };
     let d = before.depth();
     let walked = automaton.walk_from(before.state(d), first);
-    write(a, run, e, first, d, walked.state);
+    write(&automaton, run, e, first, d, walked.state);
     walked
 }
 

@@ -1,32 +1,24 @@
 // The bits of an open, a block of sixteen bytes at a time, eight steps a byte: the active steps, the steps seen, and the matches.
-#![tactic(auto, unfolding(model::specs::Limits::max_depth, stored::specs::Automaton::mask_size, stored::specs::Automaton::automaton_size, stored::specs::Automaton::masks_at, stored::specs::Run::row_size, stored::specs::Run::run_size))]
+#![tactic(auto, unfolding(model::specs::Limits::max_depth, notation::specs::Limits::max_paths, notation::specs::Limits::max_steps, stored::specs::Automaton::mask_size, stored::specs::Automaton::automaton_size, stored::specs::Automaton::masks_at, stored::specs::Run::row_size, stored::specs::Run::run_size))]
 
-ghost use Rattle.std.specs.Prelude.{◌≡◌, not, ◌&&◌, ◌||◌, ℕ, suc, ◌+◌, ◌-◌, ◌*◌, ◌≤◌, ◌<◌, eqb, length};
+ghost use Rattle.std.specs.Prelude.{◌≡◌, ◌&&◌, ◌||◌, suc, ◌+◌, ◌*◌, ◌≤◌, ◌<◌, eqb, length};
 ghost use Rattle.std.proofs.lemmas.List.Edits.{sets};
 ghost use Rattle.model.specs.Limits.{max_depth};
-ghost use Rattle.stored.specs.Automaton.{mask_size, anywhere_mask, root_mask, automaton_size, bit_bytes};
-ghost use Rattle.stored.specs.Bits.{bit_at, bit_in};
+ghost use Rattle.stored.specs.Automaton.{mask_size, anywhere_mask, root_mask, bit_bytes};
+ghost use Rattle.stored.specs.Bits.{bit_in};
 ghost use Rattle.notation.specs.Limits.{max_paths, max_steps};
 ghost use Rattle.notation.specs.Reads.{step_count};
 ghost use Rattle.stored.specs.Run.{row_at, active_in, seen_in, matches_at, run_size};
-ghost use Rattle.stored.specs.RunCalls.{mask_bit, shifted, permitted, used_bytes};
+ghost use Rattle.stored.specs.RunCalls.{mask_bit, shifted, used_bytes};
 ghost use Rattle.stored.specs.Code.OpenSteps.{Block, taken_active, taken_seen, taken_matched, stored_bits};
 ghost use Rattle.machine.specs.Masks.{mask_number};
 
+use crate::automaton::Automaton;
 use crate::layout::{MASK_SIZE, MASKS_AT, Mask};
 use crate::run::layout::{ACTIVE_IN, MATCHES_AT, SEEN_IN};
 use crate::run::rows;
-use crate::words::word;
 use notation::layout::STEP_COUNT_AT;
 use std::simd::prelude::*;
-
-// So many blocks are used by the automaton's steps.
-pub fn used_blocks(a: &[u8]) -> usize
-    requires { (automaton_size ≤ length a.now) × (step_count a.now ≤ max_paths * max_steps) }
-    ensures { (16 * result ≡ used_bytes a.now) × (16 * result ≤ mask_size) }
-{
-    (word(a, STEP_COUNT_AT) + 127) / 128
-}
 
 // A block of the bits from `base` on, from byte `from` of them.
 fn bits(bytes: &[u8], base: usize, from: usize) -> u8x16
@@ -36,65 +28,69 @@ fn bits(bytes: &[u8], base: usize, from: usize) -> u8x16
     u8x16::from_slice(&bytes[base + from..])
 }
 
-// A block of a mask.
-fn mask(a: &[u8], mask: Mask, from: usize) -> u8x16
-    requires { (automaton_size ≤ length a.now) × (from + 16 ≤ mask_size) }
-    ensures { Block (λ i. mask_bit a.now (mask_number mask) (8 * from + i)) result }
+// The same, each bit one step on.
+fn one_on(bytes: &[u8], base: usize, from: usize) -> u8x16
+    requires { (0 < base) × (base + from + 16 ≤ length bytes.now) }
+    ensures { Block (λ i. shifted (bit_in bytes.now base) (8 * from + i)) result }
 {
-    bits(a, MASKS_AT + MASK_SIZE * mask as usize, from)
-}
-
-// A block of the bits from `base` on, each one step on.
-fn one_on(run: &[u8], base: usize, from: usize) -> u8x16
-    requires { (0 < base) × (base + from + 16 ≤ length run.now) }
-    ensures { Block (λ i. shifted (bit_in run.now base) (8 * from + i)) result }
-{
-    let mut before = u8x16::from_slice(&run[base + from - 1..]).to_array();
+    let mut before = u8x16::from_slice(&bytes[base + from - 1..]).to_array();
     if from == 0 {
         before[0] = 0;
     }
-    bits(run, base, from) << 1 | u8x16::from_array(before) >> 7
+    bits(bytes, base, from) << 1 | u8x16::from_array(before) >> 7
 }
 
-// A block of the first steps that an element may take: those by `//`, and at depth 1 those by `/`.
-fn first(a: &[u8], d: usize, from: usize) -> u8x16
-    requires { (automaton_size ≤ length a.now) × (from + 16 ≤ mask_size) }
-    ensures { Block (λ i. mask_bit a.now anywhere_mask (8 * from + i) || (eqb d 0 && mask_bit a.now root_mask (8 * from + i))) result }
-{
-    let anywhere = mask(a, Mask::Anywhere, from);
-    if d == 0 {
-        return anywhere | mask(a, Mask::Root, from);
+impl<'a> Automaton<'a> {
+    // A block of a mask.
+    fn mask(&self, mask: Mask, from: usize) -> u8x16
+        requires { from + 16 ≤ mask_size }
+        ensures { Block (λ i. mask_bit self.now (mask_number mask) (8 * from + i)) result }
+    {
+        bits(self.bytes, MASKS_AT + MASK_SIZE * mask as usize, from)
     }
-    anywhere
-}
 
-// A block of the bits in the row of depth d + 1, made of that of depth d and of the labels taken, and of the matches.
-fn store_block(a: &[u8], run: &mut [u8], taken: &[u8], d: usize, from: usize)
-    requires { (automaton_size ≤ length a.now) × ((run_size ≤ length run.old) × ((mask_size ≤ length taken.now) × ((d < max_depth) × (from + 16 ≤ mask_size)))) }
-    ensures { run.new ≡ sets (sets (sets run.old (row_at (suc d) + active_in + from) (bit_bytes (λ i. taken_active a.now run.old taken.now d (8 * from + i)) 16)) (row_at (suc d) + seen_in + from) (bit_bytes (λ i. taken_seen a.now run.old taken.now d (8 * from + i)) 16)) (matches_at + from) (bit_bytes (λ i. taken_matched a.now run.old taken.now d (8 * from + i)) 16) }
-{
-    let around = rows::row_at(d);
-    let child = mask(a, Mask::Child, from) & one_on(run, around + ACTIVE_IN, from);
-    let descendant = mask(a, Mask::Descendant, from) & one_on(run, around + SEEN_IN, from);
-    let permitted = child | (descendant | first(a, d, from));
-    // `*`, and the labels taken.
-    let candidates = mask(a, Mask::Star, from) | bits(taken, 0, from);
-    let active = candidates & permitted;
-    let seen = bits(run, around + SEEN_IN, from) | active;
-    let ended = active & mask(a, Mask::Last, from);
-    let matched = bits(run, MATCHES_AT, from) | ended;
-    let at = rows::row_at(d + 1);
-    active.copy_to_slice(&mut run[at + ACTIVE_IN + from..]);
-    seen.copy_to_slice(&mut run[at + SEEN_IN + from..]);
-    matched.copy_to_slice(&mut run[MATCHES_AT + from..]);
-}
+    // A block of the first steps that an element may take: those by `//`, and at depth 1 those by `/`.
+    fn first(&self, d: usize, from: usize) -> u8x16
+        requires { from + 16 ≤ mask_size }
+        ensures { Block (λ i. mask_bit self.now anywhere_mask (8 * from + i) || (eqb d 0 && mask_bit self.now root_mask (8 * from + i))) result }
+    {
+        let anywhere = self.mask(Mask::Anywhere, from);
+        if d == 0 {
+            return anywhere | self.mask(Mask::Root, from);
+        }
+        anywhere
+    }
 
-// The bits of all steps, block by block, stored into the new row and the matches.
-pub fn store_bits(a: &[u8], run: &mut [u8], taken: &[u8], d: usize, blocks: usize)
-    requires { (automaton_size ≤ length a.now) × ((run_size ≤ length run.old) × ((mask_size ≤ length taken.now) × ((d < max_depth) × (16 * blocks ≤ mask_size)))) }
-    ensures { run.new ≡ stored_bits run.old d (taken_active a.now run.old taken.now d) (taken_seen a.now run.old taken.now d) (taken_matched a.now run.old taken.now d) (16 * blocks) }
-{
-    for i in 0..blocks {
-        store_block(a, run, taken, d, 16 * i);
+    // A block of the bits in the row of depth d + 1, made of that of depth d and of the labels taken, and of the matches.
+    fn store_block(&self, run: &mut [u8], taken: &[u8; MASK_SIZE], d: usize, from: usize)
+        requires { (run_size ≤ length run.old) × ((d < max_depth) × (from + 16 ≤ mask_size)) }
+        ensures { run.new ≡ sets (sets (sets run.old (row_at (suc d) + active_in + from) (bit_bytes (λ i. taken_active self.now run.old taken.now d (8 * from + i)) 16)) (row_at (suc d) + seen_in + from) (bit_bytes (λ i. taken_seen self.now run.old taken.now d (8 * from + i)) 16)) (matches_at + from) (bit_bytes (λ i. taken_matched self.now run.old taken.now d (8 * from + i)) 16) }
+    {
+        let around = rows::row_at(d);
+        let child = self.mask(Mask::Child, from) & one_on(run, around + ACTIVE_IN, from);
+        let descendant = self.mask(Mask::Descendant, from) & one_on(run, around + SEEN_IN, from);
+        let permitted = child | (descendant | self.first(d, from));
+        // `*`, and the labels taken.
+        let candidates = self.mask(Mask::Star, from) | bits(taken, 0, from);
+        let active = candidates & permitted;
+        let seen = bits(run, around + SEEN_IN, from) | active;
+        let ended = active & self.mask(Mask::Last, from);
+        let matched = bits(run, MATCHES_AT, from) | ended;
+        let at = rows::row_at(d + 1);
+        active.copy_to_slice(&mut run[at + ACTIVE_IN + from..]);
+        seen.copy_to_slice(&mut run[at + SEEN_IN + from..]);
+        matched.copy_to_slice(&mut run[MATCHES_AT + from..]);
+    }
+
+    // The bits of all steps, block by block, stored into the new row and the matches.
+    pub fn store_bits(&self, run: &mut [u8], taken: &[u8; MASK_SIZE], d: usize)
+        requires steps { step_count self.now ≤ max_paths * max_steps }
+        requires room { (run_size ≤ length run.old) × (d < max_depth) }
+        ensures { run.new ≡ stored_bits run.old d (taken_active self.now run.old taken.now d) (taken_seen self.now run.old taken.now d) (taken_matched self.now run.old taken.now d) (used_bytes self.now) }
+    {
+        let blocks = (self.word(STEP_COUNT_AT) + 127) / 128;
+        for i in 0..blocks {
+            self.store_block(run, taken, d, 16 * i);
+        }
     }
 }

@@ -3,6 +3,7 @@ pub mod Comments
 pub mod Inside
 pub mod Next
 pub mod Offsets
+pub mod Words
 pub mod Reaches
 pub mod RunAt
 pub mod TagName
@@ -10,4 +11,3 @@ pub mod Tags
 pub mod Texts
 pub mod TokenAt
 pub mod Values
-pub mod Listed

@@ -1,31 +1,38 @@
--- How far a reading goes, as an offset into bytes of this length in all.
-use Rattle.std.specs.Prelude.{ℕ, ◌-◌, length, drop, List, [], ◌∷◌, map}
-use Rattle.reports.specs.declared.tags.Reach.{Reach}
-use Rattle.reports.specs.declared.tags.Reach.TheVariants.{No, To}
+-- How far a reading goes, as an offset into some bytes.
+use Rattle.std.specs.Prelude.{ℕ, ◌-◌, length, drop, List, [], ◌∷◌, map, Option, None, Some}
 use Rattle.text.specs.Names.{Name}
 use Rattle.documents.specs.Tokens.{Attribute, quote_byte, blank, in_value}
 use Rattle.documents.specs.Repeats.{attribute_name}
 use Rattle.text.specs.Read.{Read, fail, got, then_read, back, read_word}
 use Rattle.documents.specs.Reading.{read_quote, read_parts, read_attributes}
 
-abbrev pub reach_of : {A : Type 0} → ℕ → Read A → Reach
-reach_of total fail = No
-reach_of total (got a r) = To (total - length r)
+-- where it ends, in bytes of this length in all
+abbrev pub reach_of : {A : Type 0} → ℕ → Read A → Option ℕ
+reach_of total fail = None
+reach_of total (got a r) = Some (total - length r)
 
--- a value up to its quote, and a quoted value after blanks, from an offset
-abbrev pub quoted_reach : List ℕ → ℕ → ℕ → Reach
-quoted_reach s quote at =
-    reach_of (length s) (then_read (read_parts (in_value quote) (drop at s)) (λ v r. read_word (quote ∷ []) r))
+-- where what is read from an offset on ends
+unfoldable pub reach : {A : Type 0} → (List ℕ → Read A) → List ℕ → ℕ → Option ℕ
+reach read s at = reach_of (length s) (read (drop at s))
 
-abbrev pub value_reach : List ℕ → ℕ → Reach
-value_reach s at =
-    reach_of (length s)
-    (then_read (read_quote (back blank (drop at s)))
-    (λ q r. then_read (read_parts (in_value (quote_byte q)) r) (λ v r₂. read_word (quote_byte q ∷ []) r₂)))
+-- where the blanks from an offset on end
+abbrev pub blanks_to : List ℕ → ℕ → ℕ
+blanks_to s at = length s - length (back blank (drop at s))
 
--- the attributes and the blanks after them, from an offset
-abbrev pub inside_reach : List ℕ → ℕ → Reach
-inside_reach s at = reach_of (length s) (then_read (read_attributes (drop at s)) (λ l r. got l (back blank r)))
+-- a byte after blanks
+abbrev pub read_mark : ℕ → List ℕ → Read (List ℕ)
+read_mark mark l = read_word (mark ∷ []) (back blank l)
+
+-- a value up to its quote, with the quote; a quoted value after blanks
+abbrev pub read_quoted : ℕ → List ℕ → Read (List ℕ)
+read_quoted quote l = then_read (read_parts (in_value quote) l) (λ v r. read_word (quote ∷ []) r)
+
+abbrev pub read_value : List ℕ → Read (List ℕ)
+read_value l = then_read (read_quote (back blank l)) (λ q r. read_quoted (quote_byte q) r)
+
+-- the attributes of a tag and the blanks after them
+abbrev pub read_inside : List ℕ → Read (List Attribute)
+read_inside l = then_read (read_attributes l) (λ m r. got m (back blank r))
 
 -- the names of attributes, if they were read
 abbrev pub names_in : Read (List Attribute) → List Name

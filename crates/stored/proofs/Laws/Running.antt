@@ -11,7 +11,6 @@ pub mod Starting
 pub mod Written
 pub mod Blocks
 pub mod Flagged
-pub mod Answered
 pub mod OpenName
 pub mod Asking
 pub mod Means

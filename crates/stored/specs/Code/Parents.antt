@@ -1,6 +1,6 @@
 -- The pass over an automaton's bytes that stores each label's parent and the length of its word, step by step in set order. It follows the
 -- code; a law says that it stores those of the automaton's definition.
-use Rattle.std.specs.Prelude.{ℕ, zero, suc, ◌+◌, ◌≤◌, ◌<◌, Bool, true, false, cond, List, eqb, ltb, Option, Some, None}
+use Rattle.std.specs.Prelude.{ℕ, zero, suc, ◌+◌, ◌≤◌, Bool, true, false, cond, List, eqb, ltb, Option, Some, None}
 use Rattle.std.proofs.lemmas.List.Edits.{sets}
 use Rattle.notation.specs.Limits.{max_labels}
 use Rattle.text.specs.Bytes.{le16}

@@ -1,7 +1,7 @@
 -- The outcomes of a report's calls as the code makes them, token after token.
 use Prim.Native.Nat.{ℕ, zero, suc, ◌-◌, ◌≤◌, ◌<◌}
 use native.Mathlib.Omega.{arith}
-use mathlib.Core.Path.{◌≡◌, refl, sym, ap, ◌∙◌}
+use mathlib.Core.Path.{◌≡◌, refl, sym, ap, ap₂, ◌∙◌}
 use mathlib.Core.Bool.{Bool, true, false, not, ◌&&◌, ◌||◌, cond, and-false, or-false, or-true}
 use mathlib.Core.Option.{Option, none, some}
 use mathlib.Core.List.{List, [], ◌∷◌}
@@ -16,7 +16,7 @@ use Rattle.text.specs.Refusals.{number_of}
 use Rattle.text.proofs.Laws.Numbers.{some_number}
 use Rattle.text.specs.Lists.{every, any}
 use Rattle.std.specs.Prelude.{Result, Ok, Err, Option as Maybe, Some, None}
-use Rattle.std.specs.Option.{is_none, ok_or}
+use Rattle.std.specs.Option.{ok_or}
 use Rattle.std.specs.Result.{is_err}
 use Rattle.text.specs.Answers.{refusal_in}
 use Rattle.text.specs.Order.{gives, first, number_in, given}
@@ -31,19 +31,22 @@ use Rattle.stored.proofs.Laws.Shapes.Kept.{start-usable, open-usable, close-usab
 use Rattle.stored.proofs.Laws.Running.Restart.{start-restart, open-restart, close-restart}
 use Rattle.documents.specs.Limits.{max_report_bytes}
 use Rattle.reports.specs.declared.tokens.Found.{Found}
-use Rattle.reports.specs.declared.tokens.Found.TheVariants.{Nothing, Declaration, Comment, Start, Empty, End, Text}
+use Rattle.reports.specs.declared.tokens.Kind.{Kind}
+use Rattle.reports.specs.declared.tokens.Kind.TheVariants.{Declaration, Comment, Start, Empty, End, Blank, Text}
+use Rattle.reports.proofs.Laws.Read.Reaches.{never}
+use Rattle.reports.proofs.Laws.Read.RunAt.{Was, was_read}
 use Rattle.documents.specs.Tokens.{Token, declaration, comment, start_tag, empty_tag, end_tag, text, listed, is_declaration}
 use Rattle.text.specs.Read.{Read, fail, got, then_read}
 use Rattle.documents.specs.Reading.{read_token, read_report}
 use Rattle.documents.specs.Document.{events_of_token, events_of}
 use Rattle.documents.specs.Repeats.{attributes_of, names_repeat, repeats_in}
 use Rattle.documents.proofs.Laws.Repeats.{none-repeat}
-use Rattle.reports.specs.Seen.{shown, found_of}
+use Rattle.reports.specs.Seen.{text_kind, shown, found_of}
 use Rattle.reports.specs.Code.Seen.{tag_name, name_of_token}
 use Rattle.filing.specs.Filing.{Outcome, refused, filed, number_given, and_then, unless, file_events}
 use Rattle.filing.specs.ReportRefusals.{stored_machine, left_by, Files}
 use Rattle.filing.specs.Code.Filing.{is_no_run, tokens_in, file_report}
-use Rattle.filing.specs.Code.Taking.{Answered, Taking, file_open, file_close, file_text, late_declaration, end_of, with_repeat, file_found, repeats, step_found, file_last, run_from}
+use Rattle.filing.specs.Code.Taking.{Answered, Taking, file_open, file_close, file_text, late_declaration, with_repeat, file_found, repeats, step_found, file_last, run_from}
 use Rattle.filing.proofs.Laws.Filing.FilingParts.{then-filed, then_same, then-more, events-append}
 use Rattle.filing.proofs.Laws.Filing.FilingOrder.{report-is, start-refused, start-lent, once-started, report-own}
 use Rattle.reports.proofs.Laws.Read.Next.{tokens_from, token-next, from_end, from-none, from-late, from_next}
@@ -140,39 +143,32 @@ abbrev token_taken : List ℕ → Outcome Left → Token → Outcome Left
 token_taken a o x = and_then (with_repeat (names_repeat (attributes_of x)) o) (λ t. file_events (stored_machine a) t (events_of_token x))
 
 -- and so it does by what the code says of it, in bytes no longer than a report's
-found-events : (total : ℕ) → total ≤ max_report_bytes → (a : List ℕ) (o : Outcome Left) (x : Token) (at end : ℕ) → (eqb at 0 || not (is_declaration x)) ≡ true
-    → step_found a at o (shown total x at end) (name_of_token x) ≡ token_taken a o x
+text-events : (a : List ℕ) (o : Outcome Left) (e : Name) (b : Bool) → step_found a o (text_kind b) e ≡ and_then o (λ t. file_text t b)
+text-events a o e true = refl
+text-events a o e false = refl
+
+found-events : (total : ℕ) → total ≤ max_report_bytes → (a : List ℕ) (o : Outcome Left) (x : Token) (at : ℕ) → step_found a o (shown total x at) (name_of_token x) ≡ token_taken a o x
 unfolding file_events first
-found-events total short a o declaration at end h = rw (sym (or-false (eqb at 0)) ∙ h, none-repeat)
-found-events total short a o (comment c) at end h = rw none-repeat
-found-events total short a o (start_tag n l b) at end h = rw (le-leb total max_report_bytes short) (then_same (with_repeat (names_repeat l) o) _ _ (λ t. sym (then-filed _)))
-found-events total short a o (empty_tag n l b) at end h =
+found-events total short a o declaration at = rw none-repeat
+found-events total short a o (comment c) at = rw none-repeat
+found-events total short a o (start_tag n l b) at = rw (le-leb total max_report_bytes short) (then_same (with_repeat (names_repeat l) o) _ _ (λ t. sym (then-filed _)))
+found-events total short a o (empty_tag n l b) at =
     rw (le-leb total max_report_bytes short)
     (then_same (with_repeat (names_repeat l) o) _ _ (λ t. then_same (file_open a t n) _ _ (λ t₂. sym (then-filed (file_close a t₂ n)))))
-found-events total short a o (end_tag n b) at end h = rw none-repeat (then_same o _ _ (λ t. sym (then-filed _)))
-found-events total short a o (text ps) at end h = rw none-repeat (then_same o _ _ (λ t. sym (then-filed _)))
+found-events total short a o (end_tag n b) at = rw none-repeat (then_same o _ _ (λ t. sym (then-filed _)))
+found-events total short a o (text ps) at = text-events a o [] _ ∙ rw none-repeat (then_same o _ _ (λ t. sym (then-filed _)))
 
-abbrev late : ℕ → Found → Bool
-late at f = is_none (end_of f) || late_declaration at f
+late-text : (at : ℕ) (b : Bool) → late_declaration at (text_kind b) ≡ false
+late-text at true = refl
+late-text at false = refl
 
-late-shown : (total : ℕ) (x : Token) (at end : ℕ) → late at (shown total x at end) ≡ not (eqb at 0 || not (is_declaration x))
-late-shown total declaration at end = rw or-false
-late-shown total (comment c) at end = rw or-true
-late-shown total (start_tag n l b) at end = rw or-true
-late-shown total (empty_tag n l b) at end = rw or-true
-late-shown total (end_tag n b) at end = rw or-true
-late-shown total (text ps) at end = rw or-true
-
-shown-end : (total : ℕ) (x : Token) (at end : ℕ) → end_of (shown total x at end) ≡ Some end
-shown-end total declaration at end = refl
-shown-end total (comment c) at end = refl
-shown-end total (start_tag n l b) at end = refl
-shown-end total (empty_tag n l b) at end = refl
-shown-end total (end_tag n b) at end = refl
-shown-end total (text ps) at end = refl
-
-same-some : {n m : ℕ} → Some n ≡ Some m → n ≡ m
-same-some e = cc
+late-shown : (total : ℕ) (x : Token) (at : ℕ) → late_declaration at (shown total x at) ≡ not (eqb at 0 || not (is_declaration x))
+late-shown total declaration at = rw or-false
+late-shown total (comment c) at = rw or-true
+late-shown total (start_tag n l b) at = rw or-true
+late-shown total (empty_tag n l b) at = rw or-true
+late-shown total (end_tag n b) at = rw or-true
+late-shown total (text ps) at = rw or-true (late-text at _)
 
 -- the rest of the tokens after one
 after : (a : List ℕ) (o : Outcome Left) (x : Token) (m : Read (List Token))
@@ -206,20 +202,34 @@ module _ (a s : List ℕ) (short : length s ≤ max_report_bytes) (i : ℕ) (ins
       let past : eqb end 0 ≡ false = ne_eqb end 0 (omega (arith, next.1)) in
       (next.1, (next.2, rw past (sym (ap (run_from a o) (from_next s i (eqb i 0) t r inside e h) ∙ after a o t (tokens_from s false end)))))
 
-  -- where there is none, or one that is a declaration past offset 0, 9 is given
-  late-at : (m : Read Token) → read_token (drop i s) ≡ m → late i (found_of (length s) i m) ≡ true → RunAt a o s i ≡ refused SyntaxError
-  late-at fail e h = ap (run_from a o) (from-none s i (eqb i 0) inside e)
-  late-at (got t r) e h = goes-late t r e (not-true (eqb i 0 || not (is_declaration t)) (sym (late-shown (length s) t i (length s - length r)) ∙ h))
+  goes_same : {n m : ℕ} {p q : Outcome Left} → n ≡ m → p ≡ q → Goes m q → Goes n p
+  goes_same e f g = rw (e, f) g
 
-  -- after any other it goes on behind it
-  next-at : (m : Read Token) → read_token (drop i s) ≡ m → late i (found_of (length s) i m) ≡ false → (end : ℕ) → end_of (found_of (length s) i m) ≡ Some end
-      → Goes end (step_found a i o (found_of (length s) i m) (tag_name m))
-  next-at fail e h end k = clash refl h
-  next-at (got t r) e h end k =
-      let here = length s - length r in
-      let first : (eqb i 0 || not (is_declaration t)) ≡ true = not-false (eqb i 0 || not (is_declaration t)) (sym (late-shown (length s) t i here) ∙ h) in
-      let same : end ≡ here = same-some (sym k ∙ shown-end (length s) t i here) in
-      rw (same, found-events (length s) short a o t i here first) (goes-next t r e first)
+  -- where there is none, 9 is given
+  none-at : found_of (length s) i (read_token (drop i s)) ≡ None → RunAt a o s i ≡ refused SyntaxError
+  none-at e = go (read_token (drop i s)) refl e
+    where
+      go : (m : Read Token) → read_token (drop i s) ≡ m → found_of (length s) i m ≡ None → RunAt a o s i ≡ refused SyntaxError
+      go fail is e = ap (run_from a o) (from-none s i (eqb i 0) inside is)
+      go (got t r) is e = never (sym e)
+
+  module _ (f : Found) (found : found_of (length s) i (read_token (drop i s)) ≡ Some f) where
+    was : Was s i f
+    was = was_read s i f found
+
+    late-is : late_declaration i f.kind ≡ not (eqb i 0 || not (is_declaration was.token))
+    late-is = ap (late_declaration i) was.kind ∙ late-shown (length s) was.token i
+
+    -- and for a declaration past offset 0
+    late-at : late_declaration i f.kind ≡ true → RunAt a o s i ≡ refused SyntaxError
+    late-at h = goes-late was.token was.rest was.read (not-true (eqb i 0 || not (is_declaration was.token)) (sym late-is ∙ h))
+
+    -- after any other it goes on behind it
+    next-at : late_declaration i f.kind ≡ false → Goes f.end (step_found a o f.kind (tag_name (read_token (drop i s))))
+    next-at h =
+        let first : (eqb i 0 || not (is_declaration was.token)) ≡ true = not-false (eqb i 0 || not (is_declaration was.token)) (sym late-is ∙ h) in
+        let step = ap₂ (λ (k : Kind) (m : Read Token). step_found a o k (tag_name m)) was.kind was.read ∙ found-events (length s) short a o was.token i in
+        goes_same was.end step (goes-next was.token was.rest was.read first)
 
 -- text, which outside the root is blank
 module _ (a run : List ℕ) (c : Counters) where
@@ -374,26 +384,24 @@ module _ (a : List ℕ) (t : Left) (e : Name) (u : Usable a t.bytes t.counters) 
   unfolding given
   close-fit = unless-fit a (first (close_others t.bytes e)) _ (λ n. close-usable a t.bytes t.counters e u (close-others a t.bytes t.counters e u ∙ ap number_in n))
 
-late-fit : (a : List ℕ) (b : Bool) (o : Outcome Left) → Fit a o → Fit a (cond b (refused SyntaxError) o)
-late-fit a true o f = tt
-late-fit a false o f = f
-
 repeat-fit : (a : List ℕ) (twice : Bool) (o : Outcome Left) → Fit a o → Fit a (with_repeat twice o)
 repeat-fit a true o f = tt
 repeat-fit a false o f = f
 
-file-fit : (a : List ℕ) (t : Left) (f : Found) (e : Name) → Usable a t.bytes t.counters → Fit a (file_found a t f e)
-file-fit a t Nothing e u = tt
-file-fit a t (Declaration end) e u = u
-file-fit a t (Comment end) e u = u
-file-fit a t (Start from to end twice) e u = open-fit a t e u
-file-fit a t (Empty from to end twice) e u = then_fit a (file_open a t e) (λ t₂. file_close a t₂ e) (open-fit a t e u) (λ t₂ w. close-fit a t₂ e w)
-file-fit a t (End from to end) e u = close-fit a t e u
-file-fit a t (Text all end) e u = unless-fit a (first (gives (eqb (depth_of t.bytes) 0 && not all) NotOneRoot ∷ [])) t (λ n. u)
+text-fit : (a : List ℕ) (t : Left) (all : Bool) → Usable a t.bytes t.counters → Fit a (file_text t all)
+text-fit a t all u = unless-fit a (first (gives (eqb (depth_of t.bytes) 0 && not all) NotOneRoot ∷ [])) t (λ n. u)
 
-found-fit : (a : List ℕ) (at : ℕ) (o : Outcome Left) (f : Found) (e : Name) → Fit a o → Fit a (step_found a at o f e)
-found-fit a at o f e u =
-    late-fit a (late at f) _ (then_fit a (with_repeat (repeats f) o) _ (repeat-fit a (repeats f) o u) (λ t v. file-fit a t f e v))
+file-fit : (a : List ℕ) (t : Left) (k : Kind) (e : Name) → Usable a t.bytes t.counters → Fit a (file_found a t k e)
+file-fit a t Declaration e u = u
+file-fit a t Comment e u = u
+file-fit a t (Start n twice) e u = open-fit a t e u
+file-fit a t (Empty n twice) e u = then_fit a (file_open a t e) (λ t₂. file_close a t₂ e) (open-fit a t e u) (λ t₂ w. close-fit a t₂ e w)
+file-fit a t (End n) e u = close-fit a t e u
+file-fit a t Blank e u = text-fit a t true u
+file-fit a t Text e u = text-fit a t false u
+
+found-fit : (a : List ℕ) (o : Outcome Left) (k : Kind) (e : Name) → Fit a o → Fit a (step_found a o k e)
+found-fit a o k e u = then_fit a (with_repeat (repeats k) o) _ (repeat-fit a (repeats k) o u) (λ t v. file-fit a t k e v)
 
 -- what an open that is accepted leaves
 pub opened-usable : (a run : List ℕ) (c : Counters) (e : Name) (n : ℕ) (run' : List ℕ) (c' : Counters) → Taking a run (file_open a (record { bytes = run; counters = c }) e) n run' c'
@@ -408,39 +416,32 @@ pub record Turn (a s : List ℕ) (i n : ℕ) (run : List ℕ) (c : Counters) (al
   pub fit : Fit a outcome
 
 module _ (a s : List ℕ) (short : length s ≤ max_report_bytes) (i : ℕ) (inside : i < length s) (n : ℕ) (run : List ℕ) (c : Counters) (all : Outcome Left) (t : Turn a s i n run c all) where
-  abbrev met : Found
+  abbrev met : Maybe Found
   met = found_of (length s) i (read_token (drop i s))
 
   -- no token, or a late declaration
-  late-all : (f : Found) → f ≡ met → late i f ≡ true → all ≡ refused SyntaxError
-  late-all f e h = sym t.same ∙ late-at a s short i inside t.outcome (read_token (drop i s)) refl (rw e at h)
+  pub turn-none : met ≡ None → all ≡ refused SyntaxError
+  turn-none e = sym t.same ∙ none-at a s short i inside t.outcome e
 
-  pub turn-none : (f : Found) → f ≡ met → end_of f ≡ None → all ≡ refused SyntaxError
-  turn-none f e h = late-all f e (rw h)
+  module _ (f : Found) (e : met ≡ Some f) where
+    pub turn-late : late_declaration i f.kind ≡ true → all ≡ refused SyntaxError
+    turn-late h = sym t.same ∙ late-at a s short i inside t.outcome f e h
 
-  pub turn-late : (f : Found) → f ≡ met → late_declaration i f ≡ true → all ≡ refused SyntaxError
-  turn-late f e h = late-all f e (rw (h, or-true (is_none (end_of f))))
+    -- any other
+    module _ (h : late_declaration i f.kind ≡ false) where
+      abbrev step : Outcome Left
+      step = step_found a t.outcome f.kind (tag_name (read_token (drop i s)))
 
-  -- any other
-  module _ (f : Found) (e : f ≡ met) (h : late_declaration i f ≡ false) (end : ℕ) (k : end_of f ≡ Some end) where
-    early : late i f ≡ false
-    early = rw (k, h)
+      goes : Goes a s short i inside t.outcome f.end step
+      goes = next-at a s short i inside t.outcome f e h
 
-    abbrev step : Outcome Left
-    step = and_then (with_repeat (repeats f) t.outcome) (λ l. file_found a l f (tag_name (read_token (drop i s))))
+      pub turn-past : (i < f.end) × (f.end ≤ length s)
+      turn-past = (goes.0, goes.1.0)
 
-    goes : Goes a s short i inside t.outcome end (step_found a i t.outcome met (tag_name (read_token (drop i s))))
-    goes = next-at a s short i inside t.outcome (read_token (drop i s)) refl (rw e at early) end (rw e at k)
-
-    pub turn-past : (i < end) × (end ≤ length s)
-    turn-past = (goes.0, goes.1.0)
-
-    pub turn-taken : (n' : ℕ) (run' : List ℕ) (c' : Counters) → Taking a run step n' run' c' → Turn a s end n' run' c' all
-    turn-taken n' run' c' x =
-        let same : step_found a i t.outcome f (tag_name (read_token (drop i s))) ≡ step = rw early in
-        record {
-          outcome = step;
-          answered = x.answered;
-          same = rw (← same, e) (goes.1.1 ∙ t.same);
-          fit = rw (← same) (found-fit a i t.outcome f (tag_name (read_token (drop i s))) t.fit);
-        }
+      pub turn-taken : (n' : ℕ) (run' : List ℕ) (c' : Counters) → Taking a run step n' run' c' → Turn a s f.end n' run' c' all
+      turn-taken n' run' c' x = record {
+        outcome = step;
+        answered = x.answered;
+        same = goes.1.1 ∙ t.same;
+        fit = found-fit a t.outcome f.kind (tag_name (read_token (drop i s))) t.fit;
+      }

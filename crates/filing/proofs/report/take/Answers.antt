@@ -1,11 +1,12 @@
 -- `report::take`: each kind of token by what its calls say.
-use mathlib.Core.Path.{sym, ◌∙◌, ap}
+use mathlib.Core.Path.{refl, sym, ◌∙◌, ap}
+use mathlib.Core.Logic.{⊎_elim}
+use Rattle.filing.specs.Filing.{filed}
 use Rattle.text.specs.Answers.{refusal_in}
 use Rattle.text.proofs.Laws.Numbers.{some_number}
 use Rattle.text.proofs.Laws.Results.{handed_number}
-use Rattle.filing.proofs.Laws.Filing.Taking.{open-taken, close-taken, taken-stops, taken-on, opened-usable, text-blank, text-outside, text-inside}
+use Rattle.filing.proofs.Laws.Filing.Taking.{open-taken, close-taken, taken_here, taken-stops, taken-on, opened-usable, text-blank, text-outside, text-inside}
 use Rattle.filing.proofs.report.take.Goals as goal
-use Rattle.filing.proofs.report.take.Goals.{else-not-blank-via-then-not-blank+else-depth-eq0, else-not-blank-via-else-not-blank}
 
 pub returns-in_err-open_usable-in-Start : goal.returns-in_err-open_usable-in-Start
 returns-in_err-open_usable-in-Start c =
@@ -46,12 +47,15 @@ returns-in_ok-open_usable-in-Empty c =
 pub returns-then-depth-eq0 : goal.returns-then-depth-eq0
 returns-then-depth-eq0 c =
     let a = c.args in
-    rw (c.in-Text.is, c.if-not-blank.true) (text-outside a.a.now a.run.now a.counters.now (sym c.depth.ensures.0 ∙ c.if-depth-eq0.true))
+    rw c.in-Text.is (text-outside a.a.now a.run.now a.counters.now (sym c.depth.ensures.0 ∙ c.if-depth-eq0.true))
 
-pub returns-else-not-blank : goal.returns-else-not-blank
-returns-else-not-blank c =
+pub returns-else-depth-eq0 : goal.returns-else-depth-eq0
+returns-else-depth-eq0 c =
     let a = c.args in
-    elim c.else-not-blank.branch [
-      | else-not-blank-via-then-not-blank+else-depth-eq0 w ↦ rw (c.in-Text.is, w.if-not-blank.true) (text-inside a.a.now a.run.now a.counters.now (λ z. w.if-depth-eq0.false (w.depth.ensures.0 ∙ z)))
-      | else-not-blank-via-else-not-blank w ↦ rw (c.in-Text.is, w.if-not-blank.false) (text-blank a.a.now a.run.now a.counters.now)
-    ]
+    rw c.in-Text.is (text-inside a.a.now a.run.now a.counters.now (λ z. c.if-depth-eq0.false (c.depth.ensures.0 ∙ z)))
+
+pub returns-in-Blank : goal.returns-in-Blank
+returns-in-Blank c =
+    let a = c.args in
+    let nothing = taken_here a.a.now a.run.now (filed (record { bytes = a.run.now; counters = a.counters.now })) 0 a.counters.now (refl, refl) in
+    ⊎_elim (λ e. rw e (text-blank a.a.now a.run.now a.counters.now)) (⊎_elim (λ e. rw e nothing) (λ e. rw e nothing)) c.in-Blank.is

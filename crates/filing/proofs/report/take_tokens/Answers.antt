@@ -20,35 +20,37 @@ loop-at-init c =
       turn = record { outcome = filed (record { bytes = args.run.now; counters = args.counters.now }); answered = (refl, refl); same = refl; fit = c.requires.0 };
     }
 
+pub returns-in_err-found : goal.returns-in_err-found
+returns-in_err-found c =
+    let i = c.loop-at.invariant in
+    let (none, same) = missing c.token_at.result _ _ (sym c.ok_or.ensures.value ∙ c.in_err-found.was) in
+    let end = turn-none _ _ c.requires.1 _ c.loop-at-test.true _ _ _ _ i.turn (sym c.token_at.ensures ∙ none) in
+    rw (end, handed_number _ _ _ c.from_residual.ensures.1 (ap number_of (sym same))) (record { answered = refl; restarts = i.restarts })
+
 pub returns-then-is_late : goal.returns-then-is_late
 returns-then-is_late c =
     let i = c.loop-at.invariant in
-    let late = turn-late _ _ c.requires.1 _ c.loop-at-test.true _ _ _ _ i.turn _ c.token_at-found.ensures (sym c.is_late.ensures ∙ c.if-is_late.true) in
+    let is = sym c.token_at.ensures ∙ there_is c.token_at.result _ _ (sym c.ok_or.ensures.value ∙ c.in_ok-found.was) in
+    let late = turn-late _ _ c.requires.1 _ c.loop-at-test.true _ _ _ _ i.turn _ is (sym c.is_late.ensures ∙ c.if-is_late.true) in
     rw late (record { answered = refl; restarts = i.restarts })
-
-pub returns-in_err-end : goal.returns-in_err-end
-returns-in_err-end c =
-    let i = c.loop-at.invariant in
-    let (none, same) = missing c.end_of.result _ _ (sym c.ok_or.ensures.value ∙ c.in_err-end.was) in
-    let end = turn-none _ _ c.requires.1 _ c.loop-at-test.true _ _ _ _ i.turn _ c.token_at-found.ensures (sym c.end_of.ensures ∙ none) in
-    rw (end, handed_number _ _ _ c.from_residual.ensures.1 (ap number_of (sym same))) (record { answered = refl; restarts = i.restarts })
 
 pub name_in-requires : goal.name_in-requires
 name_in-requires c =
-    let cut = name-cut c.args.s.now c.loop-at.at c.token_at-found.result (sym c.token_at-found.ensures) in
+    let is = sym c.token_at.ensures ∙ there_is c.token_at.result _ _ (sym c.ok_or.ensures.value ∙ c.in_ok-found.was) in
+    let cut = name-cut c.args.s.now c.loop-at.at c.in_ok-found.found is in
     (cut.low, cut.high)
 
 pub take_next-taken-requires : goal.take_next-taken-requires
 take_next-taken-requires c =
     let t = c.loop-at.invariant.turn in
-    let is = sym c.token_at-found.ensures in
-    let cut = name-cut c.args.s.now c.loop-at.at c.token_at-found.result is in
-    (fit-answered _ t.outcome _ _ _ t.answered t.fit, rw (c.name_in.ensures ∙ cut.part) (named-token c.args.s.now c.loop-at.at c.token_at-found.result is))
+    let is = sym c.token_at.ensures ∙ there_is c.token_at.result _ _ (sym c.ok_or.ensures.value ∙ c.in_ok-found.was) in
+    let cut = name-cut c.args.s.now c.loop-at.at c.in_ok-found.found is in
+    (fit-answered _ t.outcome _ _ _ t.answered t.fit, rw (c.name_in.ensures ∙ cut.part) (named-token c.args.s.now c.loop-at.at c.in_ok-found.found is))
 
-past : (c : After-take_next-taken) → (c.loop-at.at < c.in_ok-end.end) × (c.in_ok-end.end ≤ length c.args.s.now)
+past : (c : After-take_next-taken) → (c.loop-at.at < c.in_ok-found.found.end) × (c.in_ok-found.found.end ≤ length c.args.s.now)
 past c =
-    let end = there_is c.end_of.result _ _ (sym c.ok_or.ensures.value ∙ c.in_ok-end.was) in
-    turn-past _ _ c.requires.1 _ c.loop-at-test.true _ _ _ _ c.loop-at.invariant.turn _ c.token_at-found.ensures (sym c.is_late.ensures ∙ c.if-is_late.false) _ (sym c.end_of.ensures ∙ end)
+    let is = sym c.token_at.ensures ∙ there_is c.token_at.result _ _ (sym c.ok_or.ensures.value ∙ c.in_ok-found.was) in
+    turn-past _ _ c.requires.1 _ c.loop-at-test.true _ _ _ _ c.loop-at.invariant.turn _ is (sym c.is_late.ensures ∙ c.if-is_late.false)
 
 pub loop-at-smaller : goal.loop-at-smaller
 loop-at-smaller c =
@@ -58,14 +60,13 @@ loop-at-smaller c =
 pub loop-at-preserved : goal.loop-at-preserved
 loop-at-preserved c =
     let i = c.loop-at.invariant in
-    let end = there_is c.end_of.result _ _ (sym c.ok_or.ensures.value ∙ c.in_ok-end.was) in
-    let is = sym c.token_at-found.ensures in
-    let cut = name-cut c.args.s.now c.loop-at.at c.token_at-found.result is in
+    let is = sym c.token_at.ensures ∙ there_is c.token_at.result _ _ (sym c.ok_or.ensures.value ∙ c.in_ok-found.was) in
+    let cut = name-cut c.args.s.now c.loop-at.at c.in_ok-found.found is in
     let taken = rw (c.name_in.ensures ∙ cut.part) at (c.take_next-taken.ensures i.turn.outcome i.turn.answered) in
     record {
       within = (past (goal.at.loop-at-preserved c).After-take_next-taken).1;
       restarts = taken.restarts ∙ i.restarts;
-      turn = turn-taken _ _ c.requires.1 _ c.loop-at-test.true _ _ _ _ i.turn _ c.token_at-found.ensures (sym c.is_late.ensures ∙ c.if-is_late.false) _ (sym c.end_of.ensures ∙ end) _ _ _ taken;
+      turn = turn-taken _ _ c.requires.1 _ c.loop-at-test.true _ _ _ _ i.turn _ is (sym c.is_late.ensures ∙ c.if-is_late.false) _ _ _ taken;
     }
 
 pub returns : goal.returns

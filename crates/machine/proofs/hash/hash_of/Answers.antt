@@ -1,11 +1,11 @@
 -- `hash::hash_of`: a byte's product and sum are modulo 256.
-use Prim.Native.Nat.{ℕ, ◌+◌, ◌*◌, ◌%◌, ◌<◌}
-use mathlib.Core.Path.{◌≡◌, refl, sym, ap, ◌∙◌}
+use Prim.Native.Nat.{ℕ, ◌+◌, ◌*◌, ◌%◌}
+use mathlib.Core.Path.{◌≡◌, refl, ap, ◌∙◌}
 use mathlib.Core.List.{List, [], ◌∷◌}
 use native.Mathlib.Omega.{arith}
 use borrow.Author.Rules.{rules}
 use Rattle.std.specs.List.{fold}
-use Rattle.stored.specs.Automaton.{hashes, hash, hash_from}
+use Rattle.stored.specs.Automaton.{hashes, hash_from}
 use Rattle.machine.proofs.hash.hash_of.Goals as goal
 
 abbrev one_more : ℕ → ℕ → ℕ

@@ -6,17 +6,10 @@ use mathlib.Core.Bool.{Bool, true, false}
 use mathlib.Core.List.{List, ◌++◌, append-nil}
 use lib.ListN.{length, take, drop, length-drop, take-append-drop, drop_of_length-le}
 use lib.Seq.{length_front, length-take-le, take_all, take_at, drop_at}
+use Rattle.std.proofs.lemmas.List.{take_rest}
 use borrow.Rule.Slice.PartMut.{mid_of, put_mid, same_len_mid}
-use Rattle.reports.specs.Code.Ordered.{names_at, MergesTo, Sorts, Joins}
+use Rattle.reports.specs.Code.Ordered.{names_at, MergesTo, Sorts}
 use Rattle.reports.proofs.Laws.Ordered.Sorted.{twice, twice-left, twice-right, joined}
-
--- what a merge makes: a name met, or the merged offsets copied back
-module _ (s parts spare : List ℕ) (half : ℕ) {t : Bool} (m : MergesTo (names_at s (take half parts)) (names_at s (drop half parts)) t (names_at s spare)) where
-  pub joins-met : t ≡ true → (after : List ℕ) → Joins s half parts true after
-  joins-met e after k l p q = twice s (k ++ l) after (sym (joined s k l spare p q m).says ∙ e)
-
-  pub joins-clear : t ≡ false → {after : List ℕ} → after ≡ spare → Joins s half parts false after
-  joins-clear e same k l p q = rw same (rw e at (joined s k l spare p q m))
 
 -- offsets p whose first half is back as a
 module _ (p a : List ℕ) (h : ℕ) (fits : h ≤ length p) (size : length a ≡ length (take h p)) where
@@ -51,13 +44,18 @@ module _ (p a : List ℕ) (h : ℕ) (fits : h ≤ length p) (size : length a ≡
         (ap (drop rest) (drop_at a (drop h p) h (size ∙ half-size)) ∙ drop_of_length-le (drop h p) {i = rest} (omega (arith, whole, length-drop h p)))
         ∙ ap (λ (l : List ℕ). a ++ l) (append-nil b)
 
-    module _ (s : List ℕ) {t u : Bool} (one : Sorts s (take h p) t a) (other : Sorts s (mid_of h rest back) u b) where
-      pub halves-joined : t ≡ false → u ≡ false → {r : Bool} {out : List ℕ} → Joins s h (put_mid h rest back b) r out → Sorts s p r out
-      halves-joined e g {r} {out} j =
+    -- both halves, as they are lent to be merged
+    module _ (s : List ℕ) {t u : Bool} (one : Sorts s (take h p) t a) (other : Sorts s (mid_of h rest back) u b) (e : t ≡ false) (g : u ≡ false)
+        {r : Bool} (out : List ℕ) (m : MergesTo (names_at s (take h (put_mid h rest back b))) (names_at s (mid_of h (length (put_mid h rest back b) - h) (put_mid h rest back b))) r (names_at s out)) where
+      pub halves-joined : Sorts s p r out
+      halves-joined =
           subst (λ (l : List ℕ). Sorts s l r out) (take-append-drop h p)
-          (j (take h p) (drop h p)
-          (rw (both, take_at a b h (size ∙ half-size)) (rw e at one))
-          (rw (both, drop_at a b h (size ∙ half-size)) (rw (later, g) at other)))
+          (joined s (take h p) (drop h p) out (rw e at one) (rw (later, g) at other)
+          (rw (take_rest (put_mid h rest back b) h, both, take_at a b h (size ∙ half-size), drop_at a b h (size ∙ half-size)) at m))
+
+      -- a name met
+      pub halves-met : r ≡ true → (after : List ℕ) → Sorts s p true after
+      halves-met x after = twice s p after (sym halves-joined.says ∙ x)
 
   module _ (s : List ℕ) (out : List ℕ) {t : Bool} where
     pub left-twice : {c : List ℕ} → Sorts s (take h p) t c → t ≡ true → Sorts s p true out

@@ -6,30 +6,31 @@ use Rattle.text.specs.Names.{Name, same_name}
 use Rattle.text.specs.Lists.{every, any}
 use Rattle.text.proofs.Laws.Tests.{both_true, either_left, clash}
 use Rattle.text.proofs.Laws.Lists.{every-head, every_rest, every-weaker}
-use Rattle.reports.specs.declared.order.Order.{Order}
-use Rattle.reports.specs.declared.order.Order.TheVariants.{Before, Same, After}
-use Rattle.reports.specs.Code.Ordered.{order_of, is_before, is_same, comes_before, Rising, ahead, MergesTo}
+use Rattle.std.specs.declared.cmp.Ordering.{Ordering}
+use Rattle.std.specs.declared.cmp.Ordering.TheVariants.{Less, Equal, Greater}
+use Rattle.std.specs.Ordering.{is_lt, is_eq}
+use Rattle.reports.specs.Code.Ordered.{order_of, comes_before, Rising, ahead, MergesTo}
 use Rattle.reports.proofs.Laws.Ordered.Order.{same-is, order_same, turned, onto}
 use Rattle.reports.proofs.Laws.Ordered.Meets.{or-past, meets, meets-turned}
 
-before-is : (o : Order) → is_before o ≡ true → o ≡ Before
-before-is Before e = refl
-before-is Same e = cc
-before-is After e = cc
+before-is : (o : Ordering) → is_lt o ≡ true → o ≡ Less
+before-is Less e = refl
+before-is Equal e = cc
+before-is Greater e = cc
 
 -- before the first of a rising list is before all of it
-before-all : (n k : Name) (l : List Name) → order_of n k ≡ Before → every (comes_before k) l ≡ true → every (comes_before n) (k ∷ l) ≡ true
+before-all : (n k : Name) (l : List Name) → order_of n k ≡ Less → every (comes_before k) l ≡ true → every (comes_before n) (k ∷ l) ≡ true
 unfolding every
 before-all n k l e h =
-    both_true (ap is_before e)
-    (every-weaker (comes_before k) (comes_before n) (λ m t. ap is_before (onto n k m e (before-is (order_of k m) t))) l h)
+    both_true (ap is_lt e)
+    (every-weaker (comes_before k) (comes_before n) (λ m t. ap is_lt (onto n k m e (before-is (order_of k m) t))) l h)
 
-left-first : (n : Name) (l m : List Name) → ahead (n ∷ l) m ≡ Before → Rising m → every (comes_before n) m ≡ true
+left-first : (n : Name) (l m : List Name) → ahead (n ∷ l) m ≡ Less → Rising m → every (comes_before n) m ≡ true
 unfolding every
 left-first n l m e Rising.none = refl
 left-first n l m e (Rising.more {n = k} {l = r} h rest) = before-all n k r e h
 
-right-first : (n : Name) (l m : List Name) → ahead l (n ∷ m) ≡ After → Rising l → every (comes_before n) l ≡ true
+right-first : (n : Name) (l m : List Name) → ahead l (n ∷ m) ≡ Greater → Rising l → every (comes_before n) l ≡ true
 unfolding every
 right-first n l m e Rising.none = refl
 right-first n l m e (Rising.more {n = k} {l = r} h rest) = before-all n k r (turned k n e) h
@@ -39,11 +40,11 @@ not_in : (n : Name) (l : List Name) → every (comes_before n) l ≡ true → an
 unfolding any
 not_in n [] h = refl
 not_in n (m ∷ l) h =
-    let differ = same-is n m ∙ ap is_same (before-is (order_of n m) (every-head (comes_before n) m l h)) in
+    let differ = same-is n m ∙ ap is_eq (before-is (order_of n m) (every-head (comes_before n) m l h)) in
     rw differ (not_in n l (every_rest (comes_before n) m l h))
 
 -- both lists begin with the same name
-first-same : (l m : List Name) → ahead l m ≡ Same → meets l m ≡ true
+first-same : (l m : List Name) → ahead l m ≡ Equal → meets l m ≡ true
 unfolding any
 first-same [] m e = cc
 first-same (n ∷ l) [] e = cc

@@ -1,134 +1,115 @@
--- A merge on its way: i offsets of the part before half are out, and those of the other part up to j, k in all.
-use Prim.Native.Nat.{ℕ, ◌+◌, ◌≤◌, ◌<◌}
+-- A merge on its way: i offsets of the one part are out and j of the other, k in all.
+use Prim.Native.Nat.{ℕ, ◌+◌, ◌-◌, ◌≤◌, ◌<◌}
 use native.Mathlib.Omega.{arith}
 use native.Mathlib.Numerals.{add-one}
-use mathlib.Core.Path.{◌≡◌, sym, ap, subst, ◌∙◌}
+use mathlib.Core.Path.{◌≡◌, sym, ap, ap₂, subst, ◌∙◌}
 use mathlib.Core.Bool.{Bool, true, false}
 use mathlib.Core.List.{List, [], ◌∷◌, ◌++◌, map-append, append_assoc, append-nil}
 use lib.Dec.{ltb}
-use lib.ListN.{length, get_or, take, drop, set, length-set, length-take, take-append-drop, drop_of_length-le}
-use lib.Seq.{slice, slice-cons, drop-cons, take-suc-set, take_all}
+use lib.ListN.{length, get_or, take, drop, set, length-set, take-append-drop, drop_of_length-le}
+use lib.Seq.{drop-cons, take-suc-set, take_all}
 use borrow.Author.Tests.{ltb-true, ltb-false}
+use Rattle.std.proofs.lemmas.List.{take_rest}
+use Rattle.std.specs.declared.cmp.Ordering.{Ordering}
+use Rattle.std.specs.declared.cmp.Ordering.TheVariants.{Less, Equal, Greater}
 use Rattle.text.specs.Names.{Name}
 use Rattle.text.proofs.Laws.Tests.{cases, zero_one}
-use Rattle.reports.specs.declared.order.Order.TheVariants.{Before, Same, After}
-use Rattle.reports.specs.Code.Ordered.{name_at, names_at, order_of, ahead, MergesTo}
+use Rattle.reports.specs.Code.Ordered.{name_at, names_at, ahead, MergesTo}
+
+-- the names of a part from the i-th on
+abbrev pub names_past : List ℕ → List ℕ → ℕ → List Name
+names_past s part i = names_at s (drop i part)
+
+none_left : (s part : List ℕ) (i : ℕ) → length part ≤ i → names_past s part i ≡ []
+none_left s part i h = ap (names_at s) (drop_of_length-le part h)
+
+some_left : (s part : List ℕ) (i : ℕ) → i < length part → names_past s part i ≡ name_at s (get_or part i 0) ∷ names_past s part (i + 1)
+some_left s part i h = rw add-one (ap (names_at s) (drop-cons part i 0 h))
 
 -- whatever the rest merges to, the whole merges to it behind what is out already
-pub record Merging (s places : List ℕ) (half i j k : ℕ) (out : List ℕ) : Type 0 where
-  pub low : i ≤ half
-  pub within : half ≤ j
-  pub high : j ≤ length places
-  pub count : k + half ≡ i + j
-  pub size : length out ≡ length places
-  pub goes : (t : Bool) (l : List Name) → MergesTo (names_at s (slice i half places)) (names_at s (drop j places)) t l
-      → MergesTo (names_at s (take half places)) (names_at s (drop half places)) t (names_at s (take k out) ++ l)
+pub record Merging (s left right : List ℕ) (i j k : ℕ) (out : List ℕ) : Type 0 where
+  pub low : i ≤ length left
+  pub high : j ≤ length right
+  pub count : k ≡ i + j
+  pub size : length out ≡ length left + length right
+  pub goes : (t : Bool) (l : List Name) → MergesTo (names_past s left i) (names_past s right j) t l
+      → MergesTo (names_at s left) (names_at s right) t (names_at s (take k out) ++ l)
 
-module _ (s places : List ℕ) (half : ℕ) (fits : half ≤ length places) where
-  pub begun : (out : List ℕ) → length out ≡ length places → Merging s places half 0 half 0 out
-  begun out h = record { low = omega arith; within = omega arith; high = fits; count = omega arith; size = h; goes = λ t l r. r }
+module _ (s left right : List ℕ) where
+  pub begun : (out : List ℕ) → length out ≡ length left + length right → Merging s left right 0 0 0 out
+  begun out h = record { low = omega arith; high = omega arith; count = omega arith; size = h; goes = λ t l r. r }
 
-  -- what is left of each part
-  module _ (i j : ℕ) where
-    abbrev lefts : List Name
-    lefts = names_at s (slice i half places)
-
-    abbrev rights : List Name
-    rights = names_at s (drop j places)
-
-    left-empty : half ≤ i → lefts ≡ []
-    left-empty h = ap (names_at s) (drop_of_length-le (take half places) {i = i} (omega (arith, length-take half places)))
-
-    right-empty : length places ≤ j → rights ≡ []
-    right-empty h = ap (names_at s) (drop_of_length-le places h)
-
-    left-some : i < half → lefts ≡ name_at s (get_or places i 0) ∷ names_at s (slice (i + 1) half places)
-    left-some h = rw add-one (ap (names_at s) (slice-cons i half places 0 h fits))
-
-    right-some : j < length places → rights ≡ name_at s (get_or places j 0) ∷ names_at s (drop (j + 1) places)
-    right-some h = rw add-one (ap (names_at s) (drop-cons places j 0 h))
-
-    pub ahead-right : half ≤ i → ahead lefts rights ≡ After
-    ahead-right h = ap (λ (l : List Name). ahead l rights) (left-empty h)
-
-    pub ahead-left : i < half → length places ≤ j → ahead lefts rights ≡ Before
-    ahead-left h g = ap (λ (l : List Name). ahead l rights) (left-some h) ∙ ap (ahead (name_at s (get_or places i 0) ∷ names_at s (slice (i + 1) half places))) (right-empty g)
-
-    pub ahead-both : i < half → j < length places → ahead lefts rights ≡ order_of (name_at s (get_or places i 0)) (name_at s (get_or places j 0))
-    ahead-both h g = ap (λ (l : List Name). ahead l rights) (left-some h) ∙ ap (ahead (name_at s (get_or places i 0) ∷ names_at s (slice (i + 1) half places))) (right-some g)
+  module _ (i j k : ℕ) (out : List ℕ) (m : Merging s left right i j k out) where
+    -- the parts from i and j on, as they are lent
+    pub next-is : {r x : Ordering} → r ≡ ahead (names_at s (take (length left - i) (drop i left))) (names_at s (take (length right - j) (drop j right))) → r ≡ x
+        → ahead (names_past s left i) (names_past s right j) ≡ x
+    next-is e is =
+        sym (ap₂ (λ (l r : List ℕ). ahead (names_at s l) (names_at s r)) (take_rest left i) (take_rest right j)) ∙ sym e ∙ is
 
     -- some name is left in the part that gives the next
-    left-has : ahead lefts rights ≡ Before → i < half
-    left-has e = cases (ltb i half) (λ t. ltb-true i half t) (λ f. zero_one (let z = ahead-right (ltb-false i half f) in cc))
+    pub left-has : ahead (names_past s left i) (names_past s right j) ≡ Less → i < length left
+    left-has e =
+        cases (ltb i (length left)) (λ t. ltb-true i (length left) t)
+        (λ f. zero_one (let z = ap (λ (l : List Name). ahead l (names_past s right j)) (none_left s left i (ltb-false i (length left) f)) in cc))
 
-    right-has : (half ≤ i → j < length places) → ahead lefts rights ≡ After → j < length places
+    pub right-has : k < length out → ahead (names_past s left i) (names_past s right j) ≡ Greater → j < length right
     right-has h e =
-        cases (ltb j (length places)) (λ t. ltb-true j (length places) t)
-        (λ f. cases (ltb i half) (λ t. zero_one (let z = ahead-left (ltb-true i half t) (ltb-false j (length places) f) in cc)) (λ g. h (ltb-false i half g)))
+        cases (ltb j (length right)) (λ t. ltb-true j (length right) t)
+        (λ f.
+        let none : length right ≤ j = ltb-false j (length right) f in
+        let on : i < length left = omega (arith, m.count, m.size, m.high) in
+        zero_one (let z = ap (λ (l : List Name). ahead l (names_past s right j)) (some_left s left i on) ∙ ap (ahead (name_at s (get_or left i 0) ∷ names_past s left (i + 1))) (none_left s right j none) in cc))
 
-    module _ (k : ℕ) (out : List ℕ) (m : Merging s places half i j k out) where
-      -- what is out, with one more
-      one_out : (v : ℕ) (l : List Name) → k < length out → names_at s (take k out) ++ (name_at s v ∷ l) ≡ names_at s (take (k + 1) (set out k v)) ++ l
-      one_out v l h =
-          sym (ap (λ (n : ℕ). names_at s (take n (set out k v)) ++ l) (add-one k) ∙ ap (λ (x : List ℕ). names_at s x ++ l) (take-suc-set out k v h)
-          ∙ ap (λ (x : List Name). x ++ l) (map-append (name_at s) (take k out) (v ∷ [])) ∙ append_assoc (names_at s (take k out)) (name_at s v ∷ []) l)
+    -- what is out, with one more
+    one_out : (v : ℕ) (l : List Name) → k < length out → names_at s (take k out) ++ (name_at s v ∷ l) ≡ names_at s (take (k + 1) (set out k v)) ++ l
+    one_out v l h =
+        sym (ap (λ (n : ℕ). names_at s (take n (set out k v)) ++ l) (add-one k) ∙ ap (λ (x : List ℕ). names_at s x ++ l) (take-suc-set out k v h)
+        ∙ ap (λ (x : List Name). x ++ l) (map-append (name_at s) (take k out) (v ∷ [])) ∙ append_assoc (names_at s (take k out)) (name_at s v ∷ []) l)
 
-      left_out : k < length places → ahead lefts rights ≡ Before → Merging s places half (i + 1) j (k + 1) (set out k (get_or places i 0))
-      left_out h e =
-          let on : i < half = left-has e in
-          let here : k < length out = omega (arith, m.size) in
-          let v : ℕ = get_or places i 0 in
+    -- a turn of the loop: the next offset of the part that gives it is put out
+    module _ (h : k < length out) where
+      pub from-left : ahead (names_past s left i) (names_past s right j) ≡ Less → Merging s left right (i + 1) j (k + 1) (set out k (get_or left i 0))
+      from-left e =
+          let on : i < length left = left-has e in
+          let v : ℕ = get_or left i 0 in
           record {
             low = omega arith;
-            within = m.within;
             high = m.high;
             count = omega (arith, m.count);
             size = length-set out k v ∙ m.size;
             goes = λ t l r.
-                subst (MergesTo (names_at s (take half places)) (names_at s (drop half places)) t) (one_out v l here)
+                subst (MergesTo (names_at s left) (names_at s right) t) (one_out v l h)
                 (m.goes t (name_at s v ∷ l)
-                (subst (λ (x : List Name). MergesTo x rights t (name_at s v ∷ l)) (sym (left-some on))
-                (MergesTo.left (subst (λ (x : List Name). ahead x rights ≡ Before) (left-some on) e) r)));
+                (subst (λ (x : List Name). MergesTo x (names_past s right j) t (name_at s v ∷ l)) (sym (some_left s left i on))
+                (MergesTo.left (subst (λ (x : List Name). ahead x (names_past s right j) ≡ Less) (some_left s left i on) e) r)));
           }
 
-      right-out : k < length places → ahead lefts rights ≡ After → Merging s places half i (j + 1) (k + 1) (set out k (get_or places j 0))
-      right-out h e =
-          let on : j < length places = right-has (λ g. omega (arith, m.count, m.low)) e in
-          let here : k < length out = omega (arith, m.size) in
-          let v : ℕ = get_or places j 0 in
+      pub from-right : ahead (names_past s left i) (names_past s right j) ≡ Greater → Merging s left right i (j + 1) (k + 1) (set out k (get_or right j 0))
+      from-right e =
+          let on : j < length right = right-has h e in
+          let v : ℕ = get_or right j 0 in
           record {
             low = m.low;
-            within = omega (arith, m.within);
             high = omega arith;
             count = omega (arith, m.count);
             size = length-set out k v ∙ m.size;
             goes = λ t l r.
-                subst (MergesTo (names_at s (take half places)) (names_at s (drop half places)) t) (one_out v l here)
+                subst (MergesTo (names_at s left) (names_at s right) t) (one_out v l h)
                 (m.goes t (name_at s v ∷ l)
-                (subst (λ (x : List Name). MergesTo lefts x t (name_at s v ∷ l)) (sym (right-some on))
-                (MergesTo.right (subst (λ (x : List Name). ahead lefts x ≡ After) (right-some on) e) r)));
+                (subst (λ (x : List Name). MergesTo (names_past s left i) x t (name_at s v ∷ l)) (sym (some_left s right j on))
+                (MergesTo.right (subst (λ (x : List Name). ahead (names_past s left i) x ≡ Greater) (some_left s right j on) e) r)));
           }
 
-      -- a turn of the loop: the next offset of the part that gives it is put out
-      module _ {i₂ j₂ at : ℕ} (h : k < length places) where
-        pub from-left : ahead lefts rights ≡ Before → i₂ ≡ i + 1 → j₂ ≡ j → at ≡ i
-            → (at < length places) × Merging s places half i₂ j₂ (k + 1) (set out k (get_or places at 0))
-        from-left e p q r = rw (p, q, r) (omega (arith, left-has e), left_out h e)
+    pub met : ahead (names_past s left i) (names_past s right j) ≡ Equal → MergesTo (names_at s left) (names_at s right) true (names_at s out)
+    met e =
+        subst (MergesTo (names_at s left) (names_at s right) true)
+        (sym (map-append (name_at s) (take k out) (drop k out)) ∙ ap (names_at s) (take-append-drop k out))
+        (m.goes true (names_at s (drop k out)) (MergesTo.same e))
 
-        pub from-right : ahead lefts rights ≡ After → i₂ ≡ i → j₂ ≡ j + 1 → at ≡ j
-            → (at < length places) × Merging s places half i₂ j₂ (k + 1) (set out k (get_or places at 0))
-        from-right e p q r = rw (p, q, r) (right-has (λ g. omega (arith, m.count, m.low)) e, right-out h e)
-
-      pub met : ahead lefts rights ≡ Same → MergesTo (names_at s (take half places)) (names_at s (drop half places)) true (names_at s out)
-      met e =
-          subst (MergesTo (names_at s (take half places)) (names_at s (drop half places)) true)
-          (sym (map-append (name_at s) (take k out) (drop k out)) ∙ ap (names_at s) (take-append-drop k out))
-          (m.goes true (names_at s (drop k out)) (MergesTo.same e))
-
-      pub ended : length places ≤ k → MergesTo (names_at s (take half places)) (names_at s (drop half places)) false (names_at s out)
-      ended h =
-          subst (MergesTo (names_at s (take half places)) (names_at s (drop half places)) false)
-          (append-nil (names_at s (take k out)) ∙ ap (names_at s) (take_all k out (omega (arith, m.size))))
-          (m.goes false []
-          (subst (λ (x : List Name). MergesTo x rights false []) (sym (left-empty (omega (arith, m.count, m.low, m.high))))
-          (subst (λ (x : List Name). MergesTo [] x false []) (sym (right-empty (omega (arith, m.count, m.low, m.high)))) MergesTo.none)))
+    pub ended : length out ≤ k → MergesTo (names_at s left) (names_at s right) false (names_at s out)
+    ended h =
+        subst (MergesTo (names_at s left) (names_at s right) false)
+        (append-nil (names_at s (take k out)) ∙ ap (names_at s) (take_all k out h))
+        (m.goes false []
+        (subst (λ (x : List Name). MergesTo x (names_past s right j) false []) (sym (none_left s left i (omega (arith, m.count, m.size, m.low, m.high))))
+        (subst (λ (x : List Name). MergesTo [] x false []) (sym (none_left s right j (omega (arith, m.count, m.size, m.low, m.high)))) MergesTo.none)))

@@ -12,7 +12,7 @@ use lib.Dec.{ltb}
 use Rattle.text.specs.Names.{Name, in_name, begins_name, letter, digit}
 use Rattle.text.specs.Read.{front}
 use Rattle.text.proofs.Laws.Tests.{cases, clash}
-use Rattle.reports.specs.declared.order.Order.TheVariants.{Before, Same, After}
+use Rattle.std.specs.declared.cmp.Ordering.TheVariants.{Less, Equal, Greater}
 use Rattle.reports.specs.Code.Ordered.{name_at, first_byte, order_of}
 use Rattle.reports.proofs.Laws.Ordered.Order.{lower, higher, onwards}
 
@@ -55,10 +55,10 @@ module _ (s : List ℕ) (p : ℕ) where
 
 -- two names by their first bytes: one comes first, both end, or they go on together
 module _ (s : List ℕ) (p q : ℕ) {a b : ℕ} (one : a ≡ first_byte (name_at s p)) (other : b ≡ first_byte (name_at s q)) where
-  pub first-lower : a < b → order_of (name_at s p) (name_at s q) ≡ Before
+  pub first-lower : a < b → order_of (name_at s p) (name_at s q) ≡ Less
   first-lower h = lower (name_at s p) (name_at s q) (rw (one, other) at h)
 
-  pub first-higher : b < a → order_of (name_at s p) (name_at s q) ≡ After
+  pub first-higher : b < a → order_of (name_at s p) (name_at s q) ≡ Greater
   first-higher h = higher (name_at s p) (name_at s q) (rw (one, other) at h)
 
   module _ (low : b ≤ a) (high : a ≤ b) where
@@ -67,7 +67,7 @@ module _ (s : List ℕ) (p q : ℕ) {a b : ℕ} (one : a ≡ first_byte (name_at
         let e : a ≡ b = omega arith in
         sym one ∙ e ∙ other
 
-    pub both_end : a ≡ 0 → order_of (name_at s p) (name_at s q) ≡ Same
+    pub both_end : a ≡ 0 → order_of (name_at s p) (name_at s q) ≡ Equal
     unfolding order_of
     both_end z =
         let y : first_byte (name_at s p) ≡ 0 = sym one ∙ z in

@@ -8,19 +8,20 @@ use lib.Dec.{ltb}
 use borrow.Author.Tests.{ltb-true, ltb-false, lt-ltb, le-ltb, eq-eqb, ne_eqb}
 use Rattle.text.specs.Names.{Name, same_name}
 use Rattle.text.proofs.Laws.Tests.{cases}
-use Rattle.reports.specs.declared.order.Order.{Order}
-use Rattle.reports.specs.declared.order.Order.TheVariants.{Before, Same, After}
-use Rattle.reports.specs.Code.Ordered.{first_byte, order_of, is_same}
+use Rattle.std.specs.declared.cmp.Ordering.{Ordering}
+use Rattle.std.specs.declared.cmp.Ordering.TheVariants.{Less, Equal, Greater}
+use Rattle.std.specs.Ordering.{is_eq}
+use Rattle.reports.specs.Code.Ordered.{first_byte, order_of}
 
 -- by the first bytes
-pub lower : (m n : Name) → first_byte m < first_byte n → order_of m n ≡ Before
+pub lower : (m n : Name) → first_byte m < first_byte n → order_of m n ≡ Less
 unfolding order_of
 lower [] [] h = absurd (omega arith)
 lower [] (b ∷ n) h = refl
 lower (a ∷ m) [] h = absurd (omega arith)
 lower (a ∷ m) (b ∷ n) h = rw (lt-ltb a b h)
 
-pub higher : (m n : Name) → first_byte n < first_byte m → order_of m n ≡ After
+pub higher : (m n : Name) → first_byte n < first_byte m → order_of m n ≡ Greater
 unfolding order_of
 higher [] [] h = absurd (omega arith)
 higher [] (b ∷ n) h = absurd (omega arith)
@@ -41,7 +42,7 @@ by_bytes a b low same high =
     (λ f. cases (ltb b a) (λ t. high (ltb-true b a t)) (λ g. same (omega (arith, ltb-false a b f, ltb-false b a g))))
 
 -- the same exactly if the bytes are the same
-pub same-is : (m n : Name) → same_name m n ≡ is_same (order_of m n)
+pub same-is : (m n : Name) → same_name m n ≡ is_eq (order_of m n)
 unfolding same_name order_of
 same-is [] [] = refl
 same-is [] (b ∷ n) = refl
@@ -52,18 +53,18 @@ same-is (a ∷ m) (b ∷ n) =
     (λ e. rw (eq-eqb a b e, le-ltb a b (omega arith), le-ltb b a (omega arith)) (same-is m n))
     (λ h. rw (ne_eqb a b (λ e. omega arith), le-ltb a b (omega arith), lt-ltb b a h))
 
-pub order_same : (m n : Name) → order_of m n ≡ Same → same_name m n ≡ true
-order_same m n e = same-is m n ∙ ap is_same e
+pub order_same : (m n : Name) → order_of m n ≡ Equal → same_name m n ≡ true
+order_same m n e = same-is m n ∙ ap is_eq e
 
-pub same-order : (m n : Name) → same_name m n ≡ true → order_of m n ≡ Same
+pub same-order : (m n : Name) → same_name m n ≡ true → order_of m n ≡ Equal
 same-order m n e = told (order_of m n) (sym (same-is m n) ∙ e)
   where
-    told : (o : Order) → is_same o ≡ true → o ≡ Same
-    told Before t = cc
-    told Same t = refl
-    told After t = cc
+    told : (o : Ordering) → is_eq o ≡ true → o ≡ Equal
+    told Less t = cc
+    told Equal t = refl
+    told Greater t = cc
 
-pub turned : (m n : Name) → order_of m n ≡ After → order_of n m ≡ Before
+pub turned : (m n : Name) → order_of m n ≡ Greater → order_of n m ≡ Less
 unfolding order_of
 turned [] [] e = cc
 turned [] (b ∷ n) e = cc
@@ -74,7 +75,7 @@ turned (a ∷ m) (b ∷ n) e =
     (λ h. onwards b a n m (sym h) ∙ turned m n (sym (onwards a b m n h) ∙ e))
     (λ h. lower (b ∷ n) (a ∷ m) h)
 
-pub onto : (k m n : Name) → order_of k m ≡ Before → order_of m n ≡ Before → order_of k n ≡ Before
+pub onto : (k m n : Name) → order_of k m ≡ Less → order_of m n ≡ Less → order_of k n ≡ Less
 unfolding order_of
 onto [] [] n e g = g
 onto [] (b ∷ m) [] e g = cc

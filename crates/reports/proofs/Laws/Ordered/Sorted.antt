@@ -4,12 +4,13 @@ use native.Mathlib.Omega.{arith}
 use mathlib.Core.Path.{◌≡◌, refl, sym, ap, ap₂, ◌∙◌}
 use mathlib.Core.Bool.{Bool, true, false, ◌||◌, or-true}
 use mathlib.Core.List.{List, [], ◌∷◌, ◌++◌, map-append}
-use lib.ListN.{length, get_or, set}
+use lib.ListN.{length, get_or}
+use Rattle.std.specs.List.{swap}
 use Rattle.text.specs.Names.{same_name}
 use Rattle.text.specs.Lists.{every, any}
 use Rattle.text.proofs.Laws.Tests.{clash}
 use Rattle.documents.specs.Repeats.{repeated}
-use Rattle.reports.specs.declared.order.Order.TheVariants.{Before, Same, After}
+use Rattle.std.specs.declared.cmp.Ordering.TheVariants.{Less, Equal, Greater}
 use Rattle.reports.specs.Code.Ordered.{name_at, names_at, order_of, Rising, MergesTo, Sorts}
 use Rattle.reports.proofs.Laws.Ordered.Meets.{any_append, meets, meets-like, repeated-append}
 use Rattle.reports.proofs.Laws.Ordered.Merge.{merge-says, merge-rises, merge-any}
@@ -53,20 +54,20 @@ module _ (s : List ℕ) where
     }
 
   -- two, by their order
-  pub two-before : (p : List ℕ) → length p ≡ 2 → order_of (name_at s (get_or p 0 0)) (name_at s (get_or p 1 0)) ≡ Before → Sorts s p false p
+  pub two-before : (p : List ℕ) → length p ≡ 2 → order_of (name_at s (get_or p 0 0)) (name_at s (get_or p 1 0)) ≡ Less → Sorts s p false p
   two-before [] h e = absurd (omega arith)
   two-before (a ∷ []) h e = absurd (omega arith)
   two-before (a ∷ b ∷ []) h e = joined (a ∷ []) (b ∷ []) (a ∷ b ∷ []) (one a) (one b) (MergesTo.left e (MergesTo.right refl MergesTo.none))
   two-before (a ∷ b ∷ c ∷ p) h e = absurd (omega arith)
 
-  pub two-same : (p : List ℕ) → length p ≡ 2 → order_of (name_at s (get_or p 0 0)) (name_at s (get_or p 1 0)) ≡ Same → Sorts s p true p
+  pub two-same : (p : List ℕ) → length p ≡ 2 → order_of (name_at s (get_or p 0 0)) (name_at s (get_or p 1 0)) ≡ Equal → Sorts s p true p
   two-same [] h e = absurd (omega arith)
   two-same (a ∷ []) h e = absurd (omega arith)
   two-same (a ∷ b ∷ []) h e = joined (a ∷ []) (b ∷ []) (a ∷ b ∷ []) (one a) (one b) (MergesTo.same e)
   two-same (a ∷ b ∷ c ∷ p) h e = absurd (omega arith)
 
-  pub two-after : (p : List ℕ) → length p ≡ 2 → order_of (name_at s (get_or p 0 0)) (name_at s (get_or p 1 0)) ≡ After
-      → Sorts s p false (set (set p 0 (get_or p 1 0)) 1 (get_or p 0 0))
+  pub two-after : (p : List ℕ) → length p ≡ 2 → order_of (name_at s (get_or p 0 0)) (name_at s (get_or p 1 0)) ≡ Greater
+      → Sorts s p false (swap p 0 1)
   two-after [] h e = absurd (omega arith)
   two-after (a ∷ []) h e = absurd (omega arith)
   two-after (a ∷ b ∷ []) h e = joined (a ∷ []) (b ∷ []) (b ∷ a ∷ []) (one a) (one b) (MergesTo.right e (MergesTo.left refl MergesTo.none))

@@ -26,16 +26,16 @@ use Rattle.documents.proofs.Laws.Printed.AttributesBack.{attribute-begins, forme
 use Rattle.documents.proofs.Laws.Read.ByteTests.{blank-high}
 use Rattle.documents.proofs.Laws.Read.PartsSound.{attribute-sound, part_sound}
 use Rattle.documents.proofs.Laws.Read.Quotes.{quote-sound}
-use Rattle.reports.specs.declared.tags.Reach.{Reach}
-use Rattle.reports.specs.declared.tags.Reach.TheVariants.{No, To}
+use Rattle.std.proofs.Common.{Option, None, Some, MatchOption}
 use Rattle.reports.specs.declared.attributes.Next.{Next}
-use Rattle.reports.specs.declared.attributes.Next.TheVariants.{Done, Torn, At}
-use Rattle.reports.specs.Code.Reaches.{names_in, names_from}
+use Rattle.reports.specs.declared.attributes.Next.TheVariants.{Blanks, Attribute as AttributeAt}
+use Rattle.reports.specs.declared.attributes.Noted.{Noted}
+use Rattle.reports.specs.Code.Reaches.{reach_of, reach, blanks_to, read_inside, names_in, names_from}
 use Rattle.reports.specs.Code.Ordered.{name_at, names_at}
-use Rattle.reports.specs.Code.Attributes.{blanks_to, next_of, next_from, kept, Notes, Inside}
+use Rattle.reports.specs.Code.Attributes.{next_of, next_from, kept, Notes, inside_of, inside_from}
+use Rattle.reports.specs.Code.Seen.{has_byte}
 use Rattle.reports.specs.Seen.{judged}
-use Rattle.reports.proofs.Laws.Read.Reaches.{suffix-drop}
-use Rattle.reports.proofs.Laws.Read.Offsets.{back_at, left_at}
+use Rattle.reports.proofs.Laws.Read.Reaches.{left-drop, left-end, never, blanks-left, blanks-no}
 use Rattle.reports.proofs.Laws.Read.Inside.{no-blanks}
 
 -- the name of an attribute that was read is the name bytes that it begins with
@@ -54,11 +54,11 @@ named f l =
     then-holds (word_sound (quote_byte q ∷ []) r₄) (λ u r₅ close. gotten name)))))
 
 -- what the attributes from an offset are, by what comes next
-pub data After (s : List ℕ) (i : ℕ) : Next → Type 0 where
-  done : {n : ℕ} → n ≡ blanks_to s i → read_attributes (drop i s) ≡ got [] (drop i s) → After s i (Done n)
-  torn : read_attributes (drop i s) ≡ fail → After s i Torn
+data After (s : List ℕ) (i : ℕ) : Option Next → Type 0 where
+  done : {n : ℕ} → n ≡ blanks_to s i → read_attributes (drop i s) ≡ got [] (drop i s) → After s i (Some (Blanks n))
+  torn : read_attributes (drop i s) ≡ fail → After s i None
   one : {n e : ℕ} (a : Attribute) → read_attributes (drop i s) ≡ then_read (read_attributes (drop e s)) (λ m r. got (a ∷ m) r) → attribute_name a ≡ name_at s n
-      → (n < length s) × (i < e) × (e ≤ length s) → After s i (At n e)
+      → (n < length s) × (i < e) × (e ≤ length s) → After s i (Some (AttributeAt n e))
 
 some_bytes : (l : List ℕ) → non_empty l ≡ true → 1 ≤ length l
 some_bytes [] h = clash h refl
@@ -73,28 +73,28 @@ some_left : (l : List ℕ) → name_ahead l ≡ true → 1 ≤ length l
 some_left [] t = clash t refl
 some_left (b ∷ l) t = omega arith
 
-module _ (s : List ℕ) (i : ℕ) (h : i ≤ length s) where
+module _ (s : List ℕ) (i : ℕ) where
   l : List ℕ
   l = drop i s
 
   after : After s i (next_from s i)
-  unfolding l
+  unfolding next_from l
   after = cases (attribute_ahead l) (λ t. rw t (go t (read_attribute l) refl)) (λ f. rw f (done refl (many-none attribute_ahead read_attribute l f)))
     where
       go : attribute_ahead l ≡ true → (m : Read Attribute) → read_attribute l ≡ m → After s i (next_of (length s) (blanks_to s i) m)
       go t fail e = torn (rw (many_more attribute-begins attribute-sound l t, e))
       go t (got a r) e =
           let printed = (holds-got (rw e at (attribute-sound.sound l t))).1 in
-          let (rest, end) = suffix-drop s (print_attribute a) r i h printed in
+          let rest = left-drop s (print_attribute a) r i printed in
           let less : length r < length l = holds-got (rw e at (shorter attribute-begins attribute-sound l t)) in
-          let (behind, low, high) = back_at s blank i (blanks_to s i) h refl in
+          let behind = blanks-left s i in
           let name : attribute_name a ≡ front in_name (back blank l) = holds-got (rw e at (named (front blank l) (back blank l))) in
           let some = some_left (back blank l) (and_right (non_empty (front blank l)) (name_ahead (back blank l)) t) in
           one {n = blanks_to s i} {e = length s - length r} a (rw (many_more attribute-begins attribute-sound l t, e, rest)) (name ∙ ap (front in_name) behind)
           (omega (arith, ap length behind, length-drop (blanks_to s i) s), omega (arith, length-drop i s), omega arith)
 
-  pub comes : {r x : Next} → r ≡ next_from s i → r ≡ x → After s i x
-  comes e is = rw (sym e ∙ is) at after
+  comes : {x : Option Next} → next_from s i ≡ x → After s i x
+  comes is = rw is at after
 
 then-got : {A : Type 0} (m : Read A) → m ≡ then_read m got
 then-got fail = refl
@@ -106,8 +106,18 @@ behind-one : (l : List Attribute) (a : Attribute) (m : Read (List Attribute))
 behind-one l a fail = refl
 behind-one l a (got x r) = rw append_assoc
 
-pub goes_on : {s : List ℕ} {i n e : ℕ} → After s i (At n e) → (i < e) × (e ≤ length s)
-goes_on (one a is name bounds) = (bounds.1, bounds.2)
+module _ (s : List ℕ) (i n e : ℕ) (is : next_from s i ≡ Some (AttributeAt n e)) where
+  pub goes_on : i < e
+  goes_on = go (comes s i is)
+    where
+      go : After s i (Some (AttributeAt n e)) → i < e
+      go (one a read name bounds) = bounds.1
+
+  pub goes-within : e ≤ length s
+  goes-within = go (comes s i is)
+    where
+      go : After s i (Some (AttributeAt n e)) → e ≤ length s
+      go (one a read name bounds) = bounds.2
 
 -- the attributes that were passed from an offset to another, and what was noted of them
 pub record Passed (s : List ℕ) (at i count : ℕ) (places : List ℕ) : Type 0 where
@@ -121,12 +131,12 @@ passed_none s at places = record { passed = []; read = then-got (read_attributes
 
 module _ (s : List ℕ) (at i count : ℕ) (places : List ℕ) (p : Passed s at i count places) where
   -- the next is passed, and noted if there is room
-  module _ {n e : ℕ} (a : After s i (At n e)) where
+  module _ {n e : ℕ} (next : next_from s i ≡ Some (AttributeAt n e)) where
     next-read : (b : Attribute) × (attribute_name b ≡ name_at s n) × (n < length s)
         × (read_attributes (drop at s) ≡ then_read (read_attributes (drop e s)) (λ m r. got ((p.passed ++ (b ∷ [])) ++ m) r))
-    next-read = go a
+    next-read = go (comes s i next)
       where
-        go : After s i (At n e) → (b : Attribute) × (attribute_name b ≡ name_at s n) × (n < length s)
+        go : After s i (Some (AttributeAt n e)) → (b : Attribute) × (attribute_name b ≡ name_at s n) × (n < length s)
             × (read_attributes (drop at s) ≡ then_read (read_attributes (drop e s)) (λ m r. got ((p.passed ++ (b ∷ [])) ++ m) r))
         go (one b is name (inside, low, high)) = (b, name, inside, rw is at p.read ∙ behind-one p.passed b (read_attributes (drop e s)))
 
@@ -157,27 +167,25 @@ module _ (s : List ℕ) (at i count : ℕ) (places : List ℕ) (p : Passed s at 
         (λ t. rw t (passed-noted (ltb-true count (length places) t)))
         (λ f. rw f (passed-full (ltb-false count (length places) f)))
 
-  pub noted-done : {n : ℕ} → i ≤ length s → After s i (Done n) → Notes s at (To n) count places
-  noted-done {n} h a = go a
+  pub noted-done : {n : ℕ} → next_from s i ≡ Some (Blanks n) → Notes s at n count places
+  unfolding reach
+  noted-done {n} next = go (comes s i next)
     where
-      go : After s i (Done n) → Notes s at (To n) count places
+      go : After s i (Some (Blanks n)) → Notes s at n count places
       go (done is none) =
           let all : read_attributes (drop at s) ≡ got p.passed (drop i s) = rw (none, append-nil) at p.read in
-          let (behind, low, high) = back_at s blank i n h is in
           let names : names_from s at ≡ map attribute_name p.passed = ap names_in all in
           record {
-            reaches = rw (all, behind) (ap To (left_at s n high));
+            reaches = rw all (ap Some is);
             counts = p.counts ∙ sym (ap length names ∙ length-map p.passed attribute_name);
             noted = λ short room. p.noted short room ∙ sym names;
           }
 
-  pub noted-torn : After s i Torn → Notes s at No 0 places
-  noted-torn a = go a
+  pub noted-torn : next_from s i ≡ None → read_attributes (drop at s) ≡ fail
+  noted-torn next = go (comes s i next)
     where
-      go : After s i Torn → Notes s at No 0 places
-      go (torn none) =
-          let all : read_attributes (drop at s) ≡ fail = rw none at p.read in
-          record { reaches = rw all; counts = ap length (sym (ap names_in all)); noted = λ short room. sym (ap names_in all) }
+      go : After s i None → read_attributes (drop at s) ≡ fail
+      go (torn none) = rw none at p.read
 
 -- Each attribute has five bytes at least: a blank, a name, `=` and two quotes
 
@@ -228,22 +236,51 @@ module _ (s : List ℕ) (at count : ℕ) (is : count ≡ length (names_from s at
     pub judged-by : (twice : Bool) → twice ≡ repeated (names_from s at) → twice ≡ judged (length s) (names_from s at)
     judged-by twice e = rw (le-leb (length s) max_report_bytes short) e
 
-    pub all_noted : (reach : Reach) (n : ℕ) (places : List ℕ) → Notes s at reach n places → count ≤ length places → (twice : Bool)
-        → twice ≡ repeated (names_at s (take count places)) → twice ≡ repeated (names_from s at)
-    all_noted reach n places l room twice e =
-        let same : count ≡ n = is ∙ sym l.counts in
-        e ∙ ap repeated (ap (λ (k : ℕ). names_at s (take k places)) same ∙ l.noted short (omega arith))
+    -- what a second look notes
+    pub all_noted : (r : Option Noted) (places : List ℕ) → MatchOption r (read_attributes (drop at s) ≡ fail) (λ n. Notes s at n.end n.count places)
+        → count ≤ length places → (twice : Bool) → twice ≡ repeated (names_at s (take count places)) → twice ≡ repeated (names_from s at)
+    all_noted r places noted room twice e = go r noted
+      where
+        go : (r : Option Noted) → MatchOption r (read_attributes (drop at s) ≡ fail) (λ n. Notes s at n.end n.count places) → twice ≡ repeated (names_from s at)
+        go None none =
+            let names : names_from s at ≡ [] = ap names_in none in
+            let zero : count ≡ 0 = is ∙ ap length names in
+            e ∙ ap repeated (ap (λ (k : ℕ). names_at s (take k places)) zero ∙ sym names)
+        go (Some n) notes =
+            let same : count ≡ n.count = is ∙ sym notes.counts in
+            e ∙ ap repeated (ap (λ (k : ℕ). names_at s (take k places)) same ∙ notes.noted short (omega arith))
 
     pub both-noted : (places : List ℕ) → 2 ≤ length places → count ≡ 2 → names_at s (take count places) ≡ names_from s at → (twice : Bool)
         → twice ≡ same_name (name_at s (get_or places 0 0)) (name_at s (get_or places 1 0)) → twice ≡ repeated (names_from s at)
     both-noted places room two noted twice e =
         e ∙ sym (two-names s places room) ∙ ap repeated (ap (λ (k : ℕ). names_at s (take k places)) (sym two) ∙ noted)
 
--- no attributes where a slash follows the name
-pub none_inside : (s : List ℕ) (at : ℕ) → (ltb at (length s) && eqb (get_or s at 0) 47) ≡ true → Inside s at (To at) false
-unfolding repeated
-none_inside s at t =
-    let inside = ltb-true at (length s) (and_left _ _ t) in
-    let slash = eqb-true (get_or s at 0) 47 (and_right (ltb at (length s)) _ t) in
-    let (reach, names) = no-blanks s at at (omega arith) (sym (span-no blank s at inside (blank-high (get_or s at 0) (omega arith)))) refl in
-    record { reaches = reach; repeats = sym (ap (judged (length s)) names ∙ and-false (leb (length s) max_report_bytes)) }
+module _ (s : List ℕ) (at : ℕ) where
+  -- no attributes where a slash follows the name
+  pub none_inside : has_byte s at 47 ≡ true → inside_from s at ≡ Some (record { end = at; twice = false })
+  unfolding inside_from repeated
+  none_inside t =
+      let inside = ltb-true at (length s) (and_left _ _ t) in
+      let slash = eqb-true (get_or s at 0) 47 (and_right (ltb at (length s)) _ t) in
+      let to : blanks_to s at ≡ at = blanks-no s at inside (blank-high (get_or s at 0) (omega arith)) in
+      let none = no-blanks s at (blanks_to s at) refl to in
+      rw (none, to, and-false)
+
+  pub torn_inside : read_attributes (drop at s) ≡ fail → inside_from s at ≡ None
+  unfolding inside_from
+  torn_inside e = rw e
+
+  pub told_inside : (end : ℕ) (twice : Bool) → Some end ≡ reach read_inside s at → twice ≡ judged (length s) (names_from s at)
+      → inside_from s at ≡ Some (record { end = end; twice = twice })
+  unfolding inside_from reach
+  told_inside end twice e t = go (read_attributes (drop at s)) e t
+    where
+      go : (m : Read (List Attribute)) → Some end ≡ reach_of (length s) (then_read m (λ l r. got l (back blank r))) → twice ≡ judged (length s) (names_in m)
+          → inside_of (length s) (then_read m (λ l r. got l (back blank r))) ≡ Some (record { end = end; twice = twice })
+      go fail e t = never (sym e)
+      go (got l r) e t = cc
+
+-- by what was noted
+pub ruleset insides = (none_inside, torn_inside, told_inside)
+
+pub ruleset notings = (goes_on, goes-within, passed_none, passed-next, noted-done, noted-torn)

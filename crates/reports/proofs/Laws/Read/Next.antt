@@ -11,7 +11,7 @@ use Rattle.documents.specs.Reading.{read_token, read_tokens}
 use Rattle.documents.proofs.Laws.Printed.OneRun.{token-length, read_more}
 use Rattle.text.proofs.Laws.Reads.{holds-got, then_same}
 use Rattle.documents.proofs.Laws.Read.ReadSound.{Good, token-sound}
-use Rattle.reports.proofs.Laws.Read.Reaches.{suffix-drop}
+use Rattle.reports.proofs.Laws.Read.Reaches.{left-drop}
 
 shorter : (l : List ℕ) (t : Token) (r : List ℕ) → Good l t r → length r < length l
 shorter l t r g = omega (arith, token-length t g.0, length-append (print_token t) r, ap length g.1)
@@ -44,8 +44,7 @@ module _ (s : List ℕ) (at : ℕ) where
   token-next t r e =
       let g = holds-got (rw e at (token-sound (drop at s))) in
       let less = shorter (drop at s) t r g in
-      let inside : at ≤ length s = omega (arith, length-drop at s) in
-      ((suffix-drop s (print_token t) r at inside g.1).0, omega (arith, length-drop at s), omega arith)
+      (left-drop s (print_token t) r at g.1, omega (arith, length-drop at s), omega arith)
 
   pub from_end : (first : Bool) → length s ≤ at → tokens_from s first at ≡ got [] []
   unfolding read_tokens

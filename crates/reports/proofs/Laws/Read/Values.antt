@@ -6,30 +6,32 @@ use mathlib.Core.Path.{◌≡◌, refl, sym, ap, ◌∙◌}
 use mathlib.Core.Bool.{Bool, true, false}
 use mathlib.Core.List.{List, [], ◌∷◌, ◌++◌, append_assoc}
 use borrow.Author.Tests.{eq-eqb, ne_eqb}
-use lib.ListN.{length, get_or, drop, length-drop, drop_of_length-le}
+use lib.ListN.{length, get_or, drop, drop_of_length-le}
 use lib.Seq.{drop-cons}
-use Rattle.reports.specs.declared.tags.Reach.{Reach}
-use Rattle.reports.specs.declared.tags.Reach.TheVariants.{No, To}
-use Rattle.documents.specs.Tokens.{plain, reference}
-use Rattle.text.specs.Read.{Read, fail, got, then_read, read_up_to}
+use Rattle.std.proofs.Common.{Option, None, Some}
+use Rattle.documents.specs.Tokens.{plain, reference, in_text, in_value}
+use Rattle.text.specs.Read.{Read, fail, got, then_read, read_up_to, read_word}
 use Rattle.documents.specs.Reading.{read_reference, part_ahead, read_part, read_parts}
-use Rattle.reports.specs.Code.Reaches.{reach_of}
+use Rattle.reports.specs.Code.Reaches.{reach_of, reach, read_quoted}
 use Rattle.text.proofs.Laws.Reads.{holds-map}
 use Rattle.text.proofs.Laws.ReadMany.{many-none, many_more}
+use Rattle.documents.proofs.Laws.Read.ByteTests.{value-quote, value-last}
 use Rattle.documents.proofs.Laws.Read.PartsSound.{reference-sound, part_sound}
 use Rattle.documents.proofs.Laws.Printed.PartsBack.{part-begins}
-use Rattle.reports.proofs.Laws.Read.Reaches.{Suffix, never, reached}
-
-pub reach-map : {A B : Type 0} (total : ℕ) (m : Read A) (f : A → B) → reach_of total (then_read m (λ a r. got (f a) r)) ≡ reach_of total m
-reach-map total fail f = refl
-reach-map total (got a r) f = refl
-
-pub reach-no : {A : Type 0} (total : ℕ) (m : Read A) → reach_of total m ≡ No → m ≡ fail
-reach-no total fail e = refl
-reach-no total (got a r) e = never (sym e)
+use Rattle.reports.proofs.Laws.Read.Reaches.{Suffix, reached, reach-no, left_at}
 
 pub reference-suffix : (l : List ℕ) → Suffix l (read_reference l)
 reference-suffix l = holds-map (reference-sound l) (λ n r g. (n ++ (59 ∷ []), append_assoc n (59 ∷ []) r ∙ g.1))
+
+-- a reference ends past its `&`, and within the bytes
+module _ (s : List ℕ) (i e : ℕ) (h : i < length s) (to : reach read_reference s (i + 1) ≡ Some e) where
+  pub reference-past : i < e
+  reference-past =
+      let low : i + 1 ≤ e = (reached s (i + 1) read_reference e reference-suffix to).2 (omega arith) in
+      omega arith
+
+  pub reference-within : e ≤ length s
+  reference-within = (reached s (i + 1) read_reference e reference-suffix to).3
 
 -- the parts from an offset, by the byte there
 module _ (ok : ℕ → Bool) (s : List ℕ) (i : ℕ) (h : i < length s) where
@@ -56,27 +58,53 @@ module _ (ok : ℕ → Bool) (s : List ℕ) (i : ℕ) (h : i < length s) where
     pub plain-none : ok (get_or s i 0) ≡ false → read_parts ok (drop i s) ≡ got [] (drop i s)
     plain-none f = many-none (part_ahead ok) read_part (drop i s) (rw (drop-cons s i 0 h, ne_eqb (get_or s i 0) 38 n, f))
 
--- how far the parts from an offset go
-abbrev pub PartsReach : (ℕ → Bool) → List ℕ → ℕ → Reach
-PartsReach ok s i = reach_of (length s) (read_parts ok (drop i s))
+-- what a reading makes of a value has no part in how far the rest goes
+on_past : {A B C : Type 0} (total : ℕ) (m : Read A) (f : A → B) (k : List ℕ → Read C)
+    → reach_of total (then_read (then_read m (λ a r. got (f a) r)) (λ b r. k r)) ≡ reach_of total (then_read m (λ a r. k r))
+on_past total fail f k = refl
+on_past total (got a r) f k = refl
 
-module _ (ok : ℕ → Bool) (s : List ℕ) (i : ℕ) where
-  pub amp-no : i < length s → get_or s i 0 ≡ 38 → reach_of (length s) (read_reference (drop (i + 1) s)) ≡ No → PartsReach ok s i ≡ No
-  amp-no h a e = ap (reach_of (length s)) (amp-none ok s i h a (reach-no (length s) (read_reference (drop (i + 1) s)) e))
+-- how far a value and its quote go from an offset, by the byte there
+module _ (s : List ℕ) (quote i : ℕ) where
+  abbrev Quoted : ℕ → Option ℕ
+  Quoted n = reach (read_quoted quote) s n
 
-  pub amp-to : i < length s → get_or s i 0 ≡ 38 → (e : ℕ) → reach_of (length s) (read_reference (drop (i + 1) s)) ≡ To e
-      → (i < e) × (e ≤ length s) × (PartsReach ok s i ≡ PartsReach ok s e)
-  amp-to h a e k =
-      let (n, is, low, high) = reached s (i + 1) (omega arith) (read_reference (drop (i + 1) s)) e (reference-suffix (drop (i + 1) s)) k in
-      (omega arith, high, ap (reach_of (length s)) (amp-got ok s i h a is) ∙ reach-map (length s) (read_parts ok (drop e s)) (λ ps. reference n ∷ ps))
+  pub quoted-amp-no : i < length s → get_or s i 0 ≡ 38 → reach read_reference s (i + 1) ≡ None → Quoted i ≡ None
+  unfolding reach
+  quoted-amp-no h a e =
+      ap (λ (m : Read (List _)). reach_of (length s) (then_read m (λ v r. read_word (quote ∷ []) r)))
+      (amp-none (in_value quote) s i h a (reach-no read_reference s (i + 1) e))
 
-  pub plain-on : i < length s → (get_or s i 0 ≡ 38 → ⊥) → ok (get_or s i 0) ≡ true → PartsReach ok s i ≡ PartsReach ok s (i + 1)
-  plain-on h n t =
-      ap (reach_of (length s)) (plain-got ok s i h n t) ∙ reach-map (length s) (read_parts ok (drop (i + 1) s)) (λ ps. plain (get_or s i 0) ∷ ps)
+  pub quoted-amp : i < length s → get_or s i 0 ≡ 38 → (e : ℕ) → reach read_reference s (i + 1) ≡ Some e → Quoted i ≡ Quoted e
+  unfolding reach
+  quoted-amp h a e k =
+      let (n, is, low, high) = reached s (i + 1) read_reference e reference-suffix k in
+      ap (λ (m : Read (List _)). reach_of (length s) (then_read m (λ v r. read_word (quote ∷ []) r))) (amp-got (in_value quote) s i h a is)
+      ∙ on_past (length s) (read_parts (in_value quote) (drop e s)) (λ ps. reference n ∷ ps) (read_word (quote ∷ []))
 
-  pub plain-off : i < length s → (get_or s i 0 ≡ 38 → ⊥) → ok (get_or s i 0) ≡ false → PartsReach ok s i ≡ To i
-  plain-off h n t = ap (reach_of (length s)) (plain-none ok s i h n t) ∙ ap To (omega (arith, length-drop i s))
+  module _ (h : i < length s) (n : get_or s i 0 ≡ 38 → ⊥) where
+    pub quoted-to : get_or s i 0 ≡ quote → Quoted i ≡ Some (i + 1)
+    unfolding reach read_word
+    quoted-to e =
+        rw (plain-none (in_value quote) s i h n (value-quote (get_or s i 0) quote e), drop-cons s i 0 h, eq-eqb quote (get_or s i 0) (sym e), ← add-one i)
+        (ap Some (sym (left_at s (i + 1) (omega arith))))
 
-  pub parts-end : i ≤ length s → length s ≤ i → PartsReach ok s i ≡ To i
-  unfolding read_up_to
-  parts-end h k = rw (drop_of_length-le s k) (ap To (omega arith))
+    module _ (m : get_or s i 0 ≡ quote → ⊥) where
+      pub quoted-plain : in_text (get_or s i 0) ≡ true → Quoted i ≡ Quoted (i + 1)
+      unfolding reach
+      quoted-plain t =
+          ap (λ (m : Read (List _)). reach_of (length s) (then_read m (λ v r. read_word (quote ∷ []) r)))
+          (plain-got (in_value quote) s i h n (value-last (get_or s i 0) quote m ∙ t))
+          ∙ on_past (length s) (read_parts (in_value quote) (drop (i + 1) s)) (λ ps. plain (get_or s i 0) ∷ ps) (read_word (quote ∷ []))
+
+      pub quoted-off : in_text (get_or s i 0) ≡ false → Quoted i ≡ None
+      unfolding reach read_word
+      quoted-off f =
+          rw (plain-none (in_value quote) s i h n (value-last (get_or s i 0) quote m ∙ f), drop-cons s i 0 h, ne_eqb quote (get_or s i 0) (λ e. m (sym e)))
+
+  pub quoted-end : length s ≤ i → Quoted i ≡ None
+  unfolding reach read_up_to read_word
+  quoted-end h = rw (drop_of_length-le s h)
+
+-- by the byte there
+pub ruleset quotes = (reference-past, reference-within, quoted-amp-no, quoted-amp, quoted-to, quoted-plain, quoted-off, quoted-end)

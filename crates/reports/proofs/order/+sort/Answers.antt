@@ -1,7 +1,7 @@
 -- `order::sort` meets its contract. The measure is the number of offsets.
 use native.Mathlib.Omega.{arith}
 use Rattle.reports.proofs.Laws.Ordered.Sorted.{few}
-use Rattle.reports.proofs.Laws.Ordered.Halves.{halves-joined, left-twice, right-twice}
+use Rattle.reports.proofs.Laws.Ordered.Halves.{halves-joined, halves-met, left-twice, right-twice}
 use Rattle.reports.proofs.order.+sort.Goals as goal
 
 pub returns-then-n-lt2 : goal.returns-then-n-lt2
@@ -18,7 +18,13 @@ returns-then-sort-2 t c =
     right-twice c.args.places.now c.sort.new.places _ (omega arith) c.sort.auto.places c.args.s.now _ c.sort-2.ensures c.if-sort-2.true
 
 -- in both, or not at all
+pub returns-then-merge : goal.returns-then-merge
+returns-then-merge t c =
+    halves-met c.args.places.now c.sort.new.places _ (omega arith) c.sort.auto.places c.sort-2.new.places c.sort-2.auto.places c.args.s.now
+    c.sort.ensures c.sort-2.ensures c.if-sort.false c.if-sort-2.false c.merge.new.out c.merge.ensures c.if-merge.true _
+
 pub returns : goal.returns
 returns t c =
-    halves-joined c.args.places.now c.sort.new.places _ (omega arith) c.sort.auto.places c.sort-2.new.places c.sort-2.auto.places c.args.s.now
-    c.sort.ensures c.sort-2.ensures c.if-sort.false c.if-sort-2.false c.join.ensures
+    let merged = halves-joined c.args.places.now c.sort.new.places _ (omega arith) c.sort.auto.places c.sort-2.new.places c.sort-2.auto.places c.args.s.now
+    c.sort.ensures c.sort-2.ensures c.if-sort.false c.if-sort-2.false c.merge.new.out c.merge.ensures in
+    rw (c.copy_from_slice.ensures.after, ← c.if-merge.false) merged

@@ -1,22 +1,23 @@
 -- `tags::reference_end` meets its contract: the first of the five words that stands there.
-use mathlib.Core.Path.{sym, ◌∙◌}
+use mathlib.Core.Path.{sym}
 use Rattle.reports.proofs.Laws.Read.Reaches.{reference₁, reference₂, reference₃, reference₄, reference₅, reference₆}
+use Rattle.reports.proofs.Laws.Read.Words.{told}
 use Rattle.reports.proofs.tags.reference_end.Goals as goal
 
-pub returns-then-word_at : goal.returns-then-word_at
-returns-then-word_at c = reference₁ _ _ c.requires (sym c.word_at.ensures ∙ c.if-word_at.true)
+pub returns-then-starts_with : goal.returns-then-starts_with
+returns-then-starts_with c = sym (reference₁ _ _ c.requires (told c.args.s.now _ c.args.at c.starts_with.ensures.value c.if-starts_with.true))
 
-pub returns-then-word_at-2 : goal.returns-then-word_at-2
-returns-then-word_at-2 c = reference₂ _ _ c.requires (sym c.word_at.ensures ∙ c.if-word_at.false) (sym c.word_at-2.ensures ∙ c.if-word_at-2.true)
+pub returns-then-starts_with-2 : goal.returns-then-starts_with-2
+returns-then-starts_with-2 c = sym (reference₂ _ _ c.requires (told c.args.s.now _ c.args.at c.starts_with.ensures.value c.if-starts_with.false) (told c.args.s.now _ c.args.at c.starts_with-2.ensures.value c.if-starts_with-2.true))
 
-pub returns-then-word_at-3 : goal.returns-then-word_at-3
-returns-then-word_at-3 c = reference₃ _ _ c.requires (sym c.word_at.ensures ∙ c.if-word_at.false) (sym c.word_at-2.ensures ∙ c.if-word_at-2.false) (sym c.word_at-3.ensures ∙ c.if-word_at-3.true)
+pub returns-then-starts_with-3 : goal.returns-then-starts_with-3
+returns-then-starts_with-3 c = sym (reference₃ _ _ c.requires (told c.args.s.now _ c.args.at c.starts_with.ensures.value c.if-starts_with.false) (told c.args.s.now _ c.args.at c.starts_with-2.ensures.value c.if-starts_with-2.false) (told c.args.s.now _ c.args.at c.starts_with-3.ensures.value c.if-starts_with-3.true))
 
-pub returns-then-word_at-4 : goal.returns-then-word_at-4
-returns-then-word_at-4 c = reference₄ _ _ c.requires (sym c.word_at.ensures ∙ c.if-word_at.false) (sym c.word_at-2.ensures ∙ c.if-word_at-2.false) (sym c.word_at-3.ensures ∙ c.if-word_at-3.false) (sym c.word_at-4.ensures ∙ c.if-word_at-4.true)
+pub returns-then-starts_with-4 : goal.returns-then-starts_with-4
+returns-then-starts_with-4 c = sym (reference₄ _ _ c.requires (told c.args.s.now _ c.args.at c.starts_with.ensures.value c.if-starts_with.false) (told c.args.s.now _ c.args.at c.starts_with-2.ensures.value c.if-starts_with-2.false) (told c.args.s.now _ c.args.at c.starts_with-3.ensures.value c.if-starts_with-3.false) (told c.args.s.now _ c.args.at c.starts_with-4.ensures.value c.if-starts_with-4.true))
 
-pub returns-then-word_at-5 : goal.returns-then-word_at-5
-returns-then-word_at-5 c = reference₅ _ _ c.requires (sym c.word_at.ensures ∙ c.if-word_at.false) (sym c.word_at-2.ensures ∙ c.if-word_at-2.false) (sym c.word_at-3.ensures ∙ c.if-word_at-3.false) (sym c.word_at-4.ensures ∙ c.if-word_at-4.false) (sym c.word_at-5.ensures ∙ c.if-word_at-5.true)
+pub returns-then-starts_with-5 : goal.returns-then-starts_with-5
+returns-then-starts_with-5 c = sym (reference₅ _ _ c.requires (told c.args.s.now _ c.args.at c.starts_with.ensures.value c.if-starts_with.false) (told c.args.s.now _ c.args.at c.starts_with-2.ensures.value c.if-starts_with-2.false) (told c.args.s.now _ c.args.at c.starts_with-3.ensures.value c.if-starts_with-3.false) (told c.args.s.now _ c.args.at c.starts_with-4.ensures.value c.if-starts_with-4.false) (told c.args.s.now _ c.args.at c.starts_with-5.ensures.value c.if-starts_with-5.true))
 
 pub returns : goal.returns
-returns c = reference₆ _ _ c.requires (sym c.word_at.ensures ∙ c.if-word_at.false) (sym c.word_at-2.ensures ∙ c.if-word_at-2.false) (sym c.word_at-3.ensures ∙ c.if-word_at-3.false) (sym c.word_at-4.ensures ∙ c.if-word_at-4.false) (sym c.word_at-5.ensures ∙ c.if-word_at-5.false)
+returns c = sym (reference₆ _ _ c.requires (told c.args.s.now _ c.args.at c.starts_with.ensures.value c.if-starts_with.false) (told c.args.s.now _ c.args.at c.starts_with-2.ensures.value c.if-starts_with-2.false) (told c.args.s.now _ c.args.at c.starts_with-3.ensures.value c.if-starts_with-3.false) (told c.args.s.now _ c.args.at c.starts_with-4.ensures.value c.if-starts_with-4.false) (told c.args.s.now _ c.args.at c.starts_with-5.ensures.value c.if-starts_with-5.false))

@@ -1,27 +1,23 @@
--- `tokens::all_listed` meets its contract. The loop's invariant: all are listed if those before i and those from i on are.
-use mathlib.Core.Path.{refl, sym, ap, ◌∙◌}
-use mathlib.Core.Bool.{Bool, ◌&&◌, and_assoc, and-true}
-use native.Mathlib.Omega.{arith}
-use native.Mathlib.Numerals.{add-one}
-use lib.ListN.{get_or}
+-- `tokens::all_listed` meets its contract: a fold by `&` is the test of every byte.
+use mathlib.Core.Path.{◌≡◌, refl, sym, ap, ◌∙◌}
+use mathlib.Core.Bool.{Bool, true, ◌&&◌, and_assoc, and-true}
+use mathlib.Core.List.{List, [], ◌∷◌}
+use Prim.Native.Nat.{ℕ}
+use Rattle.std.proofs.Common.{rules, tests}
+use Rattle.std.specs.List.{fold}
+use Rattle.std.proofs.lemmas.Iterator.{YieldsList-from_slice}
+use Rattle.std.proofs.lemmas.Iterator.Consumers.{fold_from_yields_List}
+use Rattle.text.specs.Lists.{every}
 use Rattle.documents.specs.Tokens.{listed}
-use Rattle.text.proofs.Laws.Scans.{every-at, every-end}
 use Rattle.reports.proofs.tokens.all_listed.Goals as goal
 
-pub loop-i-init : goal.loop-i-init
-loop-i-init c = (omega arith, refl)
-
-pub loop-i-preserved : goal.loop-i-preserved
-loop-i-preserved c =
-    let turn = c.loop-i in
-    let s = c.args.s.now in (
-      omega arith,
-      rw (c.both-all.ensures, c.listed.ensures, add-one)
-          (turn.invariant.1 ∙ ap (λ (b : Bool). turn.all && b) (every-at listed s turn.i c.loop-i-test.true)
-          ∙ sym (and_assoc turn.all (listed (get_or s turn.i 0)) _)),
-    )
+fold-every : (all : Bool) (l : List ℕ) → fold (λ (a : Bool) (b : ℕ). a && listed b) all l ≡ (all && every listed l)
+unfolding every
+fold-every all [] = sym (and-true all)
+fold-every all (b ∷ l) = fold-every (all && listed b) l ∙ and_assoc all (listed b) (every listed l)
 
 pub returns : goal.returns
 returns c =
-    let turn = c.loop-i in
-    sym (turn.invariant.1 ∙ ap (λ (b : Bool). turn.all && b) (every-end listed _ _ c.loop-i-test.false) ∙ and-true turn.all)
+    let folded : c.fold.result ≡ fold (λ (a : Bool) (b : ℕ). a && listed b) true c.args.s.now =
+    fold_from_yields_List _ (λ (a : Bool) (b : ℕ). a && listed b) true c.fold.result c.fold.ensures.ran (YieldsList-from_slice c.args.s.now cc) (λ a x b q k. search (rules, tests)) in
+    folded ∙ fold-every true c.args.s.now

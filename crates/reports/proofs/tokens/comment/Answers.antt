@@ -1,25 +1,13 @@
--- `tokens::comment` meets its contract.
+use Prim.Native.Nat.{◌+◌}
 use mathlib.Core.Path.{sym, ◌∙◌}
-use native.Mathlib.Omega.{arith}
-use Rattle.reports.proofs.Laws.Read.Comments.{comment-off, comment-bound, comment-no, comment-to}
+use Rattle.reports.proofs.Laws.Read.Comments.{comment-off, comment-to}
+use Rattle.reports.proofs.Laws.Read.Words.{told}
 use Rattle.reports.proofs.tokens.comment.Goals as goal
 
-pub dashes-requires : goal.dashes-requires
-dashes-requires c = c.requires
+pub returns-then-not-starts_with : goal.returns-then-not-starts_with
+returns-then-not-starts_with c = sym (comment-off c.args.s.now c.args.at (told c.args.s.now _ (c.args.at + 2) c.starts_with.ensures.value c.if-not-starts_with.true))
 
-pub returns-then-not-dashes : goal.returns-then-not-dashes
-returns-then-not-dashes c = comment-off _ _ c.requires (sym c.dashes.ensures ∙ c.if-not-dashes.true)
-
-pub overflow_add-from-2 : goal.overflow_add-from-2
-overflow_add-from-2 c =
-    let args = c.args in
-    omega (arith, comment-bound args.s.now args.at c.requires (sym c.dashes.ensures ∙ c.if-not-dashes.false))
-
-pub contents_end-requires : goal.contents_end-requires
-contents_end-requires c = comment-bound _ _ c.requires (sym c.dashes.ensures ∙ c.if-not-dashes.false)
-
-pub returns-in-No : goal.returns-in-No
-returns-in-No c = comment-no _ _ c.requires (sym c.dashes.ensures ∙ c.if-not-dashes.false) (sym c.contents_end.ensures ∙ c.in-No.is)
-
-pub returns-in-To : goal.returns-in-To
-returns-in-To c = comment-to _ _ c.requires (sym c.dashes.ensures ∙ c.if-not-dashes.false) _ (sym c.contents_end.ensures ∙ c.in-To.is)
+pub returns : goal.returns
+returns c =
+    let opens = told c.args.s.now _ (c.args.at + 2) c.starts_with.ensures.value c.if-not-starts_with.false in
+    sym (comment-to c.args.s.now c.args.at opens _ (sym c.contents_end.ensures ∙ c.in_ok-end.was))

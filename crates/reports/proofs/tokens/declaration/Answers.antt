@@ -1,17 +1,14 @@
 -- `tokens::declaration` meets its contract.
-use mathlib.Core.Path.{sym, ◌∙◌}
+use mathlib.Core.Path.{sym}
 use Rattle.documents.specs.Tokens.{declaration_bytes}
 use Rattle.reports.proofs.Laws.Read.TokenAt.{declared-to, declared-no}
+use Rattle.reports.proofs.Laws.Read.Words.{told}
 use Rattle.reports.proofs.tokens.declaration.Goals as goal
 
-pub returns-then-word_at : goal.returns-then-word_at
+pub returns-then-starts_with : goal.returns-then-starts_with
 unfolding declaration_bytes
-returns-then-word_at c =
-    let args = c.args in
-    declared-to args.s.now args.at c.requires (sym c.word_at.ensures ∙ c.if-word_at.true)
+returns-then-starts_with c = sym (declared-to c.args.s.now c.args.at c.requires (told c.args.s.now _ c.args.at c.starts_with.ensures.value c.if-starts_with.true))
 
 pub returns : goal.returns
 unfolding declaration_bytes
-returns c =
-    let args = c.args in
-    declared-no args.s.now args.at (sym c.word_at.ensures ∙ c.if-word_at.false)
+returns c = sym (declared-no c.args.s.now c.args.at (told c.args.s.now _ c.args.at c.starts_with.ensures.value c.if-starts_with.false))

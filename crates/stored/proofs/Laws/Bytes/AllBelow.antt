@@ -1,14 +1,14 @@
 -- A test of every number below n, as a loop goes through them, and what it says of each.
 use Prim.Native.Nat.{ℕ, zero, suc, ◌+◌, ◌<◌}
 use mathlib.Core.Path.{◌≡◌, refl, sym, ap, ◌∙◌}
-use mathlib.Core.Bool.{Bool, true, false, not, ◌&&◌, and-true, and_assoc}
+use mathlib.Core.Bool.{Bool, true, false, ◌&&◌, and-true, and_assoc}
 use native.Mathlib.Numerals.{add-one}
 use native.Mathlib.Nat.{add-zero, zero-add}
 use native.Mathlib.Omega.{arith}
 use mathlib.Core.List.{List, [], ◌∷◌}
 use lib.Dec.{eqb}
 use lib.ListN.{length, get_or}
-use borrow.Author.Tests.{eqb-true, eqb-false, not-true, not-false}
+use borrow.Author.Tests.{eqb-true, eqb-false}
 use Rattle.std.specs.List.{range_with_len, list_all}
 use Rattle.stored.specs.Shape.{all_below}
 use Rattle.text.proofs.Laws.Tests.{cases, both, both_true}
@@ -64,13 +64,6 @@ all-at (suc n) f h i l =
 
 pub all-fails : (n : ℕ) (f : ℕ → Bool) (i : ℕ) → i < n → f i ≡ false → all_below n f ≡ false
 all-fails n f i l p = cases (all_below n f) (λ t. let q = all-at n f t i l in cc) (λ t. t)
-
--- a loop that ends with the first number that fails
-pub all-stops : (n : ℕ) (f : ℕ → Bool) (i : ℕ) {r : Bool} → i < n → r ≡ f i → not r ≡ true → false ≡ all_below n f
-all-stops n f i {r} l e p = sym (all-fails n f i l (sym e ∙ not-true r p))
-
-pub all-goes : (i : ℕ) (f : ℕ → Bool) {r : Bool} → true ≡ all_below i f → r ≡ f i → not r ≡ false → true ≡ all_below (i + 1) f
-all-goes i f {r} h e p = all-next i f (sym (not-false r p)) h e
 
 pub is_all : (n : ℕ) (f : ℕ → Bool) → ((i : ℕ) → i < n → f i ≡ true) → all_below n f ≡ true
 unfolding all_below

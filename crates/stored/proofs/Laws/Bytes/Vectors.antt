@@ -28,9 +28,9 @@ use Rattle.stored.proofs.Laws.Bytes.Tabulate.{tabulate-at, tabulate-length}
 block-is : (xs : List ℕ) (f : ℕ → Bool) → length xs ≡ 16 → ((j : ℕ) → j < 16 → (get_or xs j 0 < 256) × ((k : ℕ) → k < 8 → bit_of (get_or xs j 0) k ≡ f (8 * j + k))) → Block f xs
 block-is xs f long h =
     let same : (j : ℕ) → j < length xs → get_or xs j 0 ≡ get_or (bit_bytes f 16) j 0 = λ j l.
-        let m : j < 16 = omega arith in
-        let b = h j m in
-        sym (tabulate-at (byte_of f) 16 j m ∙ packed-from (get_or xs j 0) (λ k. f (8 * j + k)) b.0 b.1) in
+    let m : j < 16 = omega arith in
+    let b = h j m in
+    sym (tabulate-at (byte_of f) 16 j m ∙ packed-from (get_or xs j 0) (λ k. f (8 * j + k)) b.0 b.1) in
     record { is = same_number_lists xs (bit_bytes f 16) (long ∙ sym (tabulate-length (byte_of f) 16)) same }
 
 block-small : (f : ℕ → Bool) (j : ℕ) → j < 16 → get_or (bit_bytes f 16) j 0 < 256
@@ -43,10 +43,10 @@ block-bit f j k h l = rw (tabulate-at (byte_of f) 16 j h) (packed-bit (λ i. f (
 pub block-loaded : (bytes : List ℕ) (base from : ℕ) → base + from + 16 ≤ length bytes → ((i : ℕ) → Fits w8 (get_or bytes i 0)) → Block (λ i. bit_in bytes base (8 * from + i)) (chunk (base + from) 16 bytes)
 block-loaded bytes base from fits small =
     block-is (chunk (base + from) 16 bytes) (λ i. bit_in bytes base (8 * from + i)) (length-chunk (base + from) 16 bytes fits) (λ j h.
-        let at : get_or (chunk (base + from) 16 bytes) j 0 ≡ get_or bytes (base + (from + j)) 0 = get_or-chunk (base + from) 16 bytes j 0 h ∙ ap (λ (n : ℕ). get_or bytes n 0) (omega arith) in (
-          rw at (small (base + (from + j))).fits,
-          λ k l. let i : 8 * from + (8 * j + k) ≡ 8 * (from + j) + k = omega arith in rw (at, i) (byte-bit bytes base (from + j) k l),
-        ))
+    let at : get_or (chunk (base + from) 16 bytes) j 0 ≡ get_or bytes (base + (from + j)) 0 = get_or-chunk (base + from) 16 bytes j 0 h ∙ ap (λ (n : ℕ). get_or bytes n 0) (omega arith) in (
+      rw at (small (base + (from + j))).fits,
+      λ k l. let i : 8 * from + (8 * j + k) ≡ 8 * (from + j) + k = omega arith in rw (at, i) (byte-bit bytes base (from + j) k l),
+    ))
 
 -- a store
 pub block-put : {f : ℕ → Bool} (bytes : List ℕ) (at : ℕ) (xs : List ℕ) → Block f xs → at + 16 ≤ length bytes → put_chunk at bytes xs ≡ sets bytes at (bit_bytes f 16)
@@ -69,10 +69,10 @@ module _ (op : ℕ → ℕ → ℕ) (join : Bool → Bool → Bool) (small : (x 
       let lx : length xs ≡ 16 = ap length x.is ∙ tabulate-length (byte_of f) 16 in
       let ly : length ys ≡ 16 = ap length y.is ∙ tabulate-length (byte_of g) 16 in
       block-is (zip2 op xs ys) (λ i. join (f i) (g i)) (length-zip2 op xs ys (lx ∙ sym ly) ∙ lx) (λ j h.
-          let at : get_or (zip2 op xs ys) j 0 ≡ op (get_or (bit_bytes f 16) j 0) (get_or (bit_bytes g 16) j 0) = get_or-zip2 op xs ys j 0 0 0 (omega arith) (omega arith) ∙ ap₂ (λ (l m : List ℕ). op (get_or l j 0) (get_or m j 0)) x.is y.is in (
-            rw at (small (get_or (bit_bytes f 16) j 0) (get_or (bit_bytes g 16) j 0) (block-small f j h) (block-small g j h)),
-            λ k l. rw at (bits (get_or (bit_bytes f 16) j 0) (get_or (bit_bytes g 16) j 0) k) ∙ ap₂ join (block-bit f j k h l) (block-bit g j k h l),
-          ))
+      let at : get_or (zip2 op xs ys) j 0 ≡ op (get_or (bit_bytes f 16) j 0) (get_or (bit_bytes g 16) j 0) = get_or-zip2 op xs ys j 0 0 0 (omega arith) (omega arith) ∙ ap₂ (λ (l m : List ℕ). op (get_or l j 0) (get_or m j 0)) x.is y.is in (
+        rw at (small (get_or (bit_bytes f 16) j 0) (get_or (bit_bytes g 16) j 0) (block-small f j h) (block-small g j h)),
+        λ k l. rw at (bits (get_or (bit_bytes f 16) j 0) (get_or (bit_bytes g 16) j 0) k) ∙ ap₂ join (block-bit f j k h l) (block-bit g j k h l),
+      ))
 
 pub block-and : {f g : ℕ → Bool} {xs ys : List ℕ} → Block f xs → Block g ys → Block (λ i. f i && g i) (zip2 bit_and xs ys)
 block-and = block-joined bit_and (λ a b. a && b) (λ x y h k. and_lt 8 x y h k) and-bit
@@ -153,18 +153,18 @@ block-on {bytes} {base} {from} {here} {before} h p =
     let lo : length on ≡ 16 = length-zip2 (λ x s. x * 2 ^ s % 256) here (replicate 16 1) lh ∙ lh in
     let lf : length off ≡ 16 = length-zip2 (λ x s. x / 2 ^ s) before (replicate 16 7) p.long ∙ p.long in
     block-is (zip2 bit_or on off) (λ i. shifted (bit_in bytes base) (8 * from + i)) (length-zip2 bit_or on off (lo ∙ sym lf) ∙ lo) (λ j l.
-        let x = get_or here j 0 in
-        let b = get_or before j 0 in
-        let xs : x < 256 = rw h.is (block-small (λ i. bit_in bytes base (8 * from + i)) j l) in
-        let at : get_or (zip2 bit_or on off) j 0 ≡ bit_or (x * 2 ^ 1 % 256) (b / 2 ^ 7) =
-        get_or-zip2 bit_or on off j 0 0 0 (omega arith) (omega arith)
-        ∙ ap₂ bit_or
-        (get_or-zip2 (λ x s. x * 2 ^ s % 256) here (replicate 16 1) j 0 0 0 (omega arith) (omega arith) ∙ ap (λ (s : ℕ). x * 2 ^ s % 256) (get_or-replicate 16 j 1 0 l))
-        (get_or-zip2 (λ x s. x / 2 ^ s) before (replicate 16 7) j 0 0 0 (omega arith) (omega arith) ∙ ap (λ (s : ℕ). b / 2 ^ s) (get_or-replicate 16 j 7 0 l)) in
-        let go : (k : ℕ) → k < 8 → bit_before x b k ≡ shifted (bit_in bytes base) (8 * from + (8 * j + k)) = bit j l in (
-          rw at (or_lt 8 (x * 2 % 256) (b / 128) (omega arith) (omega (arith, p.small j l))),
-          λ k m. rw at (moved-on x b k xs (p.small j l) m) ∙ go k m,
-        ))
+    let x = get_or here j 0 in
+    let b = get_or before j 0 in
+    let xs : x < 256 = rw h.is (block-small (λ i. bit_in bytes base (8 * from + i)) j l) in
+    let at : get_or (zip2 bit_or on off) j 0 ≡ bit_or (x * 2 ^ 1 % 256) (b / 2 ^ 7) =
+    get_or-zip2 bit_or on off j 0 0 0 (omega arith) (omega arith)
+    ∙ ap₂ bit_or
+    (get_or-zip2 (λ x s. x * 2 ^ s % 256) here (replicate 16 1) j 0 0 0 (omega arith) (omega arith) ∙ ap (λ (s : ℕ). x * 2 ^ s % 256) (get_or-replicate 16 j 1 0 l))
+    (get_or-zip2 (λ x s. x / 2 ^ s) before (replicate 16 7) j 0 0 0 (omega arith) (omega arith) ∙ ap (λ (s : ℕ). b / 2 ^ s) (get_or-replicate 16 j 7 0 l)) in
+    let go : (k : ℕ) → k < 8 → bit_before x b k ≡ shifted (bit_in bytes base) (8 * from + (8 * j + k)) = bit j l in (
+      rw at (or_lt 8 (x * 2 % 256) (b / 128) (omega arith) (omega (arith, p.small j l))),
+      λ k m. rw at (moved-on x b k xs (p.small j l) m) ∙ go k m,
+    ))
   where
     bit : (j : ℕ) → j < 16 → (k : ℕ) → k < 8 → bit_before (get_or here j 0) (get_or before j 0) k ≡ shifted (bit_in bytes base) (8 * from + (8 * j + k))
     bit j l zero m = let e : 8 * from + (8 * j + 0) ≡ 8 * (from + j) = omega arith in rw e (p.last j l)

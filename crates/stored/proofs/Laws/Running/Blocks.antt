@@ -9,7 +9,7 @@ use lib.Lanes.{put_chunk}
 use Rattle.std.proofs.lemmas.Simd.{length-put_chunk}
 use lib.Dec.{eqb}
 use lib.ListN.{length, get_or}
-use lib.Seq.{sets, length-sets}
+use lib.Seq.{sets}
 use Rattle.stored.specs.Automaton.{mask_size, byte_of, bit_bytes, tabulate, child_mask, descendant_mask, anywhere_mask, root_mask, last_mask, star_mask}
 use Rattle.stored.specs.Bits.{bit_of, bit_at}
 use Rattle.stored.specs.Run.{matches_at, rows_at, active_in, seen_in, row_size, row_at}
@@ -124,6 +124,3 @@ module _ (a run run' taken : List ℕ) (d n : ℕ) (is : run' ≡ stored_bits ru
         more,
       )
       (block-stored run d (16 * n) (taken_active a run taken d) (taken_seen a run taken d) (taken_matched a run taken d) room)
-
-pub stored-length : (run : List ℕ) (d n : ℕ) (f g h : ℕ → Bool) → length (stored_bits run d f g h n) ≡ length run
-stored-length run d n f g h = simp length-sets

@@ -1,4 +1,4 @@
--- Demand 3, whole: of every accepted set, every buffer and every list of calls.
+-- What holds after any list of calls, of every accepted set, every buffer and every list of calls.
 use Prim.Native.Nat.{ℕ, ◌+◌, ◌≤◌, ◌<◌, pred}
 use mathlib.Core.Path.{◌≡◌, refl, sym, ◌∙◌, ap, ap₂, subst}
 use mathlib.Core.Bool.{Bool, true, false, ◌&&◌, cond}

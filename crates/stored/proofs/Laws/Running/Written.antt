@@ -39,14 +39,6 @@ fill front rest vs at n e h =
     past front (replicate n 0 ++ rest) at at 0 vs e (omega arith)
     ∙ ap (λ (l : List ℕ). front ++ l) (ap (λ (l : List ℕ). sets (l ++ rest) 0 vs) (sym (padded-none n)) ∙ sets-padded n [] vs rest (omega arith))
 
--- stored into zeros, bytes are filled up with zeros
-filled : (n : ℕ) (vs : List ℕ) → length vs ≤ n → sets (replicate n 0) 0 vs ≡ padded n vs
-filled n vs h = ap (λ (l : List ℕ). sets l 0 vs) (sym (append-nil (padded n []) ∙ padded-none n)) ∙ sets-padded n [] vs [] (omega arith) ∙ append-nil (padded n vs)
-
-pub name-written : (row e : List ℕ) → length e ≤ max_name → sets (set row 0 (length e)) name_in (sets (replicate max_name 0) 0 e) ≡ sets row 0 (length e ∷ padded max_name e)
-unfolding name_in
-name-written row e h = ap (λ (l : List ℕ). sets (set row 0 (length e)) name_in l) (filled max_name e h)
-
 -- all of a row, part by part
 pub row_written : (row e : List ℕ) (state : ℕ) → length row ≡ row_size → length e ≤ max_name
     → sets (sets (sets (sets row 0 (length e ∷ padded max_name e)) active_in (replicate mask_size 0)) state_in (le16 state)) seen_in (replicate mask_size 0) ≡ blank_row e state

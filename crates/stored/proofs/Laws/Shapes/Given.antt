@@ -1,26 +1,25 @@
 -- The refusals of the calls on a run, condition by condition, and what an accepted call may rely on.
 use Prim.Native.Nat.{ℕ, suc, ◌+◌, ◌≤◌, ◌<◌}
-use mathlib.Core.Path.{◌≡◌, refl, sym, ◌∙◌, ap}
-use mathlib.Core.Bool.{Bool, true, false, not, ◌&&◌}
+use mathlib.Core.Path.{◌≡◌, refl, ◌∙◌, ap}
+use mathlib.Core.Bool.{true, false, not, ◌&&◌}
 use mathlib.Core.List.{List, [], ◌∷◌, ◌++◌}
 use native.Mathlib.Omega.{arith}
 use lib.Dec.{leb, ltb, eqb}
 use lib.ListN.{length, drop, set, replicate, length-set, length-replicate}
 use lib.Seq.{sets, set-append_left}
 use borrow.Author.Tests.{le-ltb, ltb-false, not-false, leb-false}
-use Rattle.text.specs.Names.{Name, name_form, too_long, max_name, same_name}
+use Rattle.text.specs.Names.{Name, name_form, too_long, max_name}
 use Rattle.text.specs.Bytes.{le16}
 use Rattle.notation.specs.Layout.{word_size}
-use Rattle.text.specs.declared.refusals.Refusal.TheVariants.{ShortBuffer, NameTooLong, OverCapacity, SyntaxError, NotOneRoot, TooDeep, MismatchedClose, NotFound, BadShape}
+use Rattle.text.specs.declared.refusals.Refusal.TheVariants.{ShortBuffer, NameTooLong, OverCapacity, SyntaxError, NotOneRoot, TooDeep, BadShape}
 use Rattle.text.specs.Refusals.{number_of}
 use Rattle.model.specs.Limits.{max_depth, max_opens}
-use Rattle.text.specs.Order.{gives, given, first}
+use Rattle.text.specs.Order.{given, first}
 use Rattle.stored.specs.Automaton.{automaton_size}
 use Rattle.stored.specs.Tables.{start_of}
 use Rattle.stored.specs.Shape.{automaton_shaped}
 use Rattle.stored.specs.Run.{row_at, rows_at, row_size, run_size, state_in}
-use Rattle.stored.specs.RunCalls.{depth_of, stored_name, run_shaped, counters_shaped, shaped, too_short, lent_conditions, name_conditions, open_others, close_others, root_closed, start_refusal, open_refusal, close_refusal, start_run}
-use Rattle.stored.specs.Asking.{ask_refusal}
+use Rattle.stored.specs.RunCalls.{depth_of, run_shaped, counters_shaped, shaped, too_short, lent_conditions, open_others, close_others, root_closed, start_refusal, open_refusal, close_refusal, start_run}
 use Rattle.stored.specs.Usable.{Ready, Usable}
 use Rattle.stored.specs.declared.counters.Counters.{Counters}
 use Rattle.text.proofs.Laws.Tests.{both, neither}
@@ -89,16 +88,6 @@ may-close a run c e h =
     let g = both (run_shaped a run) (counters_shaped run c) f.1 in
     record { ready = record { size = l.0; shaped = f.0; run_length = l.1; run_is_shaped = g.0 }; depth = w.0; counters = g.1 }
 
-pub may-ask : (a run : List ℕ) (there : Bool) → ask_refusal a run there ≡ 0 → Ready a run × (there ≡ true)
-unfolding ask_refusal
-may-ask a run there h =
-    let s = not-given (too_short a run) ShortBuffer _ h in
-    let t = not-given (not (automaton_shaped a && run_shaped a run)) BadShape _ s.1 in
-    let u = not-given (not there) NotFound _ t.1 in
-    let l = long-enough a run s.0 in
-    let f = both (automaton_shaped a) (run_shaped a run) (not-false _ t.0) in
-    (record { size = l.0; shaped = f.0; run_length = l.1; run_is_shaped = f.1 }, not-false _ u.0)
-
 -- what passes the shape test, by the conditions of what is lent
 pub lent-usable : (a run : List ℕ) (c : Counters) → given (lent_conditions a run c) ≡ 0 → Usable a run c
 unfolding shaped
@@ -148,22 +137,6 @@ module _ (a run : List ℕ) (c : Counters) (e : Name) where
   unfolding given first
   close-unformed u f = close-others u ∙ rw f
 
-module _ (run : List ℕ) (c : Counters) (e : Name) where
-  pub open-name : (given (name_conditions e) ≡ 0 → ⊥) → given (open_others run c e) ≡ given (name_conditions e)
-  open-name n = given-first (name_conditions e) _ n
-
-  pub open-named : given (name_conditions e) ≡ 0
-      → given (open_others run c e) ≡ given (gives (root_closed run c) NotOneRoot ∷ gives (leb max_depth (depth_of run)) TooDeep ∷ gives (leb max_opens c.opens) OverCapacity ∷ [])
-  open-named z = given-then (name_conditions e) _ z
-
-module _ (run : List ℕ) (e : Name) where
-  pub close-name : (given (name_conditions e) ≡ 0 → ⊥) → given (close_others run e) ≡ given (name_conditions e)
-  close-name n = given-first (name_conditions e) _ n
-
-  pub close-named : given (name_conditions e) ≡ 0
-      → given (close_others run e) ≡ given (gives (eqb (depth_of run) 0) NotOneRoot ∷ gives (not (same_name (stored_name run (depth_of run)) e)) MismatchedClose ∷ [])
-  close-named z = given-then (name_conditions e) _ z
-
 -- a fresh run
 sets-left : (v x y : List ℕ) (i : ℕ) → i + length v ≤ length x → sets (x ++ y) i v ≡ sets x i v ++ y
 sets-left [] x y i h = refl
@@ -181,12 +154,3 @@ unfolding start_run
 started a run =
     let h : row_at 0 + state_in + length (le16 (start_of a)) ≤ length {A = ℕ} (replicate run_size 0) = rw (length-replicate {A = ℕ} run_size 0) within-run in
     sets-left (le16 (start_of a)) (replicate run_size 0) (drop run_size run) (row_at 0 + state_in) h
-
--- the shape test of automaton and run, and then of the counters
-pub shaped-parts : (a run : List ℕ) (c : Counters) → shaped a run c ≡ ((automaton_shaped a && run_shaped a run) && counters_shaped run c)
-unfolding shaped
-shaped-parts a run c = sym (regroup (automaton_shaped a) (run_shaped a run) (counters_shaped run c))
-  where
-    regroup : (x y z : Bool) → ((x && y) && z) ≡ (x && (y && z))
-    regroup true y z = refl
-    regroup false y z = refl

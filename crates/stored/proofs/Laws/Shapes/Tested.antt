@@ -5,7 +5,7 @@ use mathlib.Core.Bool.{Bool, true, false, not, ◌&&◌, and-true, and_assoc}
 use mathlib.Core.List.{List, [], ◌∷◌}
 use native.Mathlib.Nat.{max-le, le-max_left, le-max_right}
 use native.Mathlib.Omega.{arith}
-use borrow.Author.Tests.{leb-true, le-leb, ltb-true, lt-ltb, not-true, not-false}
+use borrow.Author.Tests.{leb-true, le-leb, ltb-true, lt-ltb, not-false}
 use lib.Bits.{bit_or, or_lt, or_add_and, and_le_l, and_le_r}
 use lib.Dec.{leb, ltb}
 use Rattle.std.specs.List.{fold, list_all}
@@ -43,10 +43,6 @@ unfolding size_of
 size-label a zero h = absurd (omega arith)
 size-label a (suc zero) h = absurd (omega arith)
 size-label a (suc (suc l)) h = let s : suc (suc l) - 2 ≡ l = omega arith in rw s
-
--- what a call that answered says of its test, where the call was asked not to fail
-pub fails_by : {r x : Bool} → r ≡ x → not r ≡ true → x ≡ false
-fails_by {r} e p = sym e ∙ not-true r p
 
 pub passes-by : {r x : Bool} → r ≡ x → not r ≡ false → x ≡ true
 passes-by {r} e p = sym e ∙ not-false r p

@@ -8,7 +8,7 @@ use borrow.Author.Tests.{tests, ne_eqb}
 use lib.Dec.{eqb}
 use Rattle.std.proofs.lemmas.Iterator.{YieldsList-from_slice, YieldsList-from_zip, same_from_all}
 use Rattle.text.specs.Names.{same_name}
-use Rattle.notation.specs.Limits.{max_set_bytes, max_labels}
+use Rattle.notation.specs.Limits.{max_set_bytes}
 use Rattle.notation.specs.Layout.{set_size, text_at, labels_at, label_size}
 use Rattle.notation.specs.Reads.{label_begin, label_length}
 use Rattle.stored.specs.Automaton.{automaton_size}

@@ -21,13 +21,9 @@ number Anywhere = refl
 number Root = refl
 number Last = refl
 
-pub returns-then-on : goal.returns-then-on
+pub returns : goal.returns
 unfolding flagged with_bit mask_size masks_at
-returns-then-on c =
+returns c =
     let k = (2048 * mask_number c.args.mask + c.args.i) % 8 in
     let e : 1 * 2 ^ k % 256 ≡ 2 ^ k = omega (arith, power_small k (omega arith)) in
-    rw (c.if-on.true, number c.args.mask, e)
-
-pub returns-else-on : goal.returns-else-on
-unfolding flagged
-returns-else-on c = rw c.if-on.false
+    rw (number c.args.mask, e)

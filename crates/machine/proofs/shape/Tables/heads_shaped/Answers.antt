@@ -1,12 +1,11 @@
 -- `Tables::heads_shaped`: the largest head so far is within its range exactly if each so far is.
-use mathlib.Core.Path.{◌≡◌, refl, sym, ap, ◌∙◌}
+use mathlib.Core.Path.{refl, ap, ◌∙◌}
 use native.Mathlib.Omega.{arith}
 use borrow.Author.Tests.{le-leb}
-use lib.Dec.{leb}
 use Rattle.notation.specs.Reads.{label_count}
 use Rattle.stored.specs.Automaton.{hashes, heads_at}
 use Rattle.stored.specs.Tables.{head_at}
-use Rattle.stored.specs.Shape.{all_below, head_shaped}
+use Rattle.stored.specs.Shape.{head_shaped}
 use Rattle.stored.proofs.Laws.Bytes.AllBelow.{all_none, all-next, all_end}
 use Rattle.stored.proofs.Laws.Shapes.Tested.{leb-by, max-within}
 use Rattle.machine.proofs.shape.Tables.heads_shaped.Goals as goal

@@ -1,21 +1,17 @@
 -- `Tables::steps_shaped`: the bits of all kinds are those of a kind exactly if each kind is one.
-use mathlib.Core.Path.{◌≡◌, refl, ap, subst, ◌∙◌}
-use Prim.Native.Nat.{ℕ, ◌+◌, ◌-◌, ◌*◌, ◌≤◌, ◌<◌}
+use mathlib.Core.Path.{◌≡◌, ap, ◌∙◌}
+use Prim.Native.Nat.{ℕ}
 use mathlib.Core.List.{List}
-use native.Mathlib.Omega.{arith}
 use borrow.Author.Rules.{rules}
 use lib.Dec.{ltb}
-use lib.ListN.{length, get_or, take, drop, length-take, length-drop}
+use lib.ListN.{length, get_or, take, drop}
 use lib.Bits.{bit_or}
 use Rattle.std.proofs.Common.{get_or-drop, get_or-take}
 use Rattle.std.specs.List.{fold}
-use Rattle.notation.specs.Limits.{max_paths, max_steps}
 use Rattle.notation.specs.Layout.{step_kinds, steps_at}
 use Rattle.notation.specs.Reads.{step_count}
-use Rattle.stored.specs.Automaton.{automaton_size}
 use Rattle.stored.specs.Shape.{all_below, step_shaped}
 use Rattle.stored.proofs.Laws.Bytes.AllBelow.{all-elements, all-same}
-use Rattle.stored.proofs.Laws.Shapes.Shaped.{counts-is}
 use Rattle.stored.proofs.Laws.Shapes.Tested.{or-all}
 use Rattle.machine.proofs.shape.Tables.steps_shaped.Goals as goal
 

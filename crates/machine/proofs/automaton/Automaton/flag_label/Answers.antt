@@ -1,0 +1,14 @@
+use Rattle.std.proofs.Common.{ℕ, ◌/◌, ◌%◌, ◌||◌, ◌&&◌, eqb, ap, ◌∙◌, arith}
+use Rattle.notation.specs.Limits.{max_paths, max_steps}
+use Rattle.stored.specs.Automaton.{mask_size, links_at, link_size}
+use Rattle.stored.specs.Bits.{bit_of, bit_at}
+use Rattle.stored.proofs.Laws.Bytes.BitRows.{bits-joined}
+use Rattle.machine.proofs.automaton.Automaton.flag_label.Goals as goal
+
+pub returns : goal.returns
+unfolding links_at link_size mask_size max_paths max_steps
+returns c =
+    let out = c.args.out.now in
+    let w = c.link-bits.result in
+    λ i. bits-joined out (w / 256) (w % 256) (omega (arith, c.link-bits.ensures.bound)) i
+    ∙ ap (λ (n : ℕ). bit_at out i || (eqb (n / 256) (i / 8) && bit_of (n % 256) (i % 8))) c.link-bits.ensures.value
