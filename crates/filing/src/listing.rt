@@ -121,7 +121,7 @@ pub fn write_line(n: u8, out: &mut [u8]) -> Result<usize, Refusal>
     front.end.ok_or(Refusal::ShortBuffer)
 }
 
-// Writes the line of a refusal, by its number, and answers its length; 1 for a buffer that is short for a listing.
+// Writes the line of a refusal, by its number, which may be any byte, and answers its length; 1 for a buffer that is short for a listing.
 pub fn write_refused(n: u8, out: &mut [u8]) -> Result<usize, Refusal>
     ensures { RefusedWritten n out.old result out.new }
 {
