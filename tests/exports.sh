@@ -34,7 +34,7 @@ done
 "$work/calls" || status=1
 
 # The refusals of the code, as the header writes them.
-sed -nE 's/^pub const (\w+): u8 = ([0-9]+);$/RANNVOUL_\1 = \2/p' crates/text/src/refusals.rt >"$work/refusals"
+sed -nE '/^pub enum Refusal/,/^\}/{ s/^ +(\w+ = [0-9]+),$/\1/; T; s/\B[A-Z]/_&/g; s/.*/RANNVOUL_\U&/p }' crates/text/src/refusals.rt >"$work/refusals"
 [ -s "$work/refusals" ] || { echo "exports: no refusals found in the code"; status=1; }
 sed -nE 's/^ +(RANNVOUL_\w+ = [0-9]+).*/\1/p' include/rannvoul.h >"$work/header"
 diff "$work/refusals" "$work/header" || { echo "exports: the header has other refusals"; status=1; }

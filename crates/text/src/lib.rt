@@ -6,5 +6,3 @@ pub mod numbers;
 pub mod output;
 pub mod refusals;
 pub mod store;
-pub mod truth;
-pub mod words;

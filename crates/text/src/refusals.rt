@@ -41,34 +41,3 @@ impl Refusal {
         self as u8
     }
 }
-
-// The same numbers alone.
-pub const SHORT_BUFFER: u8 = 1;
-
-pub const TOO_LARGE: u8 = 2;
-
-pub const MALFORMED_SET: u8 = 3;
-
-pub const OUT_OF_ORDER: u8 = 4;
-
-pub const NAME_TOO_LONG: u8 = 5;
-
-pub const PATH_TOO_LONG: u8 = 6;
-
-pub const OVER_CAPACITY: u8 = 7;
-
-pub const INVALID_BYTE: u8 = 8;
-
-pub const SYNTAX_ERROR: u8 = 9;
-
-pub const NOT_ONE_ROOT: u8 = 10;
-
-pub const TOO_DEEP: u8 = 11;
-
-pub const MISMATCHED_CLOSE: u8 = 12;
-
-pub const NOT_FOUND: u8 = 13;
-
-pub const BAD_SHAPE: u8 = 14;
-
-pub const REPEATED_ATTRIBUTE: u8 = 15;
