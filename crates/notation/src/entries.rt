@@ -1,5 +1,7 @@
 // The entries of a read set's tables, written at their places, where there is room: a text is judged with no buffer for them. An index is a
 // count of `Tally`, so it asks here for what `Reading` knows of each; a type of an index would only be unwrapped.
+#![tactic(auto, unfolding(crate::specs::Layout::folders_at, crate::specs::Layout::folder_size, crate::specs::Layout::paths_at, crate::specs::Layout::path_size, crate::specs::Layout::steps_at, crate::specs::Layout::labels_at, crate::specs::Layout::label_size))]
+
 ghost use Rattle.std.specs.Prelude.{◌≡◌, [], ◌∷◌, ◌+◌, ◌*◌, ◌≤◌};
 ghost use Rattle.std.proofs.lemmas.List.Edits.{sets};
 ghost use Rattle.notation.specs.Layout.{folder_size, path_size, label_size, folders_at, paths_at, steps_at, labels_at, folder_entry, path_entry, label_entry};

@@ -18,6 +18,7 @@ use text::refusals::Refusal;
 use text::store;
 
 // Judges a text, in build's order. One pass, which writes nowhere.
+#[tactic(auto, using(text::proofs::Laws::Results::handed_on, crate::proofs::Laws::Refused::Taken::taken_verdict), unfolding(crate::specs::Code::Taking::text_refusal, crate::specs::Limits::max_set_bytes))]
 fn judge(text: &[u8]) -> Result<(), Refusal>
     ensures { result ≡ answered (text_refusal text.now) }
 {
@@ -39,6 +40,7 @@ fn put_counts(part: &mut [u8], size: usize, t: Tally)
 }
 
 // An accepted text, laid out.
+#[tactic(auto, using(crate::proofs::Laws::Refused::Taken::filled), unfolding(crate::specs::Layout::set_size, crate::specs::Layout::text_at, crate::specs::Limits::max_set_bytes))]
 fn fill(text: &[u8], part: &mut [u8])
     requires { (set_size ≤ length part.old) × (length text.now ≤ max_set_bytes) }
     ensures { (s : FolderSet) → Accepted text.now s → part.new ≡ set_part s ++ drop set_size part.old }
@@ -52,6 +54,7 @@ fn fill(text: &[u8], part: &mut [u8])
 
 // Reads a set's text into the first bytes of `part`, or refuses it: for a short buffer, and then in build's order. A refusal changes
 // nothing. Two passes over the text, and one over the buffer.
+#[tactic(auto, using(text::proofs::Laws::Results::handed_on, crate::proofs::Laws::Refused::Taken::short_text, crate::proofs::Laws::Refused::ReadAnswer::answers), unfolding(crate::specs::Layout::set_size))]
 pub fn read_set(text: &[u8], part: &mut [u8]) -> Result<(), Refusal>
     ensures { ReadSet text.now part.old (refusal_in result) part.new }
 {

@@ -1,4 +1,6 @@
 // What is stored of a read set: cheap calls on any part of a buffer that keeps one. They answer by what is stored.
+#![tactic(auto, unfolding(crate::specs::Limits::max_paths, crate::specs::Limits::max_steps, crate::specs::Limits::max_labels, crate::specs::Layout::set_size, crate::specs::Layout::folders_at, crate::specs::Layout::folder_size, crate::specs::Layout::paths_at, crate::specs::Layout::path_size, crate::specs::Layout::steps_at, crate::specs::Layout::labels_at, crate::specs::Layout::label_size, crate::specs::Reads::present, crate::specs::Reads::paths_end, crate::specs::Reads::folder_at, crate::specs::Reads::path_at, crate::specs::Reads::step_at, crate::specs::Reads::label_at))]
+
 ghost use Rattle.std.specs.Prelude.{◌≡◌, true, ◌-◌, ◌<◌, ◌≤◌, length, get_or};
 ghost use Rattle.notation.specs.Limits.{max_paths};
 ghost use Rattle.notation.specs.Layout.{set_size};
@@ -73,6 +75,7 @@ pub fn byte_at(part: &[u8], i: usize) -> usize
 }
 
 // A number of two bytes, the lower first.
+#[tactic(auto, unfolding(crate::specs::Reads::word16))]
 pub fn word_at(part: &[u8], at: usize) -> usize
     ensures { (result ≡ word16 part.now at) × (result < 65536) }
 {

@@ -24,6 +24,7 @@ impl StepFound {
 }
 
 // A label or `*`, after the slashes of a step.
+#[tactic(auto, using(crate::proofs::Laws::Taking::Found::tests))]
 fn test_at(text: &[u8], from: usize, descendant: bool) -> Option<StepFound>
     ensures { result ≡ test_found from descendant (read_test (drop from text.now)) }
 {
@@ -51,6 +52,7 @@ fn test_at(text: &[u8], from: usize, descendant: bool) -> Option<StepFound>
     })
 }
 
+#[tactic(auto, using(crate::proofs::Laws::Taking::Ahead::tail_word, crate::proofs::Laws::Taking::Found::steps))]
 pub fn step_at(text: &[u8], at: usize) -> Option<StepFound>
     ensures { result ≡ step_found at (read_step (drop at text.now)) }
 {

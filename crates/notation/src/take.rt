@@ -42,12 +42,14 @@ impl<'a> Reading<'a> {
     ghost use Rattle.notation.specs.Code.Readings.{ahead, Takes, Moves, At, Ran};
 
     // The word stands next.
+    #[tactic(auto, using(crate::proofs::Laws::Taking::Ahead::tail_word))]
     fn begins(&self, word: &[u8]) -> bool
         ensures { result ≡ starts_with word.now (ahead self.now) }
     {
         self.text[self.tally.at..].starts_with(word)
     }
 
+    #[tactic(auto, using(crate::proofs::Laws::Taking::Ahead::words), unfolding(crate::specs::Code::Taking::moved))]
     fn word(&mut self, word: &[u8]) -> Option<()>
         ensures { Takes (read_word word.now) (λ _. moved (length word.now)) self.old result self.new }
     {
@@ -116,6 +118,7 @@ impl<'a> Reading<'a> {
         self.word(b")\n")
     }
 
+    #[tactic(auto, using(crate::proofs::Laws::Taking::Folders::numbers), unfolding(crate::specs::Limits::max_number))]
     fn number(&mut self) -> Option<()>
         ensures { Takes (read_number max_number) number_taken self.old result self.new }
     {
@@ -147,6 +150,7 @@ impl<'a> Reading<'a> {
 }
 
 // The whole text, from its first byte on; what it comes to is counted.
+#[tactic(auto, using(crate::proofs::Laws::Taking::Folders::set_taken))]
 pub fn take_set(text: &[u8], part: &mut [u8]) -> Option<Tally>
     requires { length text.now ≤ 65536 }
     ensures { TookSet text.now part.old result part.new }

@@ -39,6 +39,7 @@ impl Tally {
     }
 
     // A step, and its label.
+    #[tactic(auto, unfolding(text::specs::Names::max_name, crate::specs::Limits::max_steps))]
     pub fn with_step(self, found: StepFound) -> Tally
         requires { (self.steps ≤ 65536) × (self.labels ≤ 65536) }
         ensures { result ≡ found_counted found self }
@@ -94,6 +95,7 @@ impl Tally {
     }
 
     // The first fault met, or that the tables have no room for all.
+    #[tactic(auto, unfolding(crate::specs::Limits::max_paths, crate::specs::Limits::max_labels))]
     pub fn verdict(self) -> Result<(), Refusal>
         ensures { result ≡ answered (tally_refusal self) }
     {

@@ -97,6 +97,7 @@ fn many_repeat<const ROOM: usize>(s: &[u8], at: usize, count: usize) -> bool
 }
 
 // Whether a name is repeated among so many, noted as far as there is room; told only in no more bytes than a report may have.
+#[tactic(auto, using(crate::proofs::Laws::Read::Attributes::judgings), unfolding(documents::specs::Limits::max_report_bytes))]
 fn names_repeat(s: &[u8], at: usize, count: usize, places: &mut [u16]) -> bool
     requires room { length places.old ≡ 16 }
     requires counts { count ≡ length (names_from s.now at) }

@@ -7,6 +7,7 @@ use std::cmp::Ordering;
 use text::names::in_name;
 
 // The first byte of the name at an offset, 0 if there is none: no name has that byte. An `Option` takes a third more instructions to file many attributes.
+#[tactic(auto, using(crate::proofs::Laws::Ordered::NameAt::name_bytes))]
 fn name_byte(s: &[u8], at: usize) -> u8
     ensures { result ≡ first_byte (name_at s.now at) }
 {
@@ -19,6 +20,7 @@ fn name_byte(s: &[u8], at: usize) -> u8
 
 // The names at two offsets, byte by byte; it ends with the shorter one. Two slices, whose ends are to be found first, take twice the instructions
 // to file many attributes, iterators half as many again, and `cmp` of the two bytes a twentieth.
+#[tactic(auto, using(crate::proofs::Laws::Ordered::NameAt::comparings))]
 pub fn compare(s: &[u8], p: usize, q: usize) -> Ordering
     ensures { result ≡ order_of (name_at s.now p) (name_at s.now q) }
 {
@@ -42,6 +44,7 @@ pub fn compare(s: &[u8], p: usize, q: usize) -> Ordering
 }
 
 // Whether the names at two offsets are the same.
+#[tactic(auto, using(crate::proofs::Laws::Ordered::Order::same_is))]
 pub fn same_names(s: &[u8], p: usize, q: usize) -> bool
     ensures { result ≡ same_name (name_at s.now p) (name_at s.now q) }
 {

@@ -11,6 +11,7 @@ use text::names;
 
 // One of the five references, after its `&`. There are few, and no loop has room for this test.
 #[cold]
+#[tactic(auto, using(crate::proofs::Laws::Read::Words::told, crate::proofs::Laws::Read::Reaches::references))]
 pub fn reference_end(s: &[u8], at: usize) -> Option<usize>
     requires { at ≤ length s.now }
     ensures { result ≡ reach read_reference s.now at }

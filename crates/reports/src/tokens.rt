@@ -199,6 +199,7 @@ fn text_found(at: usize, end: usize, kind: Kind) -> Option<Found>
 }
 
 // The declaration, at the offset.
+#[tactic(auto, using(crate::proofs::Laws::Read::Words::told, crate::proofs::Laws::Read::TokenAt::declarations), unfolding(documents::specs::Tokens::declaration_bytes))]
 fn declaration(s: &[u8], at: usize) -> Option<Found>
     requires { at ≤ length s.now }
     ensures { result ≡ declaration_at s.now at }
@@ -235,6 +236,7 @@ pub fn token_at(s: &[u8], at: usize) -> Option<Found>
 }
 
 // Where the name of the tag at an offset of any bytes stands; `None` where no whole tag begins there.
+#[tactic(auto, using(crate::proofs::Laws::Read::TagName::spans))]
 pub fn tag_span(s: &[u8], at: usize) -> Option<Span>
     ensures { SpanAt s.now at result }
 {

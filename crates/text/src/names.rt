@@ -68,6 +68,7 @@ pub fn class_of(b: u8) -> Class
 }
 
 // A letter or `_`. Small letters, which most bytes of names are, are not looked up.
+#[tactic(auto, using(crate::proofs::Laws::Bytes::Classes::tested))]
 pub fn begins_name(b: u8) -> bool
     ensures { result ≡ begins_name b }
 {
@@ -75,6 +76,7 @@ pub fn begins_name(b: u8) -> bool
 }
 
 // A letter, a digit, `_`, `-` or `.`.
+#[tactic(auto, using(crate::proofs::Laws::Bytes::Classes::tested))]
 pub fn in_name(b: u8) -> bool
     ensures { result ≡ in_name b }
 {
@@ -82,6 +84,7 @@ pub fn in_name(b: u8) -> bool
 }
 
 // Where the name bytes that begin at an offset end.
+#[tactic(auto, using(crate::proofs::Laws::Scans::spans))]
 pub fn name_end(s: &[u8], at: usize) -> usize
     ensures { result ≡ at + length (front in_name (drop at s.now)) }
 {
@@ -106,6 +109,7 @@ pub fn name_form(s: &[u8]) -> bool
 }
 
 // Over the limit of a name's length.
+#[tactic(auto, unfolding(crate::specs::Names::max_name))]
 pub fn too_long(s: &[u8]) -> bool
     ensures { result ≡ too_long s.now }
 {

@@ -18,6 +18,7 @@ pub fn number_ahead(s: &[u8], at: usize) -> bool
 }
 
 // The number from 1 to `most` that stands at an offset. A digit is added only if `most` allows it, so no sum is too large.
+#[tactic(auto, using(crate::proofs::Laws::NumberScan::exits), unfolding(crate::specs::Names::digit))]
 pub fn number_at(s: &[u8], at: usize, most: usize) -> Option<Number>
     ensures { result ≡ number_found (length s.now) (read_number most (drop at s.now)) }
 {

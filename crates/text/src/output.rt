@@ -59,6 +59,7 @@ impl Sink for Front<'_> {
 }
 
 // A piece from an offset on, if it has room there, and where it ends.
+#[tactic(auto, using(crate::proofs::Laws::Output::written_part))]
 fn put_piece(out: &mut [u8], at: usize, piece: &[u8]) -> Option<usize>
     ensures end { result ≡ put_at (length out.old) at piece.now }
     ensures leaves { out.new ≡ written_to result out.old at piece.now }
@@ -90,6 +91,7 @@ pub fn put_number<S: Sink>(to: &mut S, n: usize)
 }
 
 // A word, then a number's decimal digits.
+#[tactic(auto, using(crate::specs::Output::a_piece))]
 pub fn put_numbered<S: Sink>(to: &mut S, word: &[u8], n: usize)
     ensures { Adds S.puts to.old (word.now ++ decimal n) to.new }
 {

@@ -12,6 +12,7 @@ pub fn clear(part: &mut [u8], n: usize)
 }
 
 // The bytes of a slice, from `at` on.
+#[tactic(auto, using(crate::proofs::Laws::Bytes::Cut::copies))]
 pub fn copy(part: &mut [u8], at: usize, bytes: &[u8])
     ensures { part.new ≡ sets part.old at bytes.now }
 {

@@ -63,3 +63,6 @@ module _ (s : List ℕ) (at most : ℕ) where
         pub onwards : 10 * value + (get_or s i 0 - 48) ≤ most → Scanned (i + 1) (10 * value + (get_or s i 0 - 48))
         unfolding back
         onwards o = record { ahead = k.ahead; on = omega arith; small = o; values = further; backs = k.backs ∙ rw (drop-cons s i 0 h, t, add-one i) }
+
+-- for the ends of the scan
+pub ruleset exits = (no_number, ended, foreign, over)

@@ -33,8 +33,8 @@ sets-append l i (v ∷ x) y =
     sets-append (set l i v) (suc i) x y ∙ ap (λ (n : ℕ). sets (sets (set l i v) (suc i) x) n y) e
 
 -- a part of a buffer that was written
-pub written-part : (a k : ℕ) (xs ys zs : List ℕ) → ys ≡ zs → k ≡ length zs → a + k ≤ length xs → put_mid a k xs ys ≡ sets xs a zs
-written-part a k xs ys zs e n h =
+pub written_part : (a k : ℕ) (xs ys zs : List ℕ) → ys ≡ zs → k ≡ length zs → a + k ≤ length xs → put_mid a k xs ys ≡ sets xs a zs
+written_part a k xs ys zs e n h =
     let room : a + length zs ≤ length xs = omega arith in
     let same : a + k ≡ a + length zs = omega arith in
     rw (sets-eq zs xs a room, append_assoc, e, drop-drop k a xs, same)

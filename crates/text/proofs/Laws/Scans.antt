@@ -70,3 +70,6 @@ unfolding starts_with
 begins-short [] l h = absurd (omega arith)
 begins-short (b ∷ w) [] h = refl
 begins-short (b ∷ w) (c ∷ l) h = rw (begins-short w l (omega arith)) (and-false (eqb b c))
+
+-- for a loop over a span: it stops, goes on, or comes to the end of the bytes
+pub ruleset spans = (span-no, span-yes, span-end)

@@ -59,3 +59,5 @@ module _ (text before : List ℕ) where
 
     pub answer-0 : (answer ≡ 0) ↔ ((set_size ≤ length before) × ((s : FolderSet) × Accepted text s))
     answer-0 = accepted-is text (length before) set_size answer (λ h. (t.short h).0) (λ h v j. (t.judged h v j).0)
+
+pub ruleset answers = (read_short, read-refused, read-filled)

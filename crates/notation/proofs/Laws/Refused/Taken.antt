@@ -35,14 +35,14 @@ set-verdict s part r =
     let g = folders-grown s begun in
     rw (set-fault s begun, g.paths ∙ zero-add (length (paths_of s)), g.labels ∙ zero-add (length (labels_of (steps_of (paths_of s)))))
 
-pub taken-verdict : (text part : List ℕ) (t : Tally) (after : List ℕ) → SetTaken text part t after → tally_refusal t ≡ read_refusal (read_set text)
-taken-verdict text part t after k =
+pub taken_verdict : (text part : List ℕ) (t : Tally) (after : List ℕ) → SetTaken text part t after → tally_refusal t ≡ read_refusal (read_set text)
+taken_verdict text part t after k =
     ap (λ (s : State). tally_refusal s.tally) k.taken ∙ set-verdict k.set part k.rest ∙ ap read_refusal (sym k.was)
 
 -- an accepted text is within the limit of its bytes
-pub short-text : (text : List ℕ) → Ok tt ≡ answered (text_refusal text) → length text ≤ max_set_bytes
+pub short_text : (text : List ℕ) → Ok tt ≡ answered (text_refusal text) → length text ≤ max_set_bytes
 unfolding text_refusal
-short-text text z = cases (over_bytes text) (λ t. absurd (none-err (rw t at z))) (λ f. ltb-false max_set_bytes (length text) f)
+short_text text z = cases (over_bytes text) (λ t. absurd (none-err (rw t at z))) (λ f. ltb-false max_set_bytes (length text) f)
   where
     none-err : {r : Refusal} → ◌≡◌ {A = Result (Unit {0}) Refusal} (Ok tt) (Err r) → ⊥
     none-err e = let n : ◌≡◌ {A = ℕ} 0 1 = cc in omega arith
@@ -82,3 +82,5 @@ module _ (text rest : List ℕ) (s : FolderSet) (a : Accepted text s) where
 
       read_one : {q : FolderSet} {r : List ℕ} → got q r ≡ got s [] → q ≡ s
       read_one e = cc
+
+pub ruleset filled = (cleared-copied, unread, laid_out)

@@ -29,8 +29,8 @@ pub past-word : (w text : List ℕ) (at : ℕ) → starts_with w (drop at text) 
 past-word w text at t = rw (word-is w (drop at text), t, drop-drop (length w) at text)
 
 -- the bytes from an offset on, as the library gives them, and a word that they begin with
-pub tail-word : (s w l : List ℕ) (at : ℕ) (b : Bool) → l ≡ slice_range s at (length s) → b ≡ list.starts_with eqb l w → b ≡ starts_with w (drop at s)
-tail-word s w l at b e f =
+pub tail_word : (s w l : List ℕ) (at : ℕ) (b : Bool) → l ≡ slice_range s at (length s) → b ≡ list.starts_with eqb l w → b ≡ starts_with w (drop at s)
+tail_word s w l at b e f =
     let rest : length s - at ≡ length (drop at s) = omega (arith, length-drop at s) in
     f ∙ starts-same w l ∙ ap (starts_with w) (e ∙ rw rest (take-length (drop at s)))
 
@@ -49,3 +49,5 @@ moved-small n k h = record {
   steps = omega (arith, k.steps);
   labels = omega (arith, k.labels);
 }
+
+pub ruleset words = (no-word, past-word, word-ends, moved-small)

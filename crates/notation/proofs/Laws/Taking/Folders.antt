@@ -164,10 +164,12 @@ module _ (r r₁ r₂ : Reading) (w : Got (read_word header) (λ _. moved (lengt
             rw (w.was, g.was, l.was, some (ahead u) (omega (arith, eqb-false u.tally.at (length u.text.now) n, u.small.at, length-drop u.tally.at u.text.now)))
 
 -- from before the first byte on
-pub set-taken : {text before after : List ℕ} (r u : Reading) → Got read_set take_set r u → r.tally ≡ nothing → r.text.now ≡ text → r.part.now ≡ before → after ≡ u.part.now → SetTaken text before u.tally after
-set-taken r u g tally text part left = record {
+pub set_taken : {text before after : List ℕ} (r u : Reading) → Got read_set take_set r u → r.tally ≡ nothing → r.text.now ≡ text → r.part.now ≡ before → after ≡ u.part.now → SetTaken text before u.tally after
+set_taken r u g tally text part left = record {
   set = g.item;
   rest = ahead u;
   was = rw (tally, text) at g.was;
   taken = rw left (g.taken ∙ rw (tally, part));
 }
+
+pub ruleset numbers = (number-none, number-stands, number-small, number-counted)

@@ -73,3 +73,7 @@ module _ (s : List ℕ) (at : ℕ) where
 pub step-past : (s : List ℕ) (at : ℕ) → length s < at → None ≡ step_found at (read_step (drop at s))
 unfolding read_step read_axis starts_with read_word
 step-past s at h = rw (drop_of_length-le s {i = at} (omega arith))
+
+pub ruleset tests = (test-past, test-star, test-none, test-label)
+
+pub ruleset steps = (deep_step, child-step, no_step-is, step-past)

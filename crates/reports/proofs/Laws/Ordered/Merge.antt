@@ -10,7 +10,7 @@ use Rattle.std.specs.declared.cmp.Ordering.{Ordering}
 use Rattle.std.specs.declared.cmp.Ordering.TheVariants.{Less, Equal, Greater}
 use Rattle.std.specs.Ordering.{is_lt, is_eq}
 use Rattle.reports.specs.Code.Ordered.{order_of, comes_before, Rising, ahead, MergesTo}
-use Rattle.reports.proofs.Laws.Ordered.Order.{same-is, order_same, turned, onto}
+use Rattle.reports.proofs.Laws.Ordered.Order.{same_is, order_same, turned, onto}
 use Rattle.reports.proofs.Laws.Ordered.Meets.{or-past, meets, meets-turned}
 
 before-is : (o : Ordering) → is_lt o ≡ true → o ≡ Less
@@ -40,7 +40,7 @@ not_in : (n : Name) (l : List Name) → every (comes_before n) l ≡ true → an
 unfolding any
 not_in n [] h = refl
 not_in n (m ∷ l) h =
-    let differ = same-is n m ∙ ap is_eq (before-is (order_of n m) (every-head (comes_before n) m l h)) in
+    let differ = same_is n m ∙ ap is_eq (before-is (order_of n m) (every-head (comes_before n) m l h)) in
     rw differ (not_in n l (every_rest (comes_before n) m l h))
 
 -- both lists begin with the same name

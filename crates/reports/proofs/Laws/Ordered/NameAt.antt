@@ -82,3 +82,7 @@ module _ (s : List ℕ) (p q : ℕ) {a b : ℕ} (one : a ≡ first_byte (name_at
           ap (λ (k : Name). order_of k (name_at s q)) on.1 ∙ ap (order_of (first_byte (name_at s p) ∷ name_at s (p + 1))) also.1
               ∙ onwards (first_byte (name_at s p)) (first_byte (name_at s q)) (name_at s (p + 1)) (name_at s (q + 1)) same_byte,
         )
+
+pub ruleset name_bytes = (name-past, name-no, name-yes)
+
+pub ruleset comparings = (first-lower, first-higher, both_end, both-on)

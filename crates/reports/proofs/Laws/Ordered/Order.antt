@@ -42,22 +42,22 @@ by_bytes a b low same high =
     (λ f. cases (ltb b a) (λ t. high (ltb-true b a t)) (λ g. same (omega (arith, ltb-false a b f, ltb-false b a g))))
 
 -- the same exactly if the bytes are the same
-pub same-is : (m n : Name) → same_name m n ≡ is_eq (order_of m n)
+pub same_is : (m n : Name) → same_name m n ≡ is_eq (order_of m n)
 unfolding same_name order_of
-same-is [] [] = refl
-same-is [] (b ∷ n) = refl
-same-is (a ∷ m) [] = refl
-same-is (a ∷ m) (b ∷ n) =
+same_is [] [] = refl
+same_is [] (b ∷ n) = refl
+same_is (a ∷ m) [] = refl
+same_is (a ∷ m) (b ∷ n) =
     by_bytes a b
     (λ h. rw (ne_eqb a b (λ e. omega arith), lt-ltb a b h))
-    (λ e. rw (eq-eqb a b e, le-ltb a b (omega arith), le-ltb b a (omega arith)) (same-is m n))
+    (λ e. rw (eq-eqb a b e, le-ltb a b (omega arith), le-ltb b a (omega arith)) (same_is m n))
     (λ h. rw (ne_eqb a b (λ e. omega arith), le-ltb a b (omega arith), lt-ltb b a h))
 
 pub order_same : (m n : Name) → order_of m n ≡ Equal → same_name m n ≡ true
-order_same m n e = same-is m n ∙ ap is_eq e
+order_same m n e = same_is m n ∙ ap is_eq e
 
 pub same-order : (m n : Name) → same_name m n ≡ true → order_of m n ≡ Equal
-same-order m n e = told (order_of m n) (sym (same-is m n) ∙ e)
+same-order m n e = told (order_of m n) (sym (same_is m n) ∙ e)
   where
     told : (o : Ordering) → is_eq o ≡ true → o ≡ Equal
     told Less t = cc

@@ -284,3 +284,5 @@ module _ (s : List ℕ) (at : ℕ) where
 pub ruleset insides = (none_inside, torn_inside, told_inside)
 
 pub ruleset notings = (goes_on, goes-within, passed_none, passed-next, noted-done, noted-torn)
+
+pub ruleset judgings = (judged-few, judged-long, judged-by, both-noted, names-bytes)

@@ -156,3 +156,5 @@ module _ (s : List ℕ) (at : ℕ) (h : at ≤ length s) where
   pub reference₆ : Begins amp false → Begins lt false → Begins gt false → Begins quot false → Begins apos false → reach read_reference s at ≡ None
   unfolding reach read_reference
   reference₆ f₁ f₂ f₃ f₄ f₅ = rw (f₁, f₂, f₃, f₄, f₅)
+
+pub ruleset references = (reference₁, reference₂, reference₃, reference₄, reference₅, reference₆)

@@ -82,3 +82,5 @@ module _ (s : List ℕ) (at : ℕ) where
 
 -- by the first two bytes
 pub ruleset tokens = (token-none, token-text, token-short, token-comment, token_end, token-declaration, token-tag)
+
+pub ruleset declarations = (declared-to, declared-no)

@@ -86,3 +86,6 @@ in-small b h = rw h
 pub begins-small : (b : ℕ) → is_ascii_lowercase b ≡ true → begins_name b ≡ true
 unfolding begins_name letter
 begins-small b h = rw h
+
+-- for a test of a byte: by its own test, and else by its class
+pub ruleset tested = (begins-class, begins-small, in-class, in-small)

@@ -25,3 +25,6 @@ part-cut vs l at n h e =
     let same : at + length (take n vs) ≡ at + n = omega arith in
     let whole : put_mid at n l (take n vs) ≡ sets l at (take n vs) = rw (drop-drop n at l, sets-eq (take n vs) l at (omega arith), append_assoc, same) in
     whole ∙ ap (λ (k : ℕ). sets l at (take k vs)) e ∙ ap (sets l at) (take_min (length l - at) vs) ∙ sets-cut (length l - at) vs l at refl
+
+-- for a copy: past the end, or of what has room
+pub ruleset copies = (sets-out, part-cut)
