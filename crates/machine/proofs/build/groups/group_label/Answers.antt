@@ -22,9 +22,9 @@ unfolding grouped with_bit links_at link_size
 returns c =
     let k = c.step_of-step.result % 8 in
     let one : 1 * 2 ^ k % 2 ^ 64 ≡ 2 ^ k = omega (arith, power_small k (omega arith)) in
-    c.put16-2.ensures
+    c.put_link-2.ensures
     ∙ rw (
-      c.put16.ensures,
+      c.put_link.ensures,
       one,
       c.taken_over-taken.ensures.far,
       c.taken_over-taken.ensures.bits,
