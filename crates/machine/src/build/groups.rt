@@ -18,7 +18,7 @@ use notation::reads::word_at;
 #[derive(Clone, Copy)]
 struct Taken {
     far: usize,
-    bits: usize,
+    bits: u8,
 }
 
 fn step_of(part: &[u8], l: usize) -> usize
@@ -31,7 +31,7 @@ fn step_of(part: &[u8], l: usize) -> usize
 // A field of the links of label l, which a place may lead to that is none's: read with a range test.
 fn link_field(part: &[u8], l: usize, field: usize) -> usize
     requires { (l ≤ 65536) × (field ≤ 65536) }
-    ensures { (result ≡ word16 part.now (link_entry_at l + field)) × (result < 65536) }
+    ensures { result ≡ word16 part.now (link_entry_at l + field) }
 {
     word_at(part, LINKS_AT + LINK_SIZE * l + field)
 }
@@ -41,12 +41,11 @@ fn taken_over(part: &[u8], byte: usize, next: Option<Label>) -> Taken
     requires { place_of next < 65536 }
     ensures far { result.far ≡ far_over (joins part.now byte (place_of next)) part.now (place_of next) }
     ensures bits { result.bits ≡ bits_over (joins part.now byte (place_of next)) part.now (place_of next) }
-    ensures bound { (result.far < 65536) × (result.bits < 256) }
 {
     match next {
         Some(l) if step_of(part, l.number()) / 8 == byte => Taken {
             far: link_field(part, l.number(), FAR_IN),
-            bits: link_field(part, l.number(), BITS_IN) % 256,
+            bits: (link_field(part, l.number(), BITS_IN) % 256) as u8,
         },
         Some(l) => Taken {
             far: l.place,
@@ -67,7 +66,7 @@ fn group_label(part: &mut Bytes, l: usize)
     let taken = taken_over(automaton.bytes, byte, automaton.linked(l, NEXT_IN));
     let bits = taken.bits | 1 << (step % 8);
     put_link(part, l, FAR_IN, taken.far);
-    put_link(part, l, BITS_IN, bits + 256 * byte);
+    put_link(part, l, BITS_IN, usize::from(bits) + 256 * byte);
 }
 
 // Every label's, from the last to the first.
