@@ -93,7 +93,7 @@ fn many_repeat<const ROOM: usize>(s: &[u8], at: usize, count: usize) -> bool
     let mut places = [0; ROOM];
     let mut spare = [0; ROOM];
     note_names(s, at, &mut places);
-    sort(s, &mut places[..count], &mut spare[..count])
+    sort(s, &mut places[..count], &mut spare[..count]).is_err()
 }
 
 // Whether a name is repeated among so many, noted as far as there is room; told only in no more bytes than a report may have.
@@ -110,11 +110,11 @@ fn names_repeat(s: &[u8], at: usize, count: usize, places: &mut [u16]) -> bool
         return false;
     }
     if count == 2 {
-        return same_names(s, places[0] as usize, places[1] as usize);
+        return same_names(s, usize::from(places[0]), usize::from(places[1]));
     }
     if count <= FEW {
         let mut spare = [0; FEW];
-        return sort(s, &mut places[..count], &mut spare[..count]);
+        return sort(s, &mut places[..count], &mut spare[..count]).is_err();
     }
     if count <= SOME {
         return many_repeat::<SOME>(s, at, count);
