@@ -25,7 +25,7 @@ const SOME: usize = 256;
 const MANY: usize = 13107;
 
 // What comes next in a tag: no attribute, and where the blanks end; or one, where its name begins and where it ends.
-#[derive(Clone, Copy)]
+#[derive(Clone, Copy, Debug, PartialEq, Eq)]
 enum Next {
     Blanks(usize),
     Attribute { name: usize, end: usize },
@@ -54,7 +54,7 @@ fn keep(places: &mut [u16], k: usize, name: usize)
 }
 
 // Where the attributes of a tag and the blanks after them end, and how many attributes there are.
-#[derive(Clone, Copy)]
+#[derive(Clone, Copy, Debug, PartialEq, Eq)]
 struct Noted {
     end: usize,
     count: usize,
@@ -123,7 +123,7 @@ fn names_repeat(s: &[u8], at: usize, count: usize, places: &mut [u16]) -> bool
 }
 
 // Where the attributes of a tag and the blanks after them end, and whether two have the same name.
-#[derive(Clone, Copy)]
+#[derive(Clone, Copy, Debug, PartialEq, Eq)]
 pub struct Inside {
     pub end: usize,
     pub twice: bool,

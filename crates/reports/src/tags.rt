@@ -51,7 +51,7 @@ pub fn name_end(s: &[u8], at: usize) -> Option<usize>
 pub fn byte_at(s: &[u8], at: usize, byte: u8) -> bool
     ensures { result ≡ has_byte s.now at byte }
 {
-    at < s.len() && s[at] == byte
+    s.get(at) == Some(&byte)
 }
 
 // A byte, after blanks.

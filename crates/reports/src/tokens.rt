@@ -13,7 +13,7 @@ use crate::scan::{blanks_end, in_text, listed};
 use crate::tags::{byte_at, mark_end, name_end, reference_end};
 
 // Where a name stands.
-#[derive(Clone, Copy)]
+#[derive(Clone, Copy, Debug, PartialEq, Eq)]
 pub struct Span {
     pub from: usize,
     pub to: usize,
@@ -21,7 +21,7 @@ pub struct Span {
 
 // What a token is; of a tag also where its name stands, and of one that opens whether it has an attribute's name twice, told in no more bytes than
 // a report may have. Whether a text is blank is no field: that would lie over one byte of a tag's `from`, which would then be handled in parts.
-#[derive(Clone, Copy)]
+#[derive(Clone, Copy, Debug, PartialEq, Eq)]
 pub enum Kind {
     Declaration,
     Comment,
@@ -46,7 +46,7 @@ impl Kind {
 }
 
 // A token that begins at an offset, and where it ends.
-#[derive(Clone, Copy)]
+#[derive(Clone, Copy, Debug, PartialEq, Eq)]
 pub struct Found {
     pub kind: Kind,
     pub end: usize,
@@ -263,7 +263,7 @@ pub fn is_run(s: &[u8]) -> bool
         let Some(found) = token_at(s, i) else {
             return false;
         };
-        if i != 0 && matches!(found.kind, Kind::Declaration) {
+        if i != 0 && found.kind == Kind::Declaration {
             return false;
         }
         i = found.end;
