@@ -44,7 +44,8 @@ fn next_attribute(s: &[u8], at: usize) -> Option<Next>
     Some(Next::Attribute { name: n, end })
 }
 
-// A place is kept if there is room for it, in two bytes: these hold every offset into a report.
+// A place is kept if there is room for it, in two bytes: these hold every offset into a report, and in longer bytes nothing is told by them. Names that
+// are not kept are counted too, so that no `ArrayVec` tells their count.
 fn keep(places: &mut [u16], k: usize, name: usize)
     ensures { places.new ≡ kept places.old k name }
 {
@@ -60,7 +61,7 @@ struct Noted {
     count: usize,
 }
 
-// The places of the names are noted as far as there is room.
+// The places of the names are noted as far as there is room. An iterator over the attributes would end with `None`, and not with where the blanks end.
 #[tactic(auto, using(crate::proofs::Laws::Read::Attributes::notings))]
 fn note_names(s: &[u8], at: usize, places: &mut [u16]) -> Option<Noted>
     ensures { MatchOption result

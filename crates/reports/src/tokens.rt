@@ -162,7 +162,7 @@ fn text(s: &[u8], at: usize) -> Option<Found>
 }
 
 // The rest, from an offset on, of a text that is not blank, up to the next `<` or the end; it has no `]]>`. Small letters first: most bytes are
-// those.
+// those. A reference is passed as a whole, so that no search goes over the bytes one by one.
 #[tactic(auto, using(crate::proofs::Laws::Read::Texts::texts))]
 fn text_from(s: &[u8], at: usize, from: usize) -> Option<Found>
     requires begun { at ≤ from }
@@ -253,7 +253,8 @@ pub fn tag_name(s: &[u8], at: usize) -> &[u8]
     }
 }
 
-// Whether a report is a run of tokens; without that, refusal 9.
+// Whether a report is a run of tokens; without that, refusal 9. A type of the tokens with its own `Iterator` and the relation of its steps is three
+// times as long as this loop.
 #[tactic(auto, using(crate::proofs::Laws::Read::RunAt::runs))]
 pub fn is_run(s: &[u8]) -> bool
     ensures { (result ≡ true) ↔ RunOfTokens s.now }
