@@ -92,7 +92,7 @@ fn check(a: &[u8], run: &[u8], c: Counters, out: &[u8]) -> Result<(), Refusal>
         return Err(Refusal::ShortBuffer);
     }
     lent::refusal(a, run, c)?;
-    let mut length = Length { bytes: 0 };
+    let mut length = Length::default();
     put_listing(a, run, c, &mut length);
     if length.bytes > out.len() {
         return Err(Refusal::ShortBuffer);
@@ -108,7 +108,7 @@ pub fn write_listing(a: &[u8], run: &[u8], c: Counters, out: &mut [u8]) -> Resul
     check(a, run, c, out)?;
     let mut front = Front::new(out);
     put_listing(a, run, c, &mut front);
-    front.end.ok_or(Refusal::ShortBuffer)
+    front.written()
 }
 
 // An inner call: the line of a refusal, by its number, at the start of a buffer that has room for each such line.
@@ -118,7 +118,7 @@ pub fn write_line(n: u8, out: &mut [u8]) -> Result<usize, Refusal>
 {
     let mut front = Front::new(out);
     put_refused(n, &mut front);
-    front.end.ok_or(Refusal::ShortBuffer)
+    front.written()
 }
 
 // Writes the line of a refusal, by its number, which may be any byte, and answers its length; 1 for a buffer that is short for a listing.

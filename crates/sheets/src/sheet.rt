@@ -119,5 +119,5 @@ pub fn write_sheet(a: &[u8], run: &[u8], out: &mut [u8]) -> Result<usize, Refusa
     check(a, run, out)?;
     let mut front = Front::new(out);
     put_sheet(a, run, &mut front);
-    front.end.ok_or(Refusal::ShortBuffer)
+    front.written()
 }

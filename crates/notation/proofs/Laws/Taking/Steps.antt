@@ -10,9 +10,9 @@ use Rattle.std.proofs.lemmas.Option.{none-some, same_Some}
 use Rattle.text.specs.Bytes.{joined}
 use Rattle.text.specs.Read.{Read, fail, got}
 use Rattle.text.proofs.Laws.Reads.{WhenRead, holds-got, behind}
-use Rattle.notation.specs.Sets.{Axis, child, descendant, label, star, Step, step, axis_of, test_of}
+use Rattle.notation.specs.Sets.{Axis, child, descendant, label, star, Step, step, axis_of}
 use Rattle.notation.specs.Print.{print_axis, print_step}
-use Rattle.notation.specs.Form.{label_of, formed_step}
+use Rattle.notation.specs.Form.{formed_step}
 use Rattle.notation.specs.Reads.{stored_step}
 use Rattle.notation.specs.Code.Reader.{read_step}
 use Rattle.notation.specs.Code.Taking.{step_found, found_counted, found_written, state, take_step, Small}
@@ -20,15 +20,11 @@ use Rattle.notation.specs.declared.steps.StepFound.{StepFound}
 use Rattle.notation.specs.declared.tally.Tally.{Tally}
 use Rattle.notation.proofs.Laws.Reading.Paths.{step-sound}
 
--- a step has a byte at least, and at most one label
+-- a step has a byte at least
 pub some_byte : (x : Step) → 1 ≤ length (print_step x)
 unfolding print_step
 some_byte (step child t) = omega arith
 some_byte (step descendant t) = omega arith
-
-pub few-labels : (x : Step) → length (label_of (test_of x)) ≤ 1
-few-labels (step a (label n)) = omega arith
-few-labels (step a star) = omega arith
 
 abbrev found_of : ℕ → Step → StepFound
 found_of at x = record { step = stored_step x; from = at + length (print_axis (axis_of x)); end = at + length (print_step x) }
