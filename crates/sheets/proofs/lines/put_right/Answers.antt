@@ -18,4 +18,4 @@ pub returns : goal.returns
 unfolding right_aligned
 returns g c =
     let digits = decimal c.args.n in
-    same_bytes (a_piece c.put_spaces.ensures c.put_number.ensures) (ap (λ (k : ℕ). spaces k ++ digits) (omega (arith, c.indent.ensures)))
+    same_bytes (a_piece c.put_spaces.ensures c.put_number.ensures) (ap (λ (k : ℕ). spaces k ++ digits) c.indent.ensures)

@@ -1,9 +1,9 @@
--- `rows::matched_places`: after so many turns the front of the table has the matched ones of so many places.
+-- `rows::matched_places`: after so many turns the places are the matched ones of so many.
 use native.Mathlib.Omega.{arith}
 use native.Mathlib.Numerals.{add-one}
-use Prim.Native.Nat.{suc, ◌<◌}
-use mathlib.Core.Path.{◌≡◌, refl, sym, ◌∙◌}
-use lib.ListN.{length, length-set}
+use mathlib.Core.Path.{◌≡◌, sym, ap, ◌∙◌}
+use mathlib.Core.List.{List, [], ◌∷◌, ◌++◌}
+use Prim.Native.Nat.{ℕ}
 use Rattle.text.specs.Bytes.{joined}
 use Rattle.notation.specs.Limits.{max_paths}
 use Rattle.model.specs.Folders.{count_from}
@@ -13,7 +13,7 @@ use Rattle.sheets.proofs.rows.matched_places.Goals.{then-place_matched, else-pla
 
 pub loop-place-init : goal.loop-place-init
 unfolding joined count_from
-loop-place-init c = record { few = omega arith; size = c.told-table; are = refl }
+loop-place-init c = record { few = rw c.new-places.ensures (omega arith); are = c.new-places.ensures }
 
 pub loop-place-preserved : goal.loop-place-preserved
 loop-place-preserved c =
@@ -21,15 +21,13 @@ loop-place-preserved c =
     let l = c.loop-place in
     let is = sym c.place_matched.ensures in
     elim c.if-place_matched.branch [
-      | then-place_matched w ↦ rw (w.table-is, w.count-is, add-one l.count, add-one l.place) (record {
-        few = omega arith;
-        size = rw length-set l.invariant.size;
-        are = place-added a.a.now a.run.now l.table l.count l.place (omega arith) l.invariant.are (is ∙ w.if-place_matched.true);
+      | then-place_matched w ↦ rw (w.places-is, add-one l.place) (record {
+        few = omega (arith, w.push.ensures.len, l.invariant.few);
+        are = w.push.ensures.items ∙ ap (λ (x : List ℕ). x ++ (l.place ∷ [])) l.invariant.are ∙ place-added a.a.now a.run.now l.place (is ∙ w.if-place_matched.true);
       })
-      | else-place_matched w ↦ rw (w.table-is, w.count-is, add-one l.place) (record {
-        few = omega arith;
-        size = l.invariant.size;
-        are = place-left a.a.now a.run.now l.table l.count l.place l.invariant.are (is ∙ w.if-place_matched.false);
+      | else-place_matched w ↦ rw (w.places-is, add-one l.place) (record {
+        few = omega (arith, l.invariant.few);
+        are = l.invariant.are ∙ place-left a.a.now a.run.now l.place (is ∙ w.if-place_matched.false);
       })
     ]
 

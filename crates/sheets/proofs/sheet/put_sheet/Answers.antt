@@ -7,8 +7,8 @@ use Rattle.sheets.proofs.Laws.Stored.Tables.{in_tables, rows_are}
 use Rattle.sheets.proofs.sheet.put_sheet.Goals as goal
 
 pub invariant_of-rows : goal.invariant_of-rows
-invariant_of-rows g c = rw c.matched_places.ensures (in_tables _ _ _ c.folder_numbers-numbers.ensures c.requires)
+invariant_of-rows g c = rw (c.as_slice.ensures.value, c.matched_places-places.ensures) (in_tables _ _ _ c.folder_numbers-numbers.ensures)
 
 pub returns : goal.returns
 unfolding sheet_in
-returns g c = same_bytes (rw c.matched_places.ensures at c.put_pages.ensures) (ap sheet (rows_are c.args.a.now c.args.run.now _ c.folder_numbers-numbers.ensures))
+returns g c = same_bytes (rw (c.as_slice.ensures.value, c.matched_places-places.ensures) at c.put_pages.ensures) (ap sheet (rows_are c.args.a.now c.args.run.now _ c.folder_numbers-numbers.ensures))

@@ -13,9 +13,6 @@ pub returns-in_err-check : goal.returns-in_err-check
 returns-in_err-check c = let a = c.args in
     refused-as (sheet_conditions a.a.now a.run.now a.out.now) (sheet_in a.a.now a.run.now) a.out.now _ _ c.from_residual.ensures.1 c.in_err-check.ensures
 
-pub put_sheet-requires : goal.put_sheet-requires
-put_sheet-requires c = shaped-then c.args.a.now c.args.run.now c.args.out.now (sym c.in_ok-check.ensures)
-
 pub returns : goal.returns
 returns c = let a = c.args in
     let conditions = sheet_conditions a.a.now a.run.now a.out.now in

@@ -1,5 +1,4 @@
 -- `sheet::Rows::put_line`: the line of a row, or a blank one.
-use Prim.Native.Nat.{◌<◌, ◌≤◌}
 use mathlib.Core.List.{List}
 use mathlib.Core.Path.{◌≡◌, sym, ap, ◌∙◌}
 use lib.ListN.{length, get_or}
