@@ -11,6 +11,7 @@ use notation::PathPlace;
 use notation::limits::MAX_PATHS;
 
 // The places of the matched paths, in order, in the front of a table: how many there are is known at the end, and there is no heap to collect them.
+#[tactic(auto, using(crate::proofs::Laws::Stored::Tables::places), unfolding(text::specs::Bytes::joined, model::specs::Folders::count_from))]
 pub fn matched_places<'t>(a: &[u8], run: &[u8], table: &'t mut [u8; MAX_PATHS]) -> &'t [u8]
     ensures { result.now ≡ matched_places a.now run.now }
 {

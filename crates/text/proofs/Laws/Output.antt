@@ -52,6 +52,9 @@ module _ {S : Type 0} {puts : S → List ℕ → S} where
   pub same_bytes : {s t : S} {p q : List ℕ} → Adds puts s p t → p ≡ q → Adds puts s q t
   same_bytes x e = rw e at x
 
+-- a text that is put together
+pub ruleset pieces = (a_piece, no_pieces, one, and_then, same_bytes)
+
 -- a measured text: all of its bytes
 pub measured-length : {s t : Length} {text : List ℕ} → Adds measured s text t → s.bytes ≤ 2 ^ 64 - 1 → t.bytes ≡ min (s.bytes + length text) (2 ^ 64 - 1)
 measured-length no_pieces h = omega arith

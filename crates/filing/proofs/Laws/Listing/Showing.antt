@@ -59,8 +59,8 @@ module _ (size : ℕ) (a run out : List ℕ) (h : too_small size a run out ≡ f
   run_room : run_size ≤ length run
   run_room = ltb-false (length run) run_size none-small.1.0
 
-  pub out-room : size ≤ length out
-  out-room = ltb-false (length out) size none-small.1.1
+  pub out_room : size ≤ length out
+  out_room = ltb-false (length out) size none-small.1.1
 
 -- a text no longer than the size that nothing refuses, in a buffer of the size
 pub text-printed : {size : ℕ} {order : List Condition} {text out after : List ℕ} {answer : Result ℕ Refusal} → length text ≤ size → size ≤ length out
@@ -95,7 +95,7 @@ module _ (size : ℕ) (For : FolderSet → List ℕ → List ℕ → Type 0) (te
 
   module _ (h : too_small size a run out ≡ false) where
     room : size ≤ length out
-    room = out-room size a run out h
+    room = out_room size a run out h
 
     -- by the text's verdict
     module _ {n : ℕ} {a' : List ℕ} (b : Built text a n a') where
@@ -183,9 +183,9 @@ module _ (size : ℕ) (For : FolderSet → List ℕ → List ℕ → Type 0) (te
       shown-by (Err r) (report_refused c' b f) w = report-refused (some_number r) b f w
       shown-by (Ok c') (report_filed b f) w = report-filed b f w
 
-  pub prints-by : {shows : List ℕ → List ℕ → Counters → List ℕ → Result ℕ Refusal → List ℕ → Type 0} → Faithful size For shows → {answer : Result ℕ Refusal} {a' run' out' : List ℕ}
+  pub prints_by : {shows : List ℕ → List ℕ → Counters → List ℕ → Result ℕ Refusal → List ℕ → Type 0} → Faithful size For shows → {answer : Result ℕ Refusal} {a' run' out' : List ℕ}
       → PrintsWith shows size text report a run out answer a' run' out' → PrintsBy size For text report a run out answer a' run' out'
-  prints-by faithful p =
+  prints_by faithful p =
       cases (too_small size a run out)
       (λ y. let (e, same) = p.short y in rw (e, same.0, same.1.0, same.1.1) (too_small-is y))
       (λ n. let (r, f, w) = p.done n in shown-by n faithful r f w)

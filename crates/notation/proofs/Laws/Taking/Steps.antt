@@ -26,10 +26,6 @@ unfolding print_step
 some_byte (step child t) = omega arith
 some_byte (step descendant t) = omega arith
 
-pub few-labels : (x : Step) → length (label_of (test_of x)) ≤ 1
-few-labels (step a (label n)) = omega arith
-few-labels (step a star) = omega arith
-
 abbrev found_of : ℕ → Step → StepFound
 found_of at x = record { step = stored_step x; from = at + length (print_axis (axis_of x)); end = at + length (print_step x) }
 
@@ -40,10 +36,6 @@ pub record Stands (text : List ℕ) (at : ℕ) (f : StepFound) : Type 0 where
   pub is : f ≡ found_of at item
   pub on : at < f.end
   pub ends : f.end ≤ length text
-
-pub unfound : (at : ℕ) (m : Read Step) → step_found at m ≡ None → m ≡ fail
-unfound at fail e = refl
-unfound at (got x r) e = absurd (none-some _ (sym e))
 
 pub found-stands : (text : List ℕ) (at : ℕ) (f : StepFound) → at ≤ length text → step_found at (read_step (drop at text)) ≡ Some f → Stands text at f
 unfolding print_step

@@ -1,7 +1,7 @@
 -- A byte with a bit set: its bits are those of the byte and this one; a row of bits with one set.
 use Prim.Native.Nat.{ℕ, ◌+◌, ◌*◌, ◌/◌, ◌%◌, ◌^◌, ◌<◌}
 use mathlib.Core.Path.{◌≡◌, refl, sym, ◌∙◌, ap}
-use mathlib.Core.Bool.{Bool, true, false, ◌||◌}
+use mathlib.Core.Bool.{Bool, true, false, ◌||◌, or_comm}
 use native.Mathlib.Omega.{arith}
 use borrow.Author.Tests.{eq-eqb, ne_eqb, eqb-true, eqb-false}
 use lib.Bits.{or_lt}
@@ -35,12 +35,6 @@ packed-same b c h =
 abbrev pub adding : ℕ → (ℕ → Bool) → ℕ → Bool
 adding k b j = eqb j k || b j
 
-or_swap : (x y : Bool) → (x || y) ≡ (y || x)
-or_swap true true = refl
-or_swap true false = refl
-or_swap false true = refl
-or_swap false false = refl
-
 packed-with : (b : ℕ → Bool) (k : ℕ) → k < 8 → with_bit (packed b) k ≡ packed (adding k b)
 packed-with b k h = sym (packed-from (with_bit (packed b) k) (adding k b) (with-small (packed b) k (packed-small b) h) same)
   where
@@ -48,7 +42,7 @@ packed-with b k h = sym (packed-from (with_bit (packed b) k) (adding k b) (with-
     same_place i = same_test (eqb k i) (eqb i k) (λ t. eq-eqb i k (sym (eqb-true k i t))) (λ t. eq-eqb k i (sym (eqb-true i k t)))
 
     same : (i : ℕ) → i < 8 → bit_of (with_bit (packed b) k) i ≡ adding k b i
-    same i l = with-bit (packed b) k i h l ∙ rw (packed-bit b i l, same_place i) (or_swap (b i) (eqb i k))
+    same i l = with-bit (packed b) k i h l ∙ rw (packed-bit b i l, same_place i) (or_comm (b i) (eqb i k))
 
 -- one bit more in a row of bits
 pub bits-with : (b : ℕ → Bool) (n i : ℕ) → i < 8 * n → set (bit_bytes b n) (i / 8) (with_bit (get_or (bit_bytes b n) (i / 8) 0) (i % 8)) ≡ bit_bytes (adding i b) n
