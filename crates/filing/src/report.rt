@@ -1,7 +1,6 @@
 // Filing a report: its tokens in order, each given to the machine as what it is in the tree.
 ghost use Rattle.std.specs.Prelude.{◌≡◌, [], ◌≤◌, length, take, drop, ◌-◌};
 ghost use Rattle.text.specs.Answers.{refusal_in};
-ghost use Rattle.stored.specs.Usable.{Usable};
 ghost use Rattle.stored.specs.Demand3.{Left};
 ghost use Rattle.documents.specs.Reading.{read_report};
 ghost use Rattle.documents.specs.Limits.{max_report_bytes};
@@ -9,12 +8,10 @@ ghost use Rattle.reports.specs.Seen.{name_of, from_in, to_in};
 ghost use Rattle.filing.specs.Filing.{Outcome, filed, and_then};
 ghost use Rattle.filing.specs.ReportRefusals.{stored_machine, Files};
 ghost use Rattle.filing.specs.Code.Filing.{file_report};
-ghost use Rattle.filing.specs.Code.Taking.{Answered, Taking, Named, late_declaration, repeats, with_repeat, file_found, file_last, run_from};
+ghost use Rattle.filing.specs.Code.Taking.{Answered, Takes, left_in, Named, late_declaration, repeats, with_repeat, file_found, file_last, run_from};
 
-use machine::run::close::close_usable;
-use machine::run::open::open_usable;
-use machine::run::shape::depth;
-use machine::run::start::{start, start_on};
+use machine::run::session::Session;
+use machine::run::start::start;
 use reports::limits::MAX_REPORT;
 use reports::tokens::{Kind, all_listed, token_at};
 use stored::counters::Counters;
@@ -49,28 +46,22 @@ fn repeats(kind: Kind) -> bool
 }
 
 // A token with the name of its tag. Text outside the root is blank.
-fn take(
-    a: &[u8],
-    run: &mut [u8],
-    counters: &mut Counters,
-    kind: Kind,
-    name: &[u8],
-) -> Result<(), Refusal>
-    requires { (Usable a.now run.old counters.old) × Named kind name.now }
-    ensures { Taking a.now run.old (file_found a.now (record { bytes = run.old; counters = counters.old }) kind name.now) (refusal_in result) run.new counters.new }
+fn take(session: &mut Session, kind: Kind, name: &[u8]) -> Result<(), Refusal>
+    requires { Named kind name.now }
+    ensures { Takes session.old (file_found session.old.a.now (left_in session.old) kind name.now) (refusal_in result) session.new }
 {
     match kind {
         Kind::Start { .. } => {
-            open_usable(a, run, counters, name)?;
+            session.open(name)?;
             Ok(())
         }
-        Kind::End { .. } => close_usable(a, run, counters, name),
+        Kind::End { .. } => session.close(name),
         Kind::Empty { .. } => {
-            open_usable(a, run, counters, name)?;
-            close_usable(a, run, counters, name)
+            session.open(name)?;
+            session.close(name)
         }
         Kind::Text => {
-            if depth(run) == 0 {
+            if session.depth() == 0 {
                 return Err(Refusal::NotOneRoot);
             }
             Ok(())
@@ -82,27 +73,25 @@ fn take(
 // The same after earlier tokens. A tag that repeats an attribute's name is refused, whatever an earlier token was refused with; else nothing more
 // is taken once a token was refused.
 fn take_next(
-    a: &[u8],
-    run: &mut [u8],
-    counters: &mut Counters,
+    session: &mut Session,
     taken: Result<(), Refusal>,
     kind: Kind,
     name: &[u8],
 ) -> Result<(), Refusal>
-    requires { (refusal_in taken ≡ 0 → Usable a.now run.old counters.old) × Named kind name.now }
-    ensures { (o : Outcome Left) → Answered o (refusal_in taken) run.old counters.old → Taking a.now run.old (and_then (with_repeat (repeats kind) o) (λ t. file_found a.now t kind name.now)) (refusal_in result) run.new counters.new }
+    requires { Named kind name.now }
+    ensures { (o : Outcome Left) → Answered o (refusal_in taken) session.old.run.now session.old.counters.now → Takes session.old (and_then (with_repeat (repeats kind) o) (λ t. file_found session.old.a.now t kind name.now)) (refusal_in result) session.new }
 {
     if repeats(kind) {
         return Err(Refusal::RepeatedAttribute);
     }
     taken?;
-    take(a, run, counters, kind, name)
+    take(session, kind, name)
 }
 
 // The tokens in order. The first refusal of a token is kept, and the rest is only read, for 9 and 15, which come before it; nothing comes before 9.
-fn take_tokens(a: &[u8], run: &mut [u8], counters: &mut Counters, s: &[u8]) -> Result<(), Refusal>
-    requires { (Usable a.now run.old counters.old) × (length s.now ≤ max_report_bytes) }
-    ensures { Taking a.now run.old (run_from a.now (filed (record { bytes = run.old; counters = counters.old })) (read_report s.now)) (refusal_in result) run.new counters.new }
+fn take_tokens(session: &mut Session, s: &[u8]) -> Result<(), Refusal>
+    requires { length s.now ≤ max_report_bytes }
+    ensures { Takes session.old (run_from session.old.a.now (filed (left_in session.old)) (read_report s.now)) (refusal_in result) session.new }
 {
     let mut taken = Ok(());
     let mut at = 0;
@@ -112,28 +101,27 @@ fn take_tokens(a: &[u8], run: &mut [u8], counters: &mut Counters, s: &[u8]) -> R
         if is_late(kind, at) {
             return Err(Refusal::SyntaxError);
         }
-        taken = take_next(a, run, counters, taken, kind, name_in(s, kind));
+        taken = take_next(session, taken, kind, name_in(s, kind));
         at = found.end;
     }
     taken
 }
 
 // The tokens and the report's end: there was a root, and nothing is open.
-fn take_report(a: &[u8], run: &mut [u8], counters: &mut Counters, s: &[u8]) -> Result<(), Refusal>
-    requires { (Usable a.now run.old counters.old) × (length s.now ≤ max_report_bytes) }
-    ensures { Taking a.now run.old (and_then (run_from a.now (filed (record { bytes = run.old; counters = counters.old })) (read_report s.now)) file_last) (refusal_in result) run.new counters.new }
+fn take_report(session: &mut Session, s: &[u8]) -> Result<(), Refusal>
+    requires { length s.now ≤ max_report_bytes }
+    ensures { Takes session.old (and_then (run_from session.old.a.now (filed (left_in session.old)) (read_report s.now)) file_last) (refusal_in result) session.new }
 {
-    take_tokens(a, run, counters, s)?;
-    if counters.opens == 0 || depth(run) > 0 {
+    take_tokens(session, s)?;
+    if session.counters.opens == 0 || session.depth() > 0 {
         return Err(Refusal::NotOneRoot);
     }
     Ok(())
 }
 
 // On a run that was started. 2 and 8 come before the tokens.
-fn file_started(a: &[u8], run: &mut [u8], counters: &mut Counters, s: &[u8]) -> Result<(), Refusal>
-    requires { Usable a.now run.old counters.old }
-    ensures { Taking a.now run.old (file_report (stored_machine a.now) (record { bytes = run.old; counters = counters.old }) [] s.now) (refusal_in result) run.new counters.new }
+fn file_started(session: &mut Session, s: &[u8]) -> Result<(), Refusal>
+    ensures { Takes session.old (file_report (stored_machine session.old.a.now) (left_in session.old) [] s.now) (refusal_in result) session.new }
 {
     if s.len() > MAX_REPORT {
         return Err(Refusal::TooLarge);
@@ -141,7 +129,7 @@ fn file_started(a: &[u8], run: &mut [u8], counters: &mut Counters, s: &[u8]) -> 
     if !all_listed(s) {
         return Err(Refusal::InvalidByte);
     }
-    take_report(a, run, counters, s)
+    take_report(session, s)
 }
 
 // Files a report. 1 and 14, which are of what is lent, leave all as it was; any other refusal leaves a fresh run.
@@ -154,10 +142,10 @@ pub fn file_report(
     ensures { Files a.now run.old counters.old report.now (refusal_in result) run.new counters.new }
 {
     start(a, run, counters)?;
-    let filed = file_started(a, run, counters, report);
+    let mut session = Session { a, run, counters };
+    let filed = file_started(&mut session, report);
     if filed.is_err() {
-        start_on(a, run);
-        *counters = Counters::none();
+        session.restart();
     }
     filed
 }

@@ -1,18 +1,17 @@
-// Building an automaton: a set is read into its first bytes, and a pass for each of its tables makes the others behind it. A pass takes the bytes
-// with their size in its clauses, not a type that has it, as readers do (Automaton): each store would have to show it anew, and a clause could
-// not name the bytes alone.
+// Building an automaton: a set is read into its first bytes, and a pass for each of its tables makes the others behind it.
+mod bytes;
 mod chains;
 mod fails;
 mod groups;
 mod masks;
 mod parents;
 
-ghost use Rattle.std.specs.Prelude.{◌≡◌, ◌≤◌, length};
+ghost use Rattle.std.specs.Prelude.{◌≡◌};
 ghost use Rattle.text.specs.Answers.{refusal_in};
-ghost use Rattle.stored.specs.Automaton.{automaton_size};
 ghost use Rattle.stored.specs.Build.{Built};
 ghost use Rattle.stored.specs.Code.Passes.{ReadIn, cleared, made};
 
+use crate::build::bytes::Bytes;
 use crate::layout::AUTOMATON_SIZE;
 use notation::layout::SET_SIZE;
 use notation::read::read_set;
@@ -20,15 +19,14 @@ use text::refusals::Refusal;
 
 // Zeros behind the read set.
 #[tactic(auto, unfolding(notation::specs::Layout::set_size, stored::specs::Automaton::automaton_size, stored::specs::Code::Passes::cleared))]
-fn clear_tables(part: &mut [u8])
-    requires { automaton_size ≤ length part.old }
+fn clear_tables(part: &mut Bytes)
     ensures { part.new ≡ cleared part.old }
 {
-    part[SET_SIZE..AUTOMATON_SIZE].fill(0);
+    part[SET_SIZE..].fill(0);
 }
 
 // The passes over a read set, in order.
-fn make(part: &mut [u8])
+fn make(part: &mut Bytes)
     requires { ReadIn part.old }
     ensures { part.new ≡ made part.old }
 {
@@ -47,10 +45,10 @@ fn make(part: &mut [u8])
 pub fn build(text: &[u8], automaton: &mut [u8]) -> Result<(), Refusal>
     ensures { Built text.now automaton.old (refusal_in result) automaton.new }
 {
-    if automaton.len() < AUTOMATON_SIZE {
+    let Some(part) = automaton.first_chunk_mut::<AUTOMATON_SIZE>() else {
         return Err(Refusal::ShortBuffer);
-    }
-    read_set(text, automaton)?;
-    make(automaton);
+    };
+    read_set(text, part)?;
+    make(part);
     Ok(())
 }

@@ -9,6 +9,7 @@ pub mod open;
 mod refusals;
 mod row;
 mod rows;
+pub mod session;
 pub mod shape;
 pub mod start;
 mod steps;

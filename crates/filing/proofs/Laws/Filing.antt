@@ -13,3 +13,4 @@ pub mod FilingAlike
 pub mod FilingOpens
 pub mod FromBytes
 pub mod Demand2Whole
+pub mod Sessions

@@ -1,5 +1,5 @@
 -- What the calls of a report's tokens answer, by what the code says of each token (follows the code; laws tie it to the tokens' events).
-use Rattle.std.specs.Prelude.{ℕ, ◌≡◌, Bool, true, false, not, ◌&&◌, ◌||◌, cond, List, [], ◌∷◌, eqb, Option, None, Some}
+use Rattle.std.specs.Prelude.{ℕ, ◌≡◌, Bool, true, false, not, ◌&&◌, List, [], ◌∷◌, eqb}
 use Rattle.text.specs.Names.{Name, name_form}
 use Rattle.text.specs.declared.refusals.Refusal.TheVariants.{SyntaxError, NotOneRoot, RepeatedAttribute}
 use Rattle.text.specs.Refusals.{number_of}
@@ -13,6 +13,8 @@ use Rattle.documents.specs.Tokens.{Token}
 use Rattle.documents.specs.Repeats.{repeats_in}
 use Rattle.text.specs.Read.{Read, fail, got}
 use Rattle.documents.specs.Document.{opening, closing, events_of}
+use Rattle.machine.specs.declared.run.session.Session.{Session}
+use Rattle.machine.specs.Session.{Kept}
 use Rattle.filing.specs.Filing.{Outcome, refused, filed, and_then, unless, file_event, file_events, file_end}
 use Rattle.filing.specs.ReportRefusals.{stored_machine}
 
@@ -25,6 +27,15 @@ Answered (filed t) n run c = (n ≡ 0) × (t ≡ record { bytes = run; counters 
 pub record Taking (a run : List ℕ) (o : Outcome Left) (n : ℕ) (run' : List ℕ) (c' : Counters) : Type 0 where
   pub answered : Answered o n run' c'
   pub restarts : start_run a run' ≡ start_run a run
+
+-- run and counters as a session has them
+abbrev pub left_in : Session → Left
+left_in s = record { bytes = s.run.now; counters = s.counters.now }
+
+-- what calls make of a session, which stays that of the same run
+pub record Takes (s : Session) (o : Outcome Left) (n : ℕ) (t : Session) : Type 0 where
+  pub kept : Kept s t
+  pub taking : Taking s.a.now s.run.now o n t.run.now t.counters.now
 
 abbrev pub file_open : List ℕ → Left → Name → Outcome Left
 file_open a t e = file_event (stored_machine a) t (opening e)

@@ -1,12 +1,13 @@
 // The masks: for each step in set order a bit in each of them. And the initial state.
-#![tactic(auto, unfolding(stored::specs::Automaton::automaton_size, stored::specs::Automaton::mask_size, stored::specs::Automaton::masks_at, stored::specs::Automaton::start_at))]
+#![tactic(auto, unfolding(stored::specs::Automaton::mask_size, stored::specs::Automaton::masks_at, stored::specs::Automaton::start_at))]
 
-ghost use Rattle.std.specs.Prelude.{◌≡◌, true, ◌+◌, ◌*◌, ◌≤◌, ◌<◌, length};
-ghost use Rattle.stored.specs.Automaton.{mask_size, automaton_size, bit};
+ghost use Rattle.std.specs.Prelude.{◌≡◌, true, ◌+◌, ◌*◌, ◌<◌};
+ghost use Rattle.stored.specs.Automaton.{mask_size, bit};
 ghost use Rattle.stored.specs.Code.Masks.{flagged, axis_mask, flag_role, flag_step, flag_steps, flag_path, with_masks, child_at, rooted, any_rooted, with_start};
 ghost use Rattle.notation.specs.Reads.{step_at, path_count};
 ghost use Rattle.machine.specs.Masks.{mask_number};
 
+use crate::build::bytes::Bytes;
 use crate::layout::{MASK_SIZE, MASKS_AT, Mask, START_AT};
 use notation::reads::StoredStep;
 use notation::{PathPlace, reads};
@@ -15,8 +16,8 @@ use text::store::put16;
 const STEP_BITS: usize = 8 * MASK_SIZE;
 
 // Bit i of a mask is set.
-fn flag(part: &mut [u8], mask: Mask, i: usize)
-    requires { (i < 8 * mask_size) × (automaton_size ≤ length part.old) }
+fn flag(part: &mut Bytes, mask: Mask, i: usize)
+    requires { i < 8 * mask_size }
     ensures { part.new ≡ flagged true (mask_number mask) i part.old }
 {
     let j = STEP_BITS * mask as usize + i;
@@ -36,8 +37,8 @@ fn axis_mask(first: bool, deep: bool) -> Mask
 }
 
 // A step in the masks.
-fn flag_role(part: &mut [u8], i: usize, step: StoredStep, first: bool, last: bool)
-    requires { (i < 8 * mask_size) × (automaton_size ≤ length part.old) }
+fn flag_role(part: &mut Bytes, i: usize, step: StoredStep, first: bool, last: bool)
+    requires { i < 8 * mask_size }
     ensures { part.new ≡ flag_role i step.descendant step.star first last part.old }
 {
     if step.star {
@@ -49,8 +50,7 @@ fn flag_role(part: &mut [u8], i: usize, step: StoredStep, first: bool, last: boo
     }
 }
 
-fn flag_step(part: &mut [u8], i: usize, first: bool, last: bool)
-    requires { automaton_size ≤ length part.old }
+fn flag_step(part: &mut Bytes, i: usize, first: bool, last: bool)
     ensures { part.new ≡ flag_step i first last part.old }
 {
     if STEP_BITS <= i {
@@ -62,8 +62,8 @@ fn flag_step(part: &mut [u8], i: usize, first: bool, last: bool)
 }
 
 // The steps of a path.
-fn flag_steps(part: &mut [u8], from: usize, steps: usize)
-    requires { (from < 65536) × (steps < 65536) × (automaton_size ≤ length part.old) }
+fn flag_steps(part: &mut Bytes, from: usize, steps: usize)
+    requires { (from < 65536) × (steps < 65536) }
     ensures { part.new ≡ flag_steps steps from true part.old }
 {
     for k in 0..steps {
@@ -71,8 +71,7 @@ fn flag_steps(part: &mut [u8], from: usize, steps: usize)
     }
 }
 
-fn flag_path(part: &mut [u8], place: usize)
-    requires { automaton_size ≤ length part.old }
+fn flag_path(part: &mut Bytes, place: usize)
     ensures { part.new ≡ flag_path place part.old }
 {
     if let Some(path) = reads::path_at(part, PathPlace(place)) {
@@ -81,8 +80,7 @@ fn flag_path(part: &mut [u8], place: usize)
 }
 
 // Every path's steps.
-pub fn write_masks(part: &mut [u8])
-    requires { automaton_size ≤ length part.old }
+pub fn write_masks(part: &mut Bytes)
     ensures { part.new ≡ with_masks part.old }
 {
     for place in 0..reads::paths(part) {
@@ -111,8 +109,7 @@ fn start_state(part: &[u8]) -> usize
 }
 
 // The state of a fresh run.
-pub fn write_start(part: &mut [u8])
-    requires { automaton_size ≤ length part.old }
+pub fn write_start(part: &mut Bytes)
     ensures { part.new ≡ with_start part.old }
 {
     let q = start_state(part);

@@ -1,20 +1,19 @@
 // Each label's parent and the length of its word, step by step in set order.
-#![tactic(auto, unfolding(notation::specs::Limits::max_labels, stored::specs::Automaton::automaton_size, stored::specs::Automaton::links_at, stored::specs::Automaton::link_size))]
+#![tactic(auto, unfolding(notation::specs::Limits::max_labels, stored::specs::Automaton::automaton_size))]
 
-ghost use Rattle.std.specs.Prelude.{◌≡◌, suc, ◌+◌, ◌≤◌, ◌<◌, length};
+ghost use Rattle.std.specs.Prelude.{◌≡◌, suc, ◌+◌, ◌≤◌, ◌<◌};
 ghost use Rattle.notation.specs.Limits.{max_labels};
 ghost use Rattle.notation.specs.Reads.{path_at, step_count, label_count, label_name};
-ghost use Rattle.stored.specs.Automaton.{automaton_size};
 ghost use Rattle.stored.specs.Tables.{goto};
 ghost use Rattle.stored.specs.Usable.{Searchable};
 ghost use Rattle.stored.specs.Code.Parents.{starts_at, entered, emptied, word_stored, labelled, passed, parented, before_paths, Sound};
 
 use crate::automaton::Automaton;
-use crate::layout::{LINK_SIZE, LINKS_AT, PARENT_IN, SIZE_IN};
+use crate::build::bytes::{Bytes, put_link};
+use crate::layout::{PARENT_IN, SIZE_IN};
 use notation::limits::MAX_LABELS;
 use notation::{PathPlace, reads};
 use stored::place::Place;
-use text::store::put16;
 
 // Whether path `p` begins with step `i`.
 fn starts_path(part: &[u8], p: usize, i: usize) -> bool
@@ -46,20 +45,19 @@ fn emptied(at: Place) -> Place
     Place { state: 0, ..at }
 }
 
-fn store_word(part: &mut [u8], l: usize, q: usize)
-    requires { (l < max_labels) × (q ≤ suc max_labels) × (automaton_size ≤ length part.old) }
+fn store_word(part: &mut Bytes, l: usize, q: usize)
+    requires { (l < max_labels) × (q ≤ suc max_labels) }
     ensures { part.new ≡ word_stored l q part.old }
 {
     let automaton = Automaton { bytes: part };
     let size = automaton.size_of(q) + 1;
-    let from = LINKS_AT + LINK_SIZE * l;
-    put16(part, from + PARENT_IN, q);
-    put16(part, from + SIZE_IN, size);
+    put_link(part, l, PARENT_IN, q);
+    put_link(part, l, SIZE_IN, size);
 }
 
 // The state after label `l` where `q` is the one before it.
-fn follow(part: &[u8], q: usize, l: usize) -> usize
-    requires { Searchable part.now × (automaton_size ≤ length part.now) }
+fn follow(part: &Bytes, q: usize, l: usize) -> usize
+    requires { Searchable part.now }
     ensures { (result ≡ goto part.now q (label_name part.now l)) × (result ≤ suc (label_count part.now)) }
 {
     let automaton = Automaton { bytes: part };
@@ -68,8 +66,8 @@ fn follow(part: &[u8], q: usize, l: usize) -> usize
 }
 
 // A label's step: its parent and length are stored, and its word's state is the next one.
-fn put_word(part: &mut [u8], at: Place) -> Place
-    requires { Searchable part.old × ((at.state ≤ suc (label_count part.old)) × (automaton_size ≤ length part.old)) }
+fn put_word(part: &mut Bytes, at: Place) -> Place
+    requires { Searchable part.old × (at.state ≤ suc (label_count part.old)) }
     ensures bytes { part.new ≡ (labelled at part.old).bytes }
     ensures place { result ≡ (labelled at part.old).place }
     ensures sound { Sound at.paths result part.new }
@@ -87,8 +85,8 @@ fn put_word(part: &mut [u8], at: Place) -> Place
 }
 
 // One step.
-fn pass_step(part: &mut [u8], i: usize, at: Place) -> Place
-    requires { (Sound i at part.old) × ((i < 65536) × (automaton_size ≤ length part.old)) }
+fn pass_step(part: &mut Bytes, i: usize, at: Place) -> Place
+    requires { Sound i at part.old × (i < 65536) }
     ensures bytes { part.new ≡ (passed i at part.old).bytes }
     ensures place { result ≡ (passed i at part.old).place }
     ensures sound { Sound (i + 1) result part.new }
@@ -106,8 +104,8 @@ fn pass_step(part: &mut [u8], i: usize, at: Place) -> Place
 }
 
 // Every step, from the first to the last.
-pub fn parents(part: &mut [u8])
-    requires { Searchable part.old × (automaton_size ≤ length part.old) }
+pub fn parents(part: &mut Bytes)
+    requires { Searchable part.old }
     ensures { part.new ≡ parented (step_count part.old) 0 before_paths part.old }
 {
     let mut at = Place::default();

@@ -6,12 +6,12 @@ ghost use Rattle.text.specs.Answers.{refusal_in};
 ghost use Rattle.text.specs.Names.{name_form};
 ghost use Rattle.model.specs.Limits.{max_depth};
 ghost use Rattle.stored.specs.RunContracts.{Closes};
-ghost use Rattle.stored.specs.Usable.{Usable};
 ghost use Rattle.stored.specs.Run.{run_size};
 ghost use Rattle.stored.specs.RunCalls.{depth_of, close_run};
 
 use crate::run::layout::{ACTIVE_IN, DEPTH_AT, ROW_SIZE, SEEN_IN};
 use crate::run::rows::Run;
+use crate::run::session::Session;
 use crate::run::{lent, refusals, row, rows};
 use stored::counters::Counters;
 use text::names::name_form;
@@ -31,20 +31,22 @@ fn close_on(run: &mut [u8])
     run[at + ACTIVE_IN..at + SEEN_IN].fill(0);
 }
 
-// The close, for callers that know that automaton, run and counters pass the shape test, and that the name has name form.
-pub fn close_usable(
-    a: &[u8],
-    run: &mut [u8],
-    counters: &mut Counters,
-    e: &[u8],
-) -> Result<(), Refusal>
-    requires { (Usable a.now run.old counters.old) × (name_form e.now ≡ true) }
-    ensures { Closes a.now run.old counters.old e.now (refusal_in result) run.new counters.new }
-{
-    refusals::close_others(a, run, e)?;
-    close_on(run);
-    counters.count_close();
-    Ok(())
+impl<'a> Session<'a> {
+    ghost use Rattle.machine.specs.Session.{Kept};
+
+    // The close of a name of name form.
+    pub fn close(&mut self, e: &[u8]) -> Result<(), Refusal>
+        requires { name_form e.now ≡ true }
+        ensures closes { Closes self.old.a.now self.old.run.now self.old.counters.now e.now (refusal_in result) self.new.run.now self.new.counters.now }
+        ensures kept { Kept self.old self.new }
+    {
+        let run = &mut *self.run;
+        let counters = &mut *self.counters;
+        refusals::close_others(self.a, run, e)?;
+        close_on(run);
+        counters.count_close();
+        Ok(())
+    }
 }
 
 // The close.
@@ -55,5 +57,5 @@ pub fn close(a: &[u8], run: &mut [u8], counters: &mut Counters, e: &[u8]) -> Res
     if !name_form(e) {
         return Err(Refusal::SyntaxError);
     }
-    close_usable(a, run, counters, e)
+    Session { a, run, counters }.close(e)
 }

@@ -7,7 +7,7 @@ ghost use Rattle.notation.specs.Limits.{max_steps};
 ghost use Rattle.model.specs.Limits.{max_depth};
 ghost use Rattle.stored.specs.Tables.{first_of};
 ghost use Rattle.stored.specs.RunContracts.{Opens};
-ghost use Rattle.stored.specs.Usable.{Openable, Ready, Usable};
+ghost use Rattle.stored.specs.Usable.{Openable, Ready};
 ghost use Rattle.stored.specs.Run.{run_size};
 ghost use Rattle.stored.specs.RunCalls.{depth_of, open_run, open_walk};
 ghost use Rattle.machine.specs.Places.{place_of};
@@ -16,6 +16,7 @@ use crate::automaton::{Automaton, Label};
 use crate::layout::MASK_SIZE;
 use crate::run::layout::{DEPTH_AT, ROW_SIZE};
 use crate::run::rows::Run;
+use crate::run::session::Session;
 use crate::run::{lent, refusals, row, rows};
 use stored::counters::Counters;
 use stored::walk::Walk;
@@ -58,21 +59,23 @@ fn open_on(a: &[u8], run: &mut [u8], e: &[u8]) -> Walk
     walked
 }
 
-// The open, for callers that know that automaton, run and counters pass the shape test, and that the name has name form.
-pub fn open_usable(
-    a: &[u8],
-    run: &mut [u8],
-    counters: &mut Counters,
-    e: &[u8],
-) -> Result<usize, Refusal>
-    requires { (Usable a.now run.old counters.old) × (name_form e.now ≡ true) }
-    ensures { Opens a.now run.old counters.old e.now result run.new counters.new }
-{
-    refusals::open_others(&Run { bytes: run }, *counters, e)?;
-    let walked = open_on(a, run, e);
-    let moves = walked.moves;
-    counters.count_open(moves);
-    Ok(moves)
+impl<'a> Session<'a> {
+    ghost use Rattle.machine.specs.Session.{Kept};
+
+    // The open of a name of name form.
+    pub fn open(&mut self, e: &[u8]) -> Result<usize, Refusal>
+        requires { name_form e.now ≡ true }
+        ensures opens { Opens self.old.a.now self.old.run.now self.old.counters.now e.now result self.new.run.now self.new.counters.now }
+        ensures kept { Kept self.old self.new }
+    {
+        let run = &mut *self.run;
+        let counters = &mut *self.counters;
+        refusals::open_others(&Run { bytes: run }, *counters, e)?;
+        let walked = open_on(self.a, run, e);
+        let moves = walked.moves;
+        counters.count_open(moves);
+        Ok(moves)
+    }
 }
 
 // The open. It answers its own failure moves.
@@ -83,5 +86,5 @@ pub fn open(a: &[u8], run: &mut [u8], counters: &mut Counters, e: &[u8]) -> Resu
     if !name_form(e) {
         return Err(Refusal::SyntaxError);
     }
-    open_usable(a, run, counters, e)
+    Session { a, run, counters }.open(e)
 }

@@ -11,6 +11,7 @@ use crate::layout::START_AT;
 use crate::run::layout::{ROWS_AT, RUN_SIZE, STATE_IN};
 use crate::run::lent::too_short;
 use crate::run::row::put_word;
+use crate::run::session::Session;
 use crate::shape::automaton_shaped;
 use notation::reads;
 use stored::counters::Counters;
@@ -45,4 +46,21 @@ pub fn start(a: &[u8], run: &mut [u8], counters: &mut Counters) -> Result<(), Re
     start_on(a, run);
     *counters = Counters::none();
     Ok(())
+}
+
+impl<'a> Session<'a> {
+    ghost use Rattle.stored.specs.RunCalls.{no_counters};
+    ghost use Rattle.machine.specs.Session.{Kept};
+
+    // A fresh run once more.
+    pub fn restart(&mut self)
+        ensures run { self.new.run.now ≡ start_run self.old.a.now self.old.run.now }
+        ensures counters { self.new.counters.now ≡ no_counters }
+        ensures kept { Kept self.old self.new }
+    {
+        let run = &mut *self.run;
+        let counters = &mut *self.counters;
+        start_on(self.a, run);
+        *counters = Counters::none();
+    }
 }

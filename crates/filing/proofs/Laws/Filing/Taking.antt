@@ -2,7 +2,7 @@
 use Prim.Native.Nat.{ℕ, zero, suc, ◌-◌, ◌≤◌, ◌<◌}
 use native.Mathlib.Omega.{arith}
 use mathlib.Core.Path.{◌≡◌, refl, sym, ap, ap₂, ◌∙◌}
-use mathlib.Core.Bool.{Bool, true, false, not, ◌&&◌, ◌||◌, cond, and-false, or-false, or-true}
+use mathlib.Core.Bool.{Bool, true, false, not, ◌||◌, cond, and-false, or-false, or-true}
 use mathlib.Core.Option.{Option, none, some}
 use mathlib.Core.List.{List, [], ◌∷◌}
 use lib.Dec.{eqb}
@@ -27,12 +27,11 @@ use Rattle.stored.specs.Demand3.{Left, started}
 use Rattle.stored.specs.declared.counters.Counters.{Counters}
 use Rattle.text.proofs.Laws.Results.{number_in_said}
 use Rattle.stored.proofs.Laws.Shapes.Given.{open-others, close-others}
-use Rattle.stored.proofs.Laws.Shapes.Kept.{start-usable, open-usable, close-usable}
+use Rattle.stored.proofs.Laws.Shapes.Kept.{start-usable}
 use Rattle.stored.proofs.Laws.Running.Restart.{start-restart, open-restart, close-restart}
 use Rattle.documents.specs.Limits.{max_report_bytes}
 use Rattle.reports.specs.declared.tokens.Found.{Found}
 use Rattle.reports.specs.declared.tokens.Kind.{Kind}
-use Rattle.reports.specs.declared.tokens.Kind.TheVariants.{Declaration, Comment, Start, Empty, End, Blank, Text}
 use Rattle.reports.proofs.Laws.Read.Reaches.{never}
 use Rattle.reports.proofs.Laws.Read.RunAt.{Was, was_read}
 use Rattle.documents.specs.Tokens.{Token, declaration, comment, start_tag, empty_tag, end_tag, text, listed, is_declaration}
@@ -46,7 +45,7 @@ use Rattle.reports.specs.Code.Seen.{tag_name, name_of_token}
 use Rattle.filing.specs.Filing.{Outcome, refused, filed, number_given, and_then, unless, file_events}
 use Rattle.filing.specs.ReportRefusals.{stored_machine, left_by, Files}
 use Rattle.filing.specs.Code.Filing.{is_no_run, tokens_in, file_report}
-use Rattle.filing.specs.Code.Taking.{Answered, Taking, file_open, file_close, file_text, late_declaration, with_repeat, file_found, repeats, step_found, file_last, run_from}
+use Rattle.filing.specs.Code.Taking.{Answered, Taking, file_open, file_close, file_text, late_declaration, with_repeat, step_found, file_last, run_from}
 use Rattle.filing.proofs.Laws.Filing.FilingParts.{then-filed, then_same, then-more, events-append}
 use Rattle.filing.proofs.Laws.Filing.FilingOrder.{report-is, start-refused, start-lent, once-started, report-own}
 use Rattle.reports.proofs.Laws.Read.Next.{tokens_from, token-next, from_end, from-none, from-late, from_next}
@@ -332,15 +331,15 @@ module _ (a run : List ℕ) (c : Counters) (n₁ : ℕ) (run₁ : List ℕ) (c�
       numbered (refused r) h = h
       numbered (filed l) h = h.0
 
-      pub filed-done : n ≡ 0 → Files a run c report n run₂ c₂
-      filed-done e =
+      pub filed-done : n ≡ 0 → (run' : List ℕ) (c' : Counters) → run' ≡ run₂ → c' ≡ c₂ → Files a run c report n run' c'
+      filed-done e run' c' p q =
           let done = goes_on o n run₂ c₂ same e in
           record {
             outcome = o;
             given = (report-is a run report o).1 (once-started a run report starts);
             answers = numbered o same;
-            run_after = sym (ap (λ (x : Outcome Left). (left_by a run c x).bytes) done);
-            counters_after = sym (ap (λ (x : Outcome Left). (left_by a run c x).counters) done);
+            run_after = p ∙ sym (ap (λ (x : Outcome Left). (left_by a run c x).bytes) done);
+            counters_after = q ∙ sym (ap (λ (x : Outcome Left). (left_by a run c x).counters) done);
           }
 
       fresh-left : (n ≡ 0 → ⊥) → (x : Outcome Left) → o ≡ x → Answered x n run₂ c₂ → left_by a run c x ≡ started a run
@@ -358,62 +357,11 @@ module _ (a run : List ℕ) (c : Counters) (n₁ : ℕ) (run₁ : List ℕ) (c�
             counters_after = q ∙ sym (ap (λ (x : Left). x.counters) left);
           }
 
--- What is left passes the shape test, token after token.
-
-abbrev pub Fit : List ℕ → Outcome Left → Type 0
-Fit a (refused r) = Unit {0}
-Fit a (filed t) = Usable a t.bytes t.counters
-
-pub fit-answered : (a : List ℕ) (o : Outcome Left) (n : ℕ) (run : List ℕ) (c : Counters) → Answered o n run c → Fit a o → n ≡ 0 → Usable a run c
-fit-answered a o n run c t f z = rw (goes_on o n run c t z) at f
-
-unless-fit : (a : List ℕ) (x : Option Refusal) (t : Left) → (x ≡ none → Usable a t.bytes t.counters) → Fit a (unless x t)
-unless-fit a none t u = u refl
-unless-fit a (some r) t u = tt
-
-then_fit : (a : List ℕ) (o : Outcome Left) (k : Left → Outcome Left) → Fit a o → ((t : Left) → Usable a t.bytes t.counters → Fit a (k t)) → Fit a (and_then o k)
-then_fit a (refused r) k f g = tt
-then_fit a (filed t) k f g = g t f
-
-module _ (a : List ℕ) (t : Left) (e : Name) (u : Usable a t.bytes t.counters) where
-  open-fit : Fit a (file_open a t e)
-  unfolding given
-  open-fit = unless-fit a (first (open_others t.bytes t.counters e)) _ (λ n. open-usable a t.bytes t.counters e u (open-others a t.bytes t.counters e u ∙ ap number_in n))
-
-  close-fit : Fit a (file_close a t e)
-  unfolding given
-  close-fit = unless-fit a (first (close_others t.bytes e)) _ (λ n. close-usable a t.bytes t.counters e u (close-others a t.bytes t.counters e u ∙ ap number_in n))
-
-repeat-fit : (a : List ℕ) (twice : Bool) (o : Outcome Left) → Fit a o → Fit a (with_repeat twice o)
-repeat-fit a true o f = tt
-repeat-fit a false o f = f
-
-text-fit : (a : List ℕ) (t : Left) (all : Bool) → Usable a t.bytes t.counters → Fit a (file_text t all)
-text-fit a t all u = unless-fit a (first (gives (eqb (depth_of t.bytes) 0 && not all) NotOneRoot ∷ [])) t (λ n. u)
-
-file-fit : (a : List ℕ) (t : Left) (k : Kind) (e : Name) → Usable a t.bytes t.counters → Fit a (file_found a t k e)
-file-fit a t Declaration e u = u
-file-fit a t Comment e u = u
-file-fit a t (Start n twice) e u = open-fit a t e u
-file-fit a t (Empty n twice) e u = then_fit a (file_open a t e) (λ t₂. file_close a t₂ e) (open-fit a t e u) (λ t₂ w. close-fit a t₂ e w)
-file-fit a t (End n) e u = close-fit a t e u
-file-fit a t Blank e u = text-fit a t true u
-file-fit a t Text e u = text-fit a t false u
-
-found-fit : (a : List ℕ) (o : Outcome Left) (k : Kind) (e : Name) → Fit a o → Fit a (step_found a o k e)
-found-fit a o k e u = then_fit a (with_repeat (repeats k) o) _ (repeat-fit a (repeats k) o u) (λ t v. file-fit a t k e v)
-
--- what an open that is accepted leaves
-pub opened-usable : (a run : List ℕ) (c : Counters) (e : Name) (n : ℕ) (run' : List ℕ) (c' : Counters) → Taking a run (file_open a (record { bytes = run; counters = c }) e) n run' c'
-    → Usable a run c → n ≡ 0 → Usable a run' c'
-opened-usable a run c e n run' c' t u = fit-answered a (file_open a (record { bytes = run; counters = c }) e) n run' c' t.answered (open-fit a (record { bytes = run; counters = c }) e u)
-
 -- a turn of the loop: what was taken has an outcome, of which the tokens from here make the outcome of all
 pub record Turn (a s : List ℕ) (i n : ℕ) (run : List ℕ) (c : Counters) (all : Outcome Left) : Type 0 where
   pub outcome : Outcome Left
   pub answered : Answered outcome n run c
   pub same : RunAt a outcome s i ≡ all
-  pub fit : Fit a outcome
 
 module _ (a s : List ℕ) (short : length s ≤ max_report_bytes) (i : ℕ) (inside : i < length s) (n : ℕ) (run : List ℕ) (c : Counters) (all : Outcome Left) (t : Turn a s i n run c all) where
   abbrev met : Maybe Found
@@ -443,5 +391,4 @@ module _ (a s : List ℕ) (short : length s ≤ max_report_bytes) (i : ℕ) (ins
         outcome = step;
         answered = x.answered;
         same = goes.1.1 ∙ t.same;
-        fit = found-fit a t.outcome f.kind (tag_name (read_token (drop i s))) t.fit;
       }

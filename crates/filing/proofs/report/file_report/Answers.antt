@@ -1,28 +1,40 @@
 -- `report::file_report`: a refused start leaves all; a refused report is followed by a fresh run.
 use native.Mathlib.Omega.{arith}
-use mathlib.Core.Path.{sym, ◌∙◌, ap}
+use mathlib.Core.Path.{◌≡◌, sym, ◌∙◌, ap}
+use Rattle.std.specs.Prelude.{ℕ, List}
+use Rattle.std.specs.Borrow.{Bor}
 use Rattle.text.specs.Answers.{refusal_in}
 use Rattle.text.proofs.Laws.Numbers.{some_number}
 use Rattle.text.proofs.Laws.Results.{handed_number}
 use Rattle.filing.proofs.Laws.Filing.Taking.{err_number, ok_number, filed-refused, fresh-run, filed-done, filed-fresh}
+use Rattle.filing.proofs.Laws.Filing.Sessions.{kept-on}
 use Rattle.filing.proofs.report.file_report.Goals as goal
+
+then_same : {A : Type 0} {x y z : A} → y ≡ z → x ≡ y → x ≡ z
+then_same e f = f ∙ e
 
 pub returns-in_err-start : goal.returns-in_err-start
 returns-in_err-start c =
     let is = ap refusal_in c.in_err-start.was in
     rw (handed_number _ _ _ c.from_residual.ensures.1 (sym is)) (filed-refused _ _ _ _ _ _ c.start.ensures _ (λ z. some_number _ (sym is ∙ z)))
 
-pub file_started-filed-requires : goal.file_started-filed-requires
-file_started-filed-requires c = fresh-run _ _ _ _ _ _ c.start.ensures (ap refusal_in c.in_ok-start.was)
-
-pub start_on-requires : goal.start_on-requires
-start_on-requires c = omega (arith, c.file_started-filed.auto.run, (fresh-run _ _ _ _ _ _ c.start.ensures (ap refusal_in c.in_ok-start.was)).ready.run_length)
+pub invariant_of-session : goal.invariant_of-session
+invariant_of-session c = record { usable = fresh-run _ _ _ _ _ _ c.start.ensures (ap refusal_in c.in_ok-start.was) }
 
 pub returns-then-is_err : goal.returns-then-is_err
 returns-then-is_err c =
+    let f = c.file_started-filed.ensures in
+    let r = c.restart.ensures in
+    let k = kept-on f.kept r.kept in
+    let run = k.run in
+    let counters = k.counters in
     let refused = err_number _ (sym c.is_err.ensures.value ∙ c.if-is_err.true) in
-    filed-fresh _ _ _ _ _ _ c.start.ensures (ap refusal_in c.in_ok-start.was) _ _ _ _ c.file_started-filed.ensures refused _ _ c.start_on.ensures c.none.ensures
+    let again = rw (ap (λ (b : Bor (List ℕ)). b.now) f.kept.automaton) at r.run in
+    filed-fresh _ _ _ _ _ _ c.start.ensures (ap refusal_in c.in_ok-start.was) _ _ _ _ f.taking refused _ _ (then_same again (grind (arith, run))) (then_same r.counters (grind (arith, counters)))
 
 pub returns-else-is_err : goal.returns-else-is_err
 returns-else-is_err c =
-    filed-done _ _ _ _ _ _ c.start.ensures (ap refusal_in c.in_ok-start.was) _ _ _ _ c.file_started-filed.ensures (ok_number _ (sym c.is_err.ensures.value ∙ c.if-is_err.false))
+    let f = c.file_started-filed.ensures in
+    let run = f.kept.run in
+    let counters = f.kept.counters in
+    filed-done _ _ _ _ _ _ c.start.ensures (ap refusal_in c.in_ok-start.was) _ _ _ _ f.taking (ok_number _ (sym c.is_err.ensures.value ∙ c.if-is_err.false)) _ _ (grind (arith, run)) (grind (arith, counters))

@@ -2,60 +2,53 @@
 use mathlib.Core.Path.{refl, sym, ◌∙◌, ap}
 use mathlib.Core.Logic.{⊎_elim}
 use Rattle.filing.specs.Filing.{filed}
+use Rattle.filing.specs.Code.Taking.{left_in}
 use Rattle.text.specs.Answers.{refusal_in}
 use Rattle.text.proofs.Laws.Numbers.{some_number}
 use Rattle.text.proofs.Laws.Results.{handed_number}
-use Rattle.filing.proofs.Laws.Filing.Taking.{open-taken, close-taken, taken_here, taken-stops, taken-on, opened-usable, text-blank, text-outside, text-inside}
+use Rattle.filing.proofs.Laws.Filing.Taking.{text-blank, text-outside, text-inside}
+use Rattle.filing.proofs.Laws.Filing.Sessions.{kept_same, takes_here, opened, closed, takes-stop, takes-on}
 use Rattle.filing.proofs.report.take.Goals as goal
 
-pub returns-in_err-open_usable-in-Start : goal.returns-in_err-open_usable-in-Start
-returns-in_err-open_usable-in-Start c =
-    let a = c.args in
-    let same = handed_number _ _ _ c.from_residual.ensures.1 (sym (ap refusal_in c.in_err-open_usable-in-Start.was)) in
-    rw (c.in-Start.is, same) (open-taken a.a.now a.run.now a.counters.now a.name.now c.requires.0 _ _ _ c.open_usable.ensures)
+pub returns-in_err-open-in-Start : goal.returns-in_err-open-in-Start
+returns-in_err-open-in-Start c =
+    let same = handed_number _ _ _ c.from_residual.ensures.1 (sym (ap refusal_in c.in_err-open-in-Start.was)) in
+    rw (c.in-Start.is, same) (opened c.args.session.now _ c.args.name.now _ c.open.ensures.opens c.open.ensures.kept)
 
-pub returns-in_ok-open_usable-in-Start : goal.returns-in_ok-open_usable-in-Start
-returns-in_ok-open_usable-in-Start c =
-    let a = c.args in
-    rw c.in-Start.is (rw (ap refusal_in c.in_ok-open_usable-in-Start.was) at (open-taken a.a.now a.run.now a.counters.now a.name.now c.requires.0 _ _ _ c.open_usable.ensures))
+pub returns-in_ok-open-in-Start : goal.returns-in_ok-open-in-Start
+returns-in_ok-open-in-Start c =
+    rw c.in-Start.is (rw (ap refusal_in c.in_ok-open-in-Start.was) at (opened c.args.session.now _ c.args.name.now _ c.open.ensures.opens c.open.ensures.kept))
 
 pub returns-in-End : goal.returns-in-End
-returns-in-End c = let a = c.args in rw c.in-End.is (close-taken a.a.now a.run.now a.counters.now a.name.now c.requires.0 _ _ _ c.close_usable.ensures)
+returns-in-End c = rw c.in-End.is (closed c.args.session.now _ c.args.name.now _ c.close.ensures.closes c.close.ensures.kept)
 
-pub returns-in_err-open_usable-in-Empty : goal.returns-in_err-open_usable-in-Empty
-returns-in_err-open_usable-in-Empty c =
-    let a = c.args in
-    let is = ap refusal_in c.in_err-open_usable-in-Empty.was in
-    let same = handed_number _ _ _ c.from_residual-in_err-open_usable-in-Empty.ensures.1 (sym is) in
-    let opened = open-taken a.a.now a.run.now a.counters.now a.name.now c.requires.0 _ _ _ c.open_usable-in-Empty.ensures in
-    rw (c.in-Empty.is, same) (taken-stops _ _ _ _ _ _ _ opened (λ z. some_number _ (sym is ∙ z)))
+pub returns-in_err-open-in-Empty : goal.returns-in_err-open-in-Empty
+returns-in_err-open-in-Empty c =
+    let is = ap refusal_in c.in_err-open-in-Empty.was in
+    let same = handed_number _ _ _ c.from_residual-in_err-open-in-Empty.ensures.1 (sym is) in
+    let o = opened c.args.session.now _ c.args.name.now _ c.open-in-Empty.ensures.opens c.open-in-Empty.ensures.kept in
+    rw (c.in-Empty.is, same) (takes-stop _ o (λ z. some_number _ (sym is ∙ z)))
 
-pub close_usable-requires-in-Empty : goal.close_usable-requires-in-Empty
-close_usable-requires-in-Empty c =
-    let a = c.args in
-    let opened = open-taken a.a.now a.run.now a.counters.now a.name.now c.requires.0 _ _ _ c.open_usable-in-Empty.ensures in
-    (opened-usable _ _ _ _ _ _ _ opened c.requires.0 (ap refusal_in c.in_ok-open_usable-in-Empty.was), rw c.in-Empty.is at c.requires.1)
-
-pub returns-in_ok-open_usable-in-Empty : goal.returns-in_ok-open_usable-in-Empty
-returns-in_ok-open_usable-in-Empty c =
-    let a = c.args in
-    let z = ap refusal_in c.in_ok-open_usable-in-Empty.was in
-    let opened = open-taken a.a.now a.run.now a.counters.now a.name.now c.requires.0 _ _ _ c.open_usable-in-Empty.ensures in
-    let usable = opened-usable _ _ _ _ _ _ _ opened c.requires.0 z in
-    rw c.in-Empty.is (taken-on _ _ _ _ _ _ _ _ _ _ opened z (close-taken a.a.now _ _ a.name.now usable _ _ _ c.close_usable-in-Empty.ensures))
+pub returns-in_ok-open-in-Empty : goal.returns-in_ok-open-in-Empty
+returns-in_ok-open-in-Empty c =
+    let s = c.args.session.now in
+    let e = c.args.name.now in
+    let z = ap refusal_in c.in_ok-open-in-Empty.was in
+    let o = opened s _ e _ c.open-in-Empty.ensures.opens c.open-in-Empty.ensures.kept in
+    rw c.in-Empty.is (takes-on _ o z (closed _ _ e _ c.close-in-Empty.ensures.closes c.close-in-Empty.ensures.kept))
 
 pub returns-then-depth-eq0 : goal.returns-then-depth-eq0
 returns-then-depth-eq0 c =
-    let a = c.args in
-    rw c.in-Text.is (text-outside a.a.now a.run.now a.counters.now (sym c.depth.ensures.0 ∙ c.if-depth-eq0.true))
+    let s = c.args.session.now in
+    rw c.in-Text.is (record { kept = kept_same s; taking = text-outside s.a.now s.run.now s.counters.now (sym c.depth.ensures ∙ c.if-depth-eq0.true) })
 
 pub returns-else-depth-eq0 : goal.returns-else-depth-eq0
 returns-else-depth-eq0 c =
-    let a = c.args in
-    rw c.in-Text.is (text-inside a.a.now a.run.now a.counters.now (λ z. c.if-depth-eq0.false (c.depth.ensures.0 ∙ z)))
+    let s = c.args.session.now in
+    rw c.in-Text.is (record { kept = kept_same s; taking = text-inside s.a.now s.run.now s.counters.now (λ z. c.if-depth-eq0.false (c.depth.ensures ∙ z)) })
 
 pub returns-in-Blank : goal.returns-in-Blank
 returns-in-Blank c =
-    let a = c.args in
-    let nothing = taken_here a.a.now a.run.now (filed (record { bytes = a.run.now; counters = a.counters.now })) 0 a.counters.now (refl, refl) in
-    ⊎_elim (λ e. rw e (text-blank a.a.now a.run.now a.counters.now)) (⊎_elim (λ e. rw e nothing) (λ e. rw e nothing)) c.in-Blank.is
+    let s = c.args.session.now in
+    let nothing = takes_here s (filed (left_in s)) 0 (refl, refl) in
+    ⊎_elim (λ e. rw e (record { kept = kept_same s; taking = text-blank s.a.now s.run.now s.counters.now })) (⊎_elim (λ e. rw e nothing) (λ e. rw e nothing)) c.in-Blank.is

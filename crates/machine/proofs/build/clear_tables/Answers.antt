@@ -25,4 +25,4 @@ zeros m k a part e f h room p =
 pub returns : goal.returns
 unfolding set_size automaton_size
 returns c =
-    zeros set_size (automaton_size - set_size) c.args.part.now c.fill.new.self refl refl (omega arith) c.requires (c.fill.ensures.after (search rules))
+    zeros set_size (automaton_size - set_size) c.args.part.now c.fill.new.self refl refl (omega arith) (omega (arith, c.told-part)) (c.fill.ensures.after (search rules))

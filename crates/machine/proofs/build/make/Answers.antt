@@ -1,23 +1,14 @@
 use Rattle.stored.specs.Code.Passes.{made}
 use Rattle.stored.proofs.Laws.Building.Build.{cleared-read-in, groups-read-in, parents-read-in}
 use mathlib.Core.Path.{◌∙◌}
-use native.Mathlib.Omega.{arith}
 use Rattle.machine.proofs.build.make.Goals as goal
 
 pub chain-requires : goal.chain-requires
-chain-requires c = (
-  cleared-read-in c.args.part.now c.requires _ c.clear_tables.ensures,
-  omega (arith, c.clear_tables.auto.part, c.requires.room),
-)
-
-pub group-requires : goal.group-requires
-group-requires c = omega (arith, c.chain.auto.part, c.clear_tables.auto.part, c.requires.room)
+chain-requires c = cleared-read-in c.args.part.now c.requires _ c.clear_tables.ensures
 
 pub parents-requires : goal.parents-requires
-parents-requires c = (
-  groups-read-in c.args.part.now c.requires _ _ _ c.clear_tables.ensures c.chain.ensures c.group.ensures,
-  omega (arith, c.group.auto.part, c.chain.auto.part, c.clear_tables.auto.part, c.requires.room),
-)
+parents-requires c =
+    groups-read-in c.args.part.now c.requires _ _ _ c.clear_tables.ensures c.chain.ensures c.group.ensures
 
 pub fails-requires : goal.fails-requires
 fails-requires c =

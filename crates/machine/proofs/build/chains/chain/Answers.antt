@@ -22,7 +22,7 @@ unfolding chained
 none_left l a e = rw e
 
 pub link_label-requires : goal.link_label-requires
-link_label-requires c = let l = c.loop-l in (omega arith, ((ready l.l l.part (omega arith) l.invariant.ready).0, omega arith))
+link_label-requires c = let l = c.loop-l in (omega arith, (ready l.l l.part (omega arith) l.invariant.ready).0)
 
 pub loop-l-preserved : goal.loop-l-preserved
 loop-l-preserved c =

@@ -1,15 +1,14 @@
 -- `build::fails::fail_label`: the link is stored where the length is the one that is asked for.
 use mathlib.Core.Path.{sym, ◌∙◌}
 use borrow.Author.Tests.{eq-eqb, ne_eqb}
-use Rattle.stored.specs.Automaton.{links_at, link_size}
 use Rattle.stored.specs.Code.Fails.{failed_if}
 use Rattle.stored.specs.Tables.{size_at}
 use Rattle.machine.proofs.build.fails.fail_label.Goals as goal
 
 pub returns-then-link-n : goal.returns-then-link-n
-unfolding failed_if links_at link_size
+unfolding failed_if
 returns-then-link-n c =
-    rw (eq-eqb (size_at c.args.a.now c.args.l) c.args.n (sym c.link.ensures.value ∙ c.if-link-n.true), ← c.fail_to-q.ensures) c.put16.ensures
+    rw (eq-eqb (size_at c.args.a.now c.args.l) c.args.n (sym c.link.ensures.value ∙ c.if-link-n.true), ← c.fail_to-q.ensures) c.put_link.ensures
 
 pub returns-else-link-n : goal.returns-else-link-n
 unfolding failed_if

@@ -3,28 +3,19 @@ use Prim.Native.Nat.{◌*◌, ◌^◌, ◌%◌}
 use native.Mathlib.Nat.{add-zero}
 use native.Mathlib.Omega.{arith}
 use Rattle.stored.proofs.Laws.Bytes.ByteBits.{power_small}
-use Rattle.stored.proofs.Laws.Bytes.WithBit.{with-small}
-use Rattle.stored.specs.Automaton.{links_at, link_size}
 use Rattle.stored.specs.Bits.{with_bit}
 use Rattle.stored.specs.Code.Groups.{grouped}
 use Rattle.machine.proofs.build.groups.group_label.Goals as goal
 
-pub overflow_add-bits : goal.overflow_add-bits
-unfolding with_bit
-overflow_add-bits c =
-    let k = c.step_of-step.result % 8 in
-    let one : 1 * 2 ^ k % 2 ^ 64 ≡ 2 ^ k = omega (arith, power_small k (omega arith)) in
-    let small = with-small c.taken_over-taken.result.bits k c.taken_over-taken.ensures.bound.1 (omega arith) in
-    rw one (omega arith)
-
 pub returns : goal.returns
-unfolding grouped with_bit links_at link_size
+unfolding grouped with_bit
 returns c =
     let k = c.step_of-step.result % 8 in
-    let one : 1 * 2 ^ k % 2 ^ 64 ≡ 2 ^ k = omega (arith, power_small k (omega arith)) in
-    c.put16-2.ensures
+    let one : 1 * 2 ^ k % 256 ≡ 2 ^ k = omega (arith, power_small k (omega arith)) in
+    c.put_link-2.ensures
     ∙ rw (
-      c.put16.ensures,
+      c.put_link.ensures,
+      c.from.ensures,
       one,
       c.taken_over-taken.ensures.far,
       c.taken_over-taken.ensures.bits,

@@ -1,6 +1,6 @@
 -- `build::masks::flag_role`: a bit that is not set stays.
 use Prim.Native.Nat.{ℕ}
-use mathlib.Core.Path.{◌≡◌, refl, ap, ◌∙◌}
+use mathlib.Core.Path.{◌≡◌, refl, ◌∙◌}
 use mathlib.Core.Bool.{true, false}
 use mathlib.Core.List.{List}
 use Rattle.stored.specs.Automaton.{star_mask, last_mask}

@@ -12,7 +12,7 @@ returns-then-i-ge-STEP_BITS c = rw (le-ltb c.args.i (8 * mask_size) c.if-i-ge-ST
 
 pub flag_role-requires : goal.flag_role-requires
 unfolding mask_size
-flag_role-requires c = (omega arith, c.requires)
+flag_role-requires c = omega arith
 
 pub returns-in-Some : goal.returns-in-Some
 unfolding flag_step mask_size

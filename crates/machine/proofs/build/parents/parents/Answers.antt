@@ -25,13 +25,13 @@ pub loop-i-init : goal.loop-i-init
 loop-i-init c =
     let d = c.default-at.ensures in
     record {
-      sound = record { searchable = c.requires.0; paths = omega (arith, d.1.0); state = omega (arith, d.1.1) };
+      sound = record { searchable = c.requires; paths = omega (arith, d.1.0); state = omega (arith, d.1.1) };
       rest = rw (zeros c.default-at.result d.0 d.1.0 d.1.1) (ap (λ (n : ℕ). parented n 0 before_paths c.args.part.now) (sub-zero (step_count c.args.part.now)));
     }
 
 pub pass_step-at-requires : goal.pass_step-at-requires
 pass_step-at-requires c =
-    (c.loop-i.invariant.sound, (omega (arith, c.steps-i-end.ensures.1), omega arith))
+    (c.loop-i.invariant.sound, omega (arith, c.steps-i-end.ensures.1))
 
 pub loop-i-preserved : goal.loop-i-preserved
 loop-i-preserved c =

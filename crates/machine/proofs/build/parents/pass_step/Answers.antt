@@ -59,7 +59,7 @@ returns-then-step c =
 pub put_word-requires : goal.put_word-requires
 put_word-requires c = (
   c.requires.0.searchable,
-  (rw c.enter-on.ensures (entered-state c.starts_path-first.result c.in-Some.step.descendant c.args.at (label_count c.args.part.now) c.requires.0.state), c.requires.1.1),
+  rw c.enter-on.ensures (entered-state c.starts_path-first.result c.in-Some.step.descendant c.args.at (label_count c.args.part.now) c.requires.0.state),
 )
 
 pub returns-else-step : goal.returns-else-step

@@ -27,11 +27,11 @@ unfolding max_labels
 returns-then-l-ge-MAX_LABELS c = let at = c.args.at in
     let a = c.args.part.now in
     let e = over_capacity at a c.if-l-ge-MAX_LABELS.true in
-    record { bytes = sym (ap (λ (r : Passed). r.bytes) e); place = sym (ap (λ (r : Passed). r.place) e); sound = record { searchable = c.requires.0; paths = omega arith; state = c.requires.1.0 } }
+    record { bytes = sym (ap (λ (r : Passed). r.bytes) e); place = sym (ap (λ (r : Passed). r.place) e); sound = record { searchable = c.requires.0; paths = omega arith; state = c.requires.1 } }
 
 pub follow-requires : goal.follow-requires
 follow-requires c =
-    (subst Searchable (sym c.store_word.ensures) (searchable-stored c.args.at.labels c.args.at.state c.args.part.now c.requires.0), omega (arith, c.store_word.auto.part, c.requires.1.1))
+    subst Searchable (sym c.store_word.ensures) (searchable-stored c.args.at.labels c.args.at.state c.args.part.now c.requires.0)
 
 pub returns : goal.returns
 unfolding max_labels

@@ -9,5 +9,5 @@ returns-in_err-refusal c = close-not-lent _ _ _ _ c.from_residual.result c.in_er
 pub returns-then-not-name_form : goal.returns-then-not-name_form
 returns-then-not-name_form c = close-not-formed _ _ _ _ (lent-usable _ _ _ (sym c.in_ok-refusal.ensures)) (sym c.name_form.ensures ∙ c.if-not-name_form.true)
 
-pub close_usable-requires : goal.close_usable-requires
-close_usable-requires c = (lent-usable _ _ _ (sym c.in_ok-refusal.ensures), sym c.name_form.ensures ∙ c.if-not-name_form.false)
+pub invariant_of-close : goal.invariant_of-close
+invariant_of-close c = record { usable = lent-usable _ _ _ (sym c.in_ok-refusal.ensures) }

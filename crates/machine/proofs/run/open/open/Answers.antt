@@ -9,5 +9,5 @@ returns-in_err-refusal c = open-not-lent _ _ _ _ c.from_residual.result c.in_err
 pub returns-then-not-name_form : goal.returns-then-not-name_form
 returns-then-not-name_form c = open-not-formed _ _ _ _ (lent-usable _ _ _ (sym c.in_ok-refusal.ensures)) (sym c.name_form.ensures ∙ c.if-not-name_form.true)
 
-pub open_usable-requires : goal.open_usable-requires
-open_usable-requires c = (lent-usable _ _ _ (sym c.in_ok-refusal.ensures), sym c.name_form.ensures ∙ c.if-not-name_form.false)
+pub invariant_of-open : goal.invariant_of-open
+invariant_of-open c = record { usable = lent-usable _ _ _ (sym c.in_ok-refusal.ensures) }
