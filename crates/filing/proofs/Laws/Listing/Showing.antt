@@ -41,6 +41,7 @@ use Rattle.filing.proofs.Laws.Filing.FilingOrder.{filing-is}
 use Rattle.filing.proofs.Laws.Filing.FromBytes.{answer-is, demand2-bytes}
 use Rattle.filing.proofs.Laws.Listing.Shown.{Unique, Total, shown-some}
 use Rattle.filing.proofs.Laws.Listing.Written.{refused-length}
+use Rattle.text.proofs.Laws.Output.{written-whole}
 
 -- where nothing is too small
 module _ (size : ℕ) (a run out : List ℕ) (h : too_small size a run out ≡ false) where
@@ -65,11 +66,7 @@ module _ (size : ℕ) (a run out : List ℕ) (h : too_small size a run out ≡ f
 -- a text no longer than the size that nothing refuses, in a buffer of the size
 pub text-printed : {size : ℕ} {order : List Condition} {text out after : List ℕ} {answer : Result ℕ Refusal} → length text ≤ size → size ≤ length out
     → TextWritten order text out answer after → given order ≡ 0 → PrintsText size text out answer after
-text-printed {text = text} {out} fits room w z = record {
-  fits = fits;
-  answers = w.answers ∙ ap (λ (n : ℕ). said n (length text)) z;
-  leaves = w.leaves ∙ ap (λ (n : ℕ). written_into n text out) z ∙ (sets-eq text out 0 (omega arith) ∙ ap (λ (k : ℕ). text ++ drop k out) (zero-add (length text)));
-}
+text-printed {text = text} {out} {answer = answer} fits room w z = let whole = written-whole text out answer z (omega arith) w.answers w.leaves in record { fits = fits; answers = whole.0; leaves = whole.1 }
 
 -- what is shown of what filing left, by this size, these bytes for a set and a report, and this contract
 pub record Faithful (size : ℕ) (For : FolderSet → List ℕ → List ℕ → Type 0) (shows : List ℕ → List ℕ → Counters → List ℕ → Result ℕ Refusal → List ℕ → Type 0) : Type 0 where

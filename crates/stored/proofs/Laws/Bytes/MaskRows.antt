@@ -12,10 +12,9 @@ use Rattle.notation.specs.Sets.{Axis, child, descendant, Test, step, FolderSet, 
 use Rattle.notation.specs.Reads.{is_descendant, is_star}
 use Rattle.stored.specs.Automaton.{mask_size, star_mask, child_mask, descendant_mask, anywhere_mask, root_mask, last_mask, mask_count, all_masks, tabulate, packed, byte_of, bit_bytes, Role, role, roles, role_at, mask_test, masks_from, masks}
 use Rattle.stored.specs.Code.Masks.{axis_mask}
-use Rattle.text.proofs.Laws.Tests.{cases, both, both_true}
+use Rattle.text.proofs.Laws.Tests.{cases, both, both_true, same_test}
 use Rattle.stored.proofs.Laws.Bytes.Tabulate.{tabulate-same, tabulate-constant}
 use Rattle.stored.proofs.Laws.Bytes.WithBit.{packed-same}
-use Rattle.stored.proofs.Laws.Tables.Goto.{same_test}
 
 -- equal bits, equal rows
 pub bits-same : (b c : ℕ → Bool) (n : ℕ) → ((j : ℕ) → j < 8 * n → b j ≡ c j) → bit_bytes b n ≡ bit_bytes c n

@@ -10,11 +10,10 @@ use lib.ListN.{length, get_or, set, length-set}
 use lib.Seq.{ext_get_or, get_or-set_same, get_or-set_other}
 use Rattle.stored.specs.Bits.{bit_of, with_bit}
 use Rattle.stored.specs.Automaton.{packed, byte_of, bit_bytes}
-use Rattle.text.proofs.Laws.Tests.{cases}
+use Rattle.text.proofs.Laws.Tests.{cases, same_test}
 use Rattle.stored.proofs.Laws.Bytes.Tabulate.{tabulate-length, tabulate-at}
 use Rattle.stored.proofs.Laws.Bytes.Bits.{packed-bit, packed-small}
 use Rattle.stored.proofs.Laws.Bytes.ByteBits.{or-bit, power-bit, power_small, packed-from}
-use Rattle.stored.proofs.Laws.Tables.Goto.{same_test}
 
 -- its bits, and that it is a byte
 pub with-bit : (b k i : ℕ) → k < 8 → i < 8 → bit_of (with_bit b k) i ≡ (bit_of b i || eqb k i)

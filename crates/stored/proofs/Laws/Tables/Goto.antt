@@ -18,7 +18,7 @@ use Rattle.model.specs.Prefix.{IsPrefix}
 use Rattle.model.specs.Walk.{followed_by}
 use Rattle.stored.specs.Automaton.{find, all_labels, all_words, same_word, state_of, shortened, named}
 use Rattle.stored.specs.Tables.{next_at, parent_at, goto_from, goto_by, goto}
-use Rattle.text.proofs.Laws.Tests.{cases, clash}
+use Rattle.text.proofs.Laws.Tests.{cases, clash, same_test}
 use Rattle.model.proofs.Laws.Keywords.Words.{same-name, name-same}
 use Rattle.stored.proofs.Laws.Bytes.Finding.{find-here, find-later, find-empty}
 pub use Rattle.stored.proofs.Laws.Tables.Chained.{Chained, no_chain, chain_at, chain-at, chains-length, hash-small}
@@ -34,13 +34,6 @@ ParentAt s a l = parent_at a l ≡ state_of s (shortened (get_or (all_words s) l
 pub record Linked (s : FolderSet) (a : List ℕ) : Type 0 where
   pub chained : Chained s a
   pub parent : (l : ℕ) → l < length (all_labels s) → ParentAt s a l
-
--- tests with one answer
-pub same_test : (x y : Bool) → (x ≡ true → y ≡ true) → (y ≡ true → x ≡ true) → x ≡ y
-same_test true true f g = refl
-same_test true false f g = sym (f refl)
-same_test false true f g = g refl
-same_test false false f g = refl
 
 goto-hit : (more : ℕ) (a : List ℕ) (q l : ℕ) → eqb (parent_at a l) q ≡ true → goto_from (suc more) a q (suc l) ≡ suc (suc l)
 unfolding goto_from

@@ -21,12 +21,11 @@ use Rattle.stored.specs.Automaton.{all_steps, all_labels, named, find, byte_of, 
 use Rattle.stored.specs.Bits.{bit_of}
 use Rattle.stored.specs.Tables.{far_at, bits_at}
 use Rattle.stored.specs.Marked.{marked_from}
-use Rattle.text.proofs.Laws.Tests.{cases, clash, both, both_true, either, either_left, either-right}
+use Rattle.text.proofs.Laws.Tests.{cases, clash, both, both_true, either, either_left, either-right, same_test}
 use Rattle.text.proofs.Laws.Lists.{any-is, is_any}
 use Rattle.model.proofs.Laws.Keywords.Words.{same-name}
 use Rattle.stored.proofs.Laws.Bytes.Bits.{packed-bit, packed-small}
 use Rattle.stored.proofs.Laws.Bytes.Finding.{find-here, find-later, find-empty}
-use Rattle.stored.proofs.Laws.Tables.Goto.{same_test}
 use Rattle.notation.proofs.Laws.Stored.LabelTable.{no_step}
 use Rattle.stored.proofs.Laws.Tables.Assembled.{no_group}
 use Rattle.stored.proofs.Laws.Tables.MarkTurns.{marked-none}
