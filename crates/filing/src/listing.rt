@@ -52,6 +52,7 @@ fn put_folder<S: Sink>(a: &[u8], run: &[u8], i: usize, to: &mut S)
     }
 }
 
+#[tactic(auto, using(crate::proofs::Laws::Listing::Steps::turn, crate::proofs::Laws::Listing::Steps::turned))]
 fn put_folders<S: Sink>(a: &[u8], run: &[u8], to: &mut S)
     ensures { Adds S.puts to.old (folders_listed a.now run.now (count_from 0 (folders_held a.now))) to.new }
 {
@@ -124,6 +125,7 @@ pub(crate) fn write_line(n: u8, out: &mut [u8]) -> Result<usize, Refusal>
 
 // Writes the line of a refusal, by its number, and answers its length; 1 for a buffer that is short for a listing. The number may be any byte, as
 // this interface always had it: a `Refusal` would ask more of a caller.
+#[tactic(auto, using(crate::proofs::Laws::Listing::Written::refused_lines), unfolding(crate::specs::Limits::listing_size, notation::specs::Limits::max_set_bytes, crate::specs::Limits::max_moves_line))]
 pub fn write_refused(n: u8, out: &mut [u8]) -> Result<usize, Refusal>
     ensures { RefusedWritten n out.old result out.new }
 {

@@ -33,6 +33,7 @@ impl Show for Listing {
 
 // Writes what the filing program prints of a set's text and a report to the first bytes of `out` and answers its length, or 1 where a buffer
 // is short. Bytes past it stay. The automaton and the run are left as built and filed.
+#[tactic(auto, using(crate::proofs::Laws::Listing::Showing::prints_by, crate::proofs::Laws::Listing::Faithful::listing_faithful))]
 pub fn print_filing(
     text: &[u8],
     report: &[u8],

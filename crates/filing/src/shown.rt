@@ -45,6 +45,7 @@ fn too_small(a: &[u8], run: &[u8], out: &[u8], size: usize) -> bool
 }
 
 // Builds a set and files a report with it: the refusal is the set's, or the report's.
+#[tactic(auto, using(text::proofs::Laws::Results::handed_on, crate::specs::Shown::set_refused, crate::specs::Shown::report_refused, crate::specs::Shown::report_filed))]
 fn file_text(
     text: &[u8],
     report: &[u8],
@@ -61,6 +62,7 @@ fn file_text(
 
 // Writes what is shown of a set's text and a report to the first bytes of `out` and answers its length, or 1 where a buffer is short. Bytes past
 // it stay. The automaton and the run are left as built and filed.
+#[tactic(auto, using(crate::proofs::Laws::Listing::Showing::out_room))]
 pub fn print_shown<S: Show>(
     text: &[u8],
     report: &[u8],

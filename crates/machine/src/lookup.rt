@@ -36,6 +36,7 @@ impl<'a> Automaton<'a> {
     }
 
     // The last label with the name. `h` is the hash of `e`.
+    #[tactic(auto, using(stored::proofs::Laws::Tables::LookTurns::looks), unfolding(notation::specs::Limits::max_labels, stored::specs::Tables::look_up))]
     pub fn look_up(&self, e: &[u8], h: usize) -> Option<Label>
         requires lookable { Lookable self.now }
         requires hash { h ≡ hash e.now }
@@ -54,6 +55,7 @@ impl<'a> Automaton<'a> {
     }
 
     // The first one.
+    #[tactic(auto, using(stored::proofs::Laws::Tables::LookTurns::firsts), unfolding(notation::specs::Limits::max_labels))]
     pub fn first_label(&self, e: &[u8]) -> Option<Label>
         requires { Searchable self.now }
         ensures found { place_of result ≡ first_of self.now e.now }

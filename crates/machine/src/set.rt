@@ -5,18 +5,21 @@ ghost use Rattle.stored.specs.HeldSet.{folders_held, folder_held, top_held, path
 use notation::reads::StoredFolder;
 use notation::{PathPlace, reads};
 
+#[tactic(auto, unfolding(stored::specs::HeldSet::folders_held))]
 pub fn folders(a: &[u8]) -> usize
     ensures { (result ≡ folders_held a.now) × (result < 65536) }
 {
     reads::folders(a)
 }
 
+#[tactic(auto, unfolding(stored::specs::HeldSet::folder_held))]
 pub fn folder_at(a: &[u8], i: usize) -> Option<StoredFolder>
     ensures { (result ≡ folder_held a.now i) × (top_held result < 65536) }
 {
     reads::folder_at(a, i)
 }
 
+#[tactic(auto, unfolding(stored::specs::HeldSet::path_held))]
 pub fn path_text(a: &[u8], place: PathPlace) -> &[u8]
     ensures { result.now ≡ path_held a.now place }
 {

@@ -14,6 +14,7 @@ use stored::walk::Walk;
 
 impl<'a> Automaton<'a> {
     // The length of the word of state `q`: of a label's, of `#` or of the empty word.
+    #[tactic(auto, using(stored::proofs::Laws::Shapes::Tested::sizes), unfolding(notation::specs::Limits::max_labels, stored::specs::Automaton::links_at, stored::specs::Automaton::link_size))]
     pub fn size_of(&self, q: usize) -> usize
         requires { q ≤ suc max_labels }
         ensures value { result ≡ size_of self.now q }
@@ -23,6 +24,7 @@ impl<'a> Automaton<'a> {
     }
 
     // The state of the word of state `q` followed by a name. `first` is the name's first label.
+    #[tactic(auto, using(stored::proofs::Laws::Tables::Fuel::gotos), unfolding(notation::specs::Limits::max_labels, stored::specs::Automaton::links_at, stored::specs::Automaton::link_size, stored::specs::Tables::goto_by))]
     pub fn goto_state(&self, q: usize, first: Option<Label>) -> Option<usize>
         requires searchable { Searchable self.now }
         requires within { place_of first ≤ label_count self.now }
@@ -41,6 +43,7 @@ impl<'a> Automaton<'a> {
     }
 
     // The state of the failure move from state `q`.
+    #[tactic(auto, unfolding(notation::specs::Limits::max_labels, stored::specs::Automaton::links_at, stored::specs::Automaton::link_size, stored::specs::Tables::fail_of))]
     pub fn fail_of(&self, q: usize) -> usize
         requires { q ≤ suc max_labels }
         ensures { result ≡ fail_of self.now q }
@@ -49,6 +52,7 @@ impl<'a> Automaton<'a> {
     }
 
     // The walk from state `q`, by failure moves until a state goes on. `first` is the first label with the name.
+    #[tactic(auto, using(stored::proofs::Laws::Tables::Fuel::walks), unfolding(notation::specs::Limits::max_labels, stored::specs::Automaton::links_at, stored::specs::Automaton::link_size, notation::specs::Limits::max_steps))]
     pub fn walk_from(&self, q: usize, first: Option<Label>) -> Walk
         requires walkable { Walkable self.now }
         requires state { q ≤ suc (label_count self.now) }

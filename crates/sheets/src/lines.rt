@@ -1,5 +1,5 @@
 // The lines of a sheet, each put together piece by piece.
-#![tactic(auto, unfolding(crate::specs::Limits::number_width, crate::specs::Limits::path_width, crate::specs::Limits::line_width))]
+#![tactic(auto, using(crate::proofs::Laws::Page::Aligned::lines), unfolding(crate::specs::Limits::number_width, crate::specs::Limits::path_width, crate::specs::Limits::line_width, crate::specs::Sheet::right_aligned))]
 
 ghost use Rattle.std.specs.Prelude.{◌≡◌, ◌-◌, ◌≤◌, length};
 ghost use Rattle.text.specs.Decimal.{decimal};

@@ -44,6 +44,7 @@ impl<'a> Model for Rows<'a> {
 
 impl Rows<'_> {
     // Body line `j` of the sheet: that of a row, and blank past the last.
+    #[tactic(auto, using(text::proofs::Laws::Output::same_bytes, crate::proofs::Laws::Stored::Tables::lines), unfolding(notation::specs::Limits::max_number, crate::specs::Code::Rows::table_row))]
     fn put_line<S: Sink>(&self, j: usize, to: &mut S)
         ensures { Adds S.puts to.old (ended (body_at self.now j)) to.new }
     {
@@ -70,12 +71,14 @@ impl Rows<'_> {
     }
 
     // As few pages as can be, one at least.
+    #[tactic(auto, using(crate::proofs::Laws::Stored::Tables::rows_many), unfolding(crate::specs::Limits::body_lines, crate::specs::Limits::max_pages, crate::specs::Sheet::pages_for, notation::specs::Limits::max_paths))]
     fn pages(&self) -> usize
         ensures { (result ≡ pages_for (length self.now)) × (result ≤ max_pages) }
     {
         self.places.len().div_ceil(BODY_LINES).max(1)
     }
 
+    #[tactic(auto, using(filing::proofs::Laws::Listing::Steps::turn, filing::proofs::Laws::Listing::Steps::turned), unfolding(crate::specs::Sheet::sheet))]
     fn put_pages<S: Sink>(&self, to: &mut S)
         ensures { Adds S.puts to.old (sheet self.now) to.new }
     {
@@ -85,6 +88,7 @@ impl Rows<'_> {
     }
 }
 
+#[tactic(auto, using(text::proofs::Laws::Output::same_bytes, crate::proofs::Laws::Stored::Tables::tables), unfolding(crate::specs::SheetIn::sheet_in))]
 fn put_sheet<S: Sink>(a: &[u8], run: &[u8], to: &mut S)
     ensures { Adds S.puts to.old (sheet_in a.now run.now) to.new }
 {
@@ -99,6 +103,7 @@ fn put_sheet<S: Sink>(a: &[u8], run: &[u8], to: &mut S)
 }
 
 // 1 (automaton, run or sheet), 14 (automaton and run).
+#[tactic(auto, using(crate::proofs::Laws::Stored::Refused::refusals), unfolding(crate::specs::Limits::sheet_size, crate::specs::Limits::max_pages, crate::specs::Limits::page_size, crate::specs::Limits::body_lines, crate::specs::Limits::line_width, crate::specs::Limits::number_width, crate::specs::Limits::path_width))]
 fn check(a: &[u8], run: &[u8], out: &[u8]) -> Result<(), Refusal>
     ensures { refusal_in result ≡ given (sheet_conditions a.now run.now out.now) }
 {

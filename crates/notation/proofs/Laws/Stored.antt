@@ -11,4 +11,3 @@ pub mod ReadSteps
 pub mod ReadFolders
 pub mod ReadPaths
 pub mod Rising
-pub mod FolderOf

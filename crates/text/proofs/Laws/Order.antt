@@ -7,13 +7,12 @@ use mathlib.Core.Logic.{◌⊎◌, inl, inr, ◌↔◌}
 use mathlib.Core.Option.{Option, none, some, none-ne-some, some-injective, some-ne-none}
 use mathlib.Core.List.Memᴰ
 use mathlib.Core.List.{List, [], ◌∷◌, ◌++◌, Memᴰ}
-use Rattle.std.specs.Prelude.{Result, Ok, Err}
 use lib.Dec.{eqb}
 use borrow.Author.Tests.{ne_eqb}
 use Rattle.text.specs.Lists.{every}
 use Rattle.text.specs.declared.refusals.Refusal.{Refusal}
 use Rattle.text.specs.Refusals.{number_of}
-use Rattle.text.specs.Answers.{Answer, refused, value, said, number_said, says, refusal_in}
+use Rattle.text.specs.Answers.{Answer, refused, said, says}
 use Rattle.text.proofs.Laws.Numbers.{one-refusal, some_number}
 use Rattle.text.proofs.Laws.Results.{err_says, ok_says, handed_number, handed_says}
 use Rattle.text.proofs.Laws.Said.{said-value, said-refused, value-said, refused-said}
@@ -113,17 +112,6 @@ answers_by order v says is =
         | inl z ↦ inl (v, is ∙ said-value (given order) v z)
         | inr (r, n) ↦ inr (r, is ∙ said-refused (given order) v (λ z. some_number r (sym n ∙ z)) ∙ ap refused n)
       ];
-    }
-
--- a `Result` that refuses with the number that an order gives
-pub answers_in : {A : Type 0} (order : List Condition) (r : Result A Refusal) → refusal_in r ≡ given order → AnswersBy order (says r)
-answers_in order (Ok v) e = answers_by order v (value v) (ok_says (given order) v e)
-answers_in order (Err q) e =
-    let g = given_by order in
-    record {
-      refusals = λ p. (λ h. (g.refusals p).0 (sym e ∙ ap number_said h), λ f. ap refused (e ∙ (g.refusals p).1 f));
-      answered = (λ h. absurd (some_number q (ap number_said h.1)), λ u. absurd (some_number q (e ∙ g.accepted.1 u)));
-      either = inr (q, refl);
     }
 
 -- condition by condition

@@ -10,7 +10,7 @@ use lib.Seq.{sets, sets-eq, length-sets, drop-drop}
 use borrow.Rule.Slice.PartMut.{put_mid}
 use borrow.Author.Tests.{le-leb, lt-leb, leb-true, leb-false}
 use denote.Ref.{MutBor}
-use Rattle.text.specs.Answers.{said}
+use Rattle.text.specs.Answers.{said, says, value}
 use Rattle.text.specs.Order.{Condition, given}
 use Rattle.text.specs.Written.{written_into, TextWritten}
 use Rattle.std.specs.Prelude.{Result, Ok, Err, None, Some}
@@ -51,6 +51,9 @@ module _ {S : Type 0} {puts : S → List ℕ → S} where
   -- the same bytes, told otherwise
   pub same_bytes : {s t : S} {p q : List ℕ} → Adds puts s p t → p ≡ q → Adds puts s q t
   same_bytes x e = rw e at x
+
+-- a text that is put together
+pub ruleset pieces = (a_piece, no_pieces, one, and_then, same_bytes)
 
 -- a measured text: all of its bytes
 pub measured-length : {s t : Length} {text : List ℕ} → Adds measured s text t → s.bytes ≤ 2 ^ 64 - 1 → t.bytes ≡ min (s.bytes + length text) (2 ^ 64 - 1)
@@ -134,6 +137,14 @@ pub same_order : {order other : List Condition} {text before after : List ℕ} {
     → TextWritten order text before answer after → TextWritten other text before answer after
 same_order {text = text} {before} e w =
     record { answers = w.answers ∙ ap (λ (n : ℕ). said n (length text)) e; leaves = w.leaves ∙ ap (λ (n : ℕ). written_into n text before) e }
+
+-- a text that nothing refuses and that has room: its length is answered, it stands first, and bytes past it stay
+pub written-whole : (text before : List ℕ) (answer : Result ℕ Refusal) {n : ℕ} {after : List ℕ} → n ≡ 0 → length text ≤ length before
+    → says answer ≡ said n (length text) → after ≡ written_into n text before → (says answer ≡ value (length text)) × (after ≡ text ++ drop (length text) before)
+written-whole text before answer z h a l = (
+  a ∙ ap (λ (n : ℕ). said n (length text)) z,
+  l ∙ ap (λ (n : ℕ). written_into n text before) z ∙ (sets-eq text before 0 (omega arith) ∙ ap (λ (k : ℕ). text ++ drop k before) (zero-add (length text))),
+)
 
 -- a text that is delivered: a number is given, or all of it had room
 module _ (order : List Condition) (text out : List ℕ) where

@@ -6,7 +6,7 @@ use Rattle.std.specs.Result.{IsErrAnd}
 use Rattle.std.proofs.lemmas.Result.{err_from_is_err_and}
 use Rattle.text.specs.declared.refusals.Refusal.{Refusal}
 use Rattle.text.specs.Refusals.{number_of}
-use Rattle.text.specs.Answers.{value, said, number_said, says, refusal_in}
+use Rattle.text.specs.Answers.{said, number_said, says, refusal_in}
 use Rattle.text.proofs.Laws.Numbers.{some_number}
 use Rattle.text.proofs.Laws.Said.{said-value, said-refused, said-number}
 
@@ -37,16 +37,3 @@ says_number (Err q) = refl
 
 pub number_in_said : {A : Type 0} (r : Result A Refusal) (n : ℕ) (v : A) → says r ≡ said n v → refusal_in r ≡ n
 number_in_said r n v e = sym (says_number r) ∙ ap number_said e ∙ said-number n v
-
-pub accepted_result : {A : Type 0} (r : Result A Refusal) → refusal_in r ≡ 0 → (v : A) × (r ≡ Ok v)
-accepted_result (Ok v) e = (v, refl)
-accepted_result (Err q) e = absurd (some_number q e)
-
-pub refused_result : {A : Type 0} (r : Result A Refusal) → (refusal_in r ≡ 0 → ⊥) → (q : Refusal) × (r ≡ Err q)
-refused_result (Ok v) n = absurd (n refl)
-refused_result (Err q) n = (q, refl)
-
--- with its value known, a `Result` says what its number and the value say
-pub says_said : {A : Type 0} (r : Result A Refusal) (v : A) → ((u : A) → r ≡ Ok u → u ≡ v) → says r ≡ said (refusal_in r) v
-says_said (Ok u) v same = ap value (same u refl)
-says_said (Err q) v same = err_says q (number_of q) v refl

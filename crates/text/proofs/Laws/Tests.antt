@@ -1,7 +1,7 @@
 -- Tests taken apart and put together: by cases with the equation kept, the halves of an `&&` and of an `||`.
 use Prim.Native.Nat.{ℕ}
 use native.Mathlib.Omega.{arith}
-use mathlib.Core.Path.{◌≡◌, refl}
+use mathlib.Core.Path.{◌≡◌, refl, sym}
 use mathlib.Core.Bool.{Bool, true, false, ◌&&◌, ◌||◌}
 use mathlib.Core.Logic.{◌⊎◌, inl, inr}
 
@@ -48,3 +48,10 @@ or_left a b e = (neither a b e).0
 
 pub or_right : (a b : Bool) → (a || b) ≡ false → b ≡ false
 or_right a b e = (neither a b e).1
+
+-- two tests that imply each other are the same
+pub same_test : (x y : Bool) → (x ≡ true → y ≡ true) → (y ≡ true → x ≡ true) → x ≡ y
+same_test true true f g = refl
+same_test true false f g = sym (f refl)
+same_test false true f g = g refl
+same_test false false f g = refl

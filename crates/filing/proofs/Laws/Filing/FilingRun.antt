@@ -27,6 +27,7 @@ use Rattle.text.proofs.Laws.Tests.{zero_one, both_true, neither}
 use Rattle.documents.proofs.Laws.Trees.Passed.{last_off}
 use Rattle.text.proofs.Laws.Order.{unmet}
 use Rattle.filing.proofs.Laws.Filing.FilingParts.{unless-filed, both-filed}
+use Rattle.model.proofs.Laws.Machine.Matches.{opened-matched, closed-matched}
 
 -- what holds at the end, and of each event if of those after it, holds of all events that are taken
 module _ (set : FolderSet) (P : State → List Event → State → Type 0)
@@ -144,19 +145,9 @@ pub close-names : (set : FolderSet) (m : State) (e : Name) → accepted m (close
 close-names set m e a =
     ap drop_last (step-close-names set m e a) ∙ last_off (open_names (step set m (close_call as_left e))) e ∙ ap open_names (step-accepted set m (close_call as_left e) a)
 
--- what an open and a close do to matches and opens
-opened-matched : (set : FolderSet) (m : State) (e : Name) (place : ℕ) → (opened set m e).matched place ≡ (m.matched place || fits (path_of_place set place) (open_names (opened set m e)))
-unfolding opened
-opened-matched set m e place = refl
-
 pub opened-opens : (set : FolderSet) (m : State) (e : Name) → (opened set m e).opens ≡ suc m.opens
 unfolding opened
 opened-opens set m e = refl
-
-closed-matched : (levels : List Level) (m : State) (place : ℕ) → (closed_from levels m).matched place ≡ m.matched place
-unfolding closed_from
-closed-matched [] m place = refl
-closed-matched (level n w ∷ outer) m place = refl
 
 pub closed-opens : (levels : List Level) (m : State) → (closed_from levels m).opens ≡ m.opens
 unfolding closed_from

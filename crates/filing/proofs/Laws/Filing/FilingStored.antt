@@ -24,7 +24,7 @@ use Rattle.stored.specs.Usable.{Usable}
 use Rattle.stored.proofs.Laws.Running.Means.{Means}
 use Rattle.stored.proofs.Laws.Running.Following.{left_of, few-step, one-leaves, start_left}
 use Rattle.stored.proofs.Laws.Shapes.Given.{open-others, close-others, lent-usable}
-use Rattle.stored.proofs.Laws.Shapes.Passing.{stored-depth, long-enough, all-shaped, open-refused, close-refused}
+use Rattle.stored.proofs.Laws.Shapes.Passing.{stored-depth, long-enough, all-shaped, open-refused, close-refused, none_open}
 use Rattle.documents.specs.Document.{Event, opening, closing, text_here, comment_here}
 use Rattle.filing.specs.Filing.{event_order, event_leaves, shared_machine}
 use Rattle.filing.specs.ReportRefusals.{stored_machine}
@@ -38,10 +38,6 @@ Stores s rest st t = Few s st [] × (t ≡ left_of s rest st)
 same-refusal : (x y : Option Refusal) → number_in x ≡ number_in y → x ≡ y
 same-refusal x none e = (number-zero x).0 e
 same-refusal x (some r) e = (number-some x r).0 e
-
-none_open : (l : List Level) → eqb (length l) 0 ≡ not (non_empty l)
-none_open [] = refl
-none_open (x ∷ l) = ne_eqb (suc (length l)) 0 (λ e. omega arith)
 
 module _ (s : FolderSet) (a : List ℕ) (means : Means s a) (rest : List ℕ) where
   module _ (st : State) (few : Few s st []) where

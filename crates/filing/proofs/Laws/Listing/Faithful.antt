@@ -43,5 +43,5 @@ listing-filed text before a s acc b report run long c run' c' files out room ans
     let printed = text-printed (listing-fits s a means m few rest) room written (not-refused s a means m few rest out room) in
     (listing s m, listing-printed s report m ((filing-is s report (filed m)).1 e), printed)
 
-pub listing-faithful : Faithful listing_size PrintedFor ListingWritten
-listing-faithful = record { line = line-within; once = listing-once; filed = listing-filed }
+pub listing_faithful : Faithful listing_size PrintedFor ListingWritten
+listing_faithful = record { line = line-within; once = listing-once; filed = listing-filed }

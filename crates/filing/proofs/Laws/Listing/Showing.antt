@@ -40,6 +40,7 @@ use Rattle.filing.proofs.Laws.Filing.FilingOrder.{filing-is}
 use Rattle.filing.proofs.Laws.Filing.FromBytes.{answer-is, demand2-bytes}
 use Rattle.filing.proofs.Laws.Listing.Shown.{Total, shown-some}
 use Rattle.filing.proofs.Laws.Listing.Written.{refused-length}
+use Rattle.text.proofs.Laws.Output.{written-whole}
 
 -- where nothing is too small
 module _ (size : ℕ) (a run out : List ℕ) (h : too_small size a run out ≡ false) where
@@ -58,17 +59,13 @@ module _ (size : ℕ) (a run out : List ℕ) (h : too_small size a run out ≡ f
   run_room : run_size ≤ length run
   run_room = ltb-false (length run) run_size none-small.1.0
 
-  pub out-room : size ≤ length out
-  out-room = ltb-false (length out) size none-small.1.1
+  pub out_room : size ≤ length out
+  out_room = ltb-false (length out) size none-small.1.1
 
 -- a text no longer than the size that nothing refuses, in a buffer of the size
 pub text-printed : {size : ℕ} {order : List Condition} {text out after : List ℕ} {answer : Result ℕ Refusal} → length text ≤ size → size ≤ length out
     → TextWritten order text out answer after → given order ≡ 0 → PrintsText size text out answer after
-text-printed {text = text} {out} fits room w z = record {
-  fits = fits;
-  answers = w.answers ∙ ap (λ (n : ℕ). said n (length text)) z;
-  leaves = w.leaves ∙ ap (λ (n : ℕ). written_into n text out) z ∙ (sets-eq text out 0 (omega arith) ∙ ap (λ (k : ℕ). text ++ drop k out) (zero-add (length text)));
-}
+text-printed {text = text} {out} {answer = answer} fits room w z = let whole = written-whole text out answer z (omega arith) w.answers w.leaves in record { fits = fits; answers = whole.0; leaves = whole.1 }
 
 module _ (size : ℕ) (For : FolderSet → List ℕ → List ℕ → Type 0) (text report a run out : List ℕ) where
   too_small-is : too_small size a run out ≡ true → PrintsBy size For text report a run out (Err ShortBuffer) a run out
@@ -82,7 +79,7 @@ module _ (size : ℕ) (For : FolderSet → List ℕ → List ℕ → Type 0) (te
 
   module _ (h : too_small size a run out ≡ false) where
     room : size ≤ length out
-    room = out-room size a run out h
+    room = out_room size a run out h
 
     -- by the text's verdict
     module _ {n : ℕ} {a' : List ℕ} (b : Built text a n a') where
@@ -170,9 +167,9 @@ module _ (size : ℕ) (For : FolderSet → List ℕ → List ℕ → Type 0) (te
       shown-by (Err r) (report_refused c' b f) w = report-refused (some_number r) b f w
       shown-by (Ok c') (report_filed b f) w = report-filed b f w
 
-  pub prints-by : {shows : List ℕ → List ℕ → Counters → List ℕ → Result ℕ Refusal → List ℕ → Type 0} → Faithful size For shows → {answer : Result ℕ Refusal} {a' run' out' : List ℕ}
+  pub prints_by : {shows : List ℕ → List ℕ → Counters → List ℕ → Result ℕ Refusal → List ℕ → Type 0} → Faithful size For shows → {answer : Result ℕ Refusal} {a' run' out' : List ℕ}
       → PrintsWith shows size text report a run out answer a' run' out' → PrintsBy size For text report a run out answer a' run' out'
-  prints-by faithful p =
+  prints_by faithful p =
       cases (too_small size a run out)
       (λ y. let (e, same) = p.short y in rw (e, same.0, same.1.0, same.1.1) (too_small-is y))
       (λ n. let (r, f, w) = p.done n in shown-by n faithful r f w)

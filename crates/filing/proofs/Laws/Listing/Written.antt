@@ -3,7 +3,7 @@ use Prim.Native.Nat.{ℕ, ◌-◌, ◌^◌, ◌≤◌, ◌<◌, max, min}
 use native.Mathlib.Nat.{zero-add}
 use native.Mathlib.Omega.{arith}
 use mathlib.Core.Path.{◌≡◌, refl, sym, ◌∙◌}
-use mathlib.Core.Bool.{Bool, true, false, not, ◌||◌, cond}
+use mathlib.Core.Bool.{Bool, true, false, not, ◌||◌, cond, or-true}
 use mathlib.Core.List.{List}
 use lib.Dec.{leb, ltb}
 use lib.ListN.{length, length-append}
@@ -15,19 +15,17 @@ use Rattle.text.specs.Refusals.{number_of}
 use Rattle.text.specs.Order.{first, given}
 use Rattle.stored.specs.RunCalls.{shaped, too_short, lent_conditions}
 use Rattle.stored.specs.declared.counters.Counters.{Counters}
-use Rattle.text.proofs.Laws.Tests.{cases, clash}
+use Rattle.text.proofs.Laws.Tests.{cases, clash, or_right}
 use Rattle.text.proofs.Laws.Order.{not-given}
 use Rattle.text.specs.declared.output.Length.{Length}
+use Rattle.text.proofs.Laws.Order.{given-none}
+use Rattle.text.proofs.Laws.Output.{refused-with, same_order}
 use Rattle.filing.specs.Limits.{listing_size}
 use Rattle.text.specs.Output.{Adds, measured}
 use Rattle.filing.specs.Listing.{refused_word, refused_line}
 use Rattle.filing.specs.Listed.{listing_in, listing_room, listing_refusal, refused_conditions}
 use Rattle.text.proofs.Laws.Decimal.{tens, decimal-few}
 use Rattle.text.proofs.Laws.Output.{measured-length}
-
-or-true : (p : Bool) → (p || true) ≡ true
-or-true true = refl
-or-true false = refl
 
 -- the refusals of a listing
 module _ (a run : List ℕ) (c : Counters) (out : List ℕ) where
@@ -88,13 +86,9 @@ module _ (a run : List ℕ) (c : Counters) (out : List ℕ) where
   listing-room e =
       let t = not-given (too_short a run || ltb (length out) (listing_room a run c)) ShortBuffer _ e in
       let s : shaped a run c ≡ true = not-false (shaped a run c) (not-given (not (shaped a run c)) BadShape _ t.1).0 in
-      let l : listing_room a run c ≤ length out = ltb-false (length out) (listing_room a run c) (go (too_short a run) (ltb (length out) (listing_room a run c)) t.0) in
+      let l : listing_room a run c ≤ length out = ltb-false (length out) (listing_room a run c) (or_right (too_short a run) (ltb (length out) (listing_room a run c)) t.0) in
       let m : max listing_size (length (listing_in a run c)) ≤ length out = rw s at l in
       omega arith
-    where
-      go : (p q : Bool) → (p || q) ≡ false → q ≡ false
-      go true q k = clash refl k
-      go false q k = k
 
 -- the line of a refusal has room
 pub refused-length : (n : ℕ) → n < 256 → length (refused_line n) ≤ 14
@@ -110,3 +104,5 @@ line-fits out l = let y : ltb (length out) listing_size ≡ false = le-ltb (leng
 pub line-short : (out : List ℕ) → length out < listing_size → number_of ShortBuffer ≡ given (refused_conditions out)
 unfolding given first
 line-short out h = let y : ltb (length out) listing_size ≡ true = lt-ltb (length out) listing_size h in rw y
+
+pub ruleset refused_lines = (given-none, refused-with, same_order, line-fits, line-short)

@@ -1,14 +1,10 @@
 -- `listing::write_listing`: the refusal, or the listing, which has room.
 use native.Mathlib.Omega.{arith}
 use mathlib.Core.Path.{sym}
-use Rattle.text.proofs.Laws.Output.{refused-as, same-buffer, written_as}
+use Rattle.text.proofs.Laws.Output.{same-buffer, written_as}
 use Rattle.filing.specs.Listed.{listing_in, listing_conditions}
 use Rattle.filing.proofs.Laws.Listing.Written.{listing-room}
 use Rattle.filing.proofs.listing.write_listing.Goals as goal
-
-pub returns-in_err-check : goal.returns-in_err-check
-returns-in_err-check c = let a = c.args in
-    refused-as (listing_conditions a.a.now a.run.now a.c a.out.now) (listing_in a.a.now a.run.now a.c) a.out.now _ _ c.from_residual.ensures.1 (c.in_err-check.ensures)
 
 pub returns : goal.returns
 returns c = let a = c.args in

@@ -18,6 +18,7 @@ use Rattle.model.specs.Folders.{places_of, folder_matched, HasFolders}
 use Rattle.model.proofs.Laws.Machine.Matches.{run-matched}
 use Rattle.model.proofs.Laws.Machine.Folders.{folder-matched, PathOf, place-path, path-place}
 use Rattle.model.proofs.Laws.Machine.Alike.{same-accepted, same_names}
+use Rattle.text.proofs.Laws.Tests.{same_test}
 
 -- a path matched under one set is matched under another that has it, at its place there
 path-matched : (a b : FolderSet) (calls : List Call) (i j : ℕ) → path_of_place a i ≡ path_of_place b j → (run a calls).matched i ≡ true → (run b calls).matched j ≡ true
@@ -79,17 +80,12 @@ different (folder n ps ∷ fs) last h f g m k e =
     go u d (inr s) (inl q) = absurd (omega (arith, u f s, ap folder_number q))
     go u d (inr s) (inr t) = d s t e
 
-same_bool : (a b : Bool) → (a ≡ true → b ≡ true) → (b ≡ true → a ≡ true) → a ≡ b
-same_bool true b f g = sym (f refl)
-same_bool false true f g = g refl
-same_bool false false f g = refl
-
 -- for a larger set without faults that has all folders of the smaller, after any calls each folder of the smaller is matched by the one
 -- exactly when by the other
 pub adding-folders : (smaller larger : FolderSet) → HasFolders larger smaller → faults larger ≡ [] → (f : Folder) → Memᴰ f smaller → (calls : List Call)
     → folder_matched smaller (run smaller calls) (folder_number f) ≡ folder_matched larger (run larger calls) (folder_number f)
 adding-folders smaller larger has none f m calls =
-    same_bool _ _ (carried smaller larger (folder_number f) up calls) (carried larger smaller (folder_number f) down calls)
+    same_test _ _ (carried smaller larger (folder_number f) up calls) (carried larger smaller (folder_number f) down calls)
   where
     up : (path : Path) → PathOf smaller (folder_number f) path → PathOf larger (folder_number f) path
     up path o = record { owner = o.owner; in_set = has o.owner o.in_set; numbered = o.numbered; path-in = o.path-in }

@@ -34,12 +34,12 @@ pub record SomeOpenFits (set : FolderSet) (s : State) (calls : List Call) (place
   pub fit : OpenFits set (after set s before) call place
 
 -- a close changes no match
-closed-matched : (levels : List Level) (s : State) (place : ℕ) → (closed_from levels s).matched place ≡ s.matched place
+pub closed-matched : (levels : List Level) (s : State) (place : ℕ) → (closed_from levels s).matched place ≡ s.matched place
 unfolding closed_from
 closed-matched [] s place = refl
 closed-matched (level n w ∷ outer) s place = refl
 
-opened-matched : (set : FolderSet) (s : State) (e : Name) (place : ℕ) → (opened set s e).matched place ≡ (s.matched place || fits (path_of_place set place) (open_names (opened set s e)))
+pub opened-matched : (set : FolderSet) (s : State) (e : Name) (place : ℕ) → (opened set s e).matched place ≡ (s.matched place || fits (path_of_place set place) (open_names (opened set s e)))
 unfolding opened
 opened-matched set s e place = refl
 

@@ -25,6 +25,7 @@ use Rattle.notation.specs.WriteText.{WriteText, text_conditions}
 use Rattle.text.specs.declared.refusals.Refusal.{Refusal}
 use Rattle.text.proofs.Laws.Tests.{cases, and_right}
 use Rattle.notation.proofs.Laws.Refused.AcceptedSet.{text-back}
+use Rattle.text.proofs.Laws.Output.{refused-with, same_order}
 
 module _ (text : List ℕ) (s : FolderSet) (a : Accepted text s) (rest : List ℕ) where
   pub written-short : (out : List ℕ) → length out < length text → given (text_conditions (set_part s ++ rest) out) ≡ number_of ShortBuffer
@@ -62,3 +63,5 @@ text-within part =
     let few : 0 + text_len part ≤ max_set_bytes = leb-true (0 + text_len part) max_set_bytes (and_right (leb set_size (length part)) (leb (0 + text_len part) max_set_bytes) y) in
     rw (y, length-take) (omega arith))
     (λ n. rw n (omega arith))
+
+pub ruleset written_back = (refused-with, same_order, text-within)

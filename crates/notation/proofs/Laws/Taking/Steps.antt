@@ -37,10 +37,6 @@ pub record Stands (text : List ℕ) (at : ℕ) (f : StepFound) : Type 0 where
   pub on : at < f.end
   pub ends : f.end ≤ length text
 
-pub unfound : (at : ℕ) (m : Read Step) → step_found at m ≡ None → m ≡ fail
-unfound at fail e = refl
-unfound at (got x r) e = absurd (none-some _ (sym e))
-
 pub found-stands : (text : List ℕ) (at : ℕ) (f : StepFound) → at ≤ length text → step_found at (read_step (drop at text)) ≡ Some f → Stands text at f
 unfolding print_step
 found-stands text at f on e = go (read_step (drop at text)) (step-sound (drop at text)) refl e

@@ -38,5 +38,5 @@ of-filed text before a s acc built report run long c run' c' files out room answ
     let printed = sheet-printed s a means m few (drop run_size run) out room answer out' (rw r at w) in
     (sheet (rows_from m.matched 0 s), sheet-shown s report m ((filing-is s report (filed m)).1 e), printed)
 
-pub sheet-faithful : Faithful sheet_size SheetFor (λ a run _ before answer after. SheetWritten a run before answer after)
-sheet-faithful = record { line = line-within; once = sheet-once; filed = of-filed }
+pub sheet_faithful : Faithful sheet_size SheetFor (λ a run _ before answer after. SheetWritten a run before answer after)
+sheet_faithful = record { line = line-within; once = sheet-once; filed = of-filed }

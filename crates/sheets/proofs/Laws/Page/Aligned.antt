@@ -11,6 +11,7 @@ use Rattle.text.specs.Decimal.{decimal}
 use Rattle.text.proofs.Laws.Tests.{cases}
 use Rattle.text.proofs.Laws.Decimal.{tens, decimal-one, decimal_step, decimal-few}
 use Rattle.notation.specs.Limits.{max_number}
+use Rattle.text.proofs.Laws.Output.{pieces}
 use Rattle.sheets.specs.Limits.{number_width, path_width, line_width}
 use Rattle.sheets.specs.Sheet.{Row, row, spaces, right_aligned, left_aligned, filed_word, head_line, number_shown, path_shown, body_line}
 
@@ -20,12 +21,6 @@ number_of_row (row n path) = n
 
 abbrev pub path_of_row : Row → List ℕ
 path_of_row (row n path) = path
-
--- a front of a line of spaces
-pub front_same : (x n m : ℕ) → n ≤ m → take n (replicate m x) ≡ replicate n x
-front_same x zero m h = refl
-front_same x (suc n) zero h = absurd (omega arith)
-front_same x (suc n) (suc m) h = ap (λ (l : List ℕ). x ∷ l) (front_same x n m (omega arith))
 
 pub spaces-length : (n : ℕ) → length (spaces n) ≡ n
 unfolding spaces
@@ -136,3 +131,5 @@ left_cut p h =
     let cut = take (path_width - 1) p ++ (126 ∷ []) in
     let none : path_width - length cut ≡ 0 = omega (arith, cut-length p h) in
     rw (shown-cut p h, none) (append-nil cut)
+
+pub ruleset lines = (pieces, right-none, right-some, left-fits, left_cut)

@@ -38,3 +38,5 @@ module _ (a run out : List ℕ) where
   room-then z =
       let t = not-given (too_short a run || ltb (length out) sheet_size) ShortBuffer _ z in
       ltb-false (length out) sheet_size (or_right (too_short a run) (ltb (length out) sheet_size) t.0)
+
+pub ruleset refusals = (sheet-short, pair-refused)

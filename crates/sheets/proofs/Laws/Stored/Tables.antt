@@ -111,9 +111,9 @@ module _ (a : List ℕ) (i : ℕ) (numbers : List ℕ) (n : Numbered a i numbers
 
 -- body lines by the tables
 module _ (a places numbers : List ℕ) where
-  pub rows-many : length (table_rows a places numbers) ≡ length places
+  pub rows_many : length (table_rows a places numbers) ≡ length places
   unfolding table_rows
-  rows-many = length-map places (table_row a numbers)
+  rows_many = length-map places (table_row a numbers)
 
   pub table-row : (j : ℕ) → j < length places → body_at (table_rows a places numbers) j ≡ body_line (table_row a numbers (get_or places j 0))
   unfolding table_rows
@@ -145,3 +145,9 @@ module _ (a run numbers : List ℕ) (n : Numbered a (folders_held a) numbers) wh
   pub rows_are : table_rows a (matched_places a run) numbers ≡ rows_in a run
   unfolding table_rows rows_in
   rows_are = rows_same 0 max_paths (omega arith)
+
+pub ruleset places = (place-added, place-left)
+
+pub ruleset lines = (table-row, table_none)
+
+pub ruleset tables = (in_tables, rows_are)

@@ -9,7 +9,7 @@ use borrow.Author.Tests.{eq-eqb, ne_eqb, eqb-true}
 use lib.Dec.{eqb}
 use Rattle.std.specs.List.{range_with_len, list_any}
 use Rattle.stored.specs.Code.Masks.{flag_step, flag_steps, flag_path, flag_paths, rooted, any_rooted}
-use Rattle.stored.proofs.Laws.Tables.Goto.{same_test}
+use Rattle.text.proofs.Laws.Tests.{same_test}
 
 -- the steps of a path
 module _ (steps from : ℕ) where

@@ -13,14 +13,13 @@ use Rattle.text.specs.Names.{Name}
 use Rattle.text.specs.Lists.{any}
 use Rattle.stored.specs.Automaton.{named, find, packed, byte_of, Mark, takes, reaches, group_of}
 use Rattle.stored.specs.Bits.{bit_of, with_bit}
-use Rattle.text.proofs.Laws.Tests.{cases, clash, both, both_true}
+use Rattle.text.proofs.Laws.Tests.{cases, clash, both, both_true, same_test}
 use Rattle.text.proofs.Laws.Lists.{any-is}
 use Rattle.model.proofs.Laws.Keywords.Words.{name-same}
 use Rattle.stored.proofs.Laws.Bytes.Bits.{packed-small, packed-bit}
 use Rattle.stored.proofs.Laws.Bytes.ByteBits.{packed-from}
 use Rattle.stored.proofs.Laws.Bytes.Finding.{find-here, find-later, find-empty, find_none}
 use Rattle.stored.proofs.Laws.Bytes.WithBit.{with-bit, with-small}
-use Rattle.stored.proofs.Laws.Tables.Goto.{same_test}
 
 -- no label of these has the name
 abbrev None : Name → List Mark → Type 0

@@ -25,7 +25,7 @@ use Rattle.stored.proofs.Laws.Bytes.Finding.{find-range}
 use Rattle.stored.proofs.Laws.Bytes.Tabulate.{tabulate-length}
 use Rattle.stored.proofs.Laws.Tables.Chained.{no_chain, chain_at, chain-at, chains-length}
 use Rattle.stored.proofs.Laws.Tables.Assembled.{with_group, no_group, no_link, Sized, next-read, far-read, bits-read, group-put}
-use Rattle.stored.proofs.Laws.Tables.Links.{marks-count}
+use Rattle.stored.proofs.Laws.Tables.Links.{marks-count, as-groups}
 use Rattle.stored.proofs.Laws.Tables.Marked.{no_mark, names, group_at, groups-at, groups-length, marks-rise, rising-next, marks-names, label-mark}
 use Rattle.stored.proofs.Laws.Tables.Searched.{Behind, behind-within, next-behind}
 use Rattle.stored.proofs.Laws.Tables.SetReads.{label-owner}
@@ -229,17 +229,14 @@ unfoldable pub group_links : FolderSet → List Link
 group_links s = bare_links (chains (all_labels s)) (groups (marks s))
 
 module _ (s : FolderSet) where
-  sizes : length (chains (all_labels s)) ≡ length (groups (marks s))
-  sizes = chains-length (all_labels s) 0 (all_labels s) ∙ sym (groups-length 0 (marks s) ∙ marks-count s)
-
   pub group-count : length (group_links s) ≡ length (all_labels s)
   unfolding group_links
-  group-count = bare-length (chains (all_labels s)) (groups (marks s)) sizes ∙ chains-length (all_labels s) 0 (all_labels s)
+  group-count = bare-length (chains (all_labels s)) (groups (marks s)) (as-groups s) ∙ chains-length (all_labels s) 0 (all_labels s)
 
   pub group-link : (l : ℕ) → l < length (all_labels s) → get_or (group_links s) l no_link ≡ link (chain_at (all_labels s) l) (group_at (marks s) l) 0 0 0
   unfolding group_links
   group-link l h =
-      bare-at (chains (all_labels s)) (groups (marks s)) l sizes (rw (chains-length (all_labels s) 0 (all_labels s)) h)
+      bare-at (chains (all_labels s)) (groups (marks s)) l (as-groups s) (rw (chains-length (all_labels s) 0 (all_labels s)) h)
       ∙ ap₂ (λ (c : Chain) (g : Group). link c g 0 0 0) (chain-at (all_labels s) l h) (groups-at (marks s) l (rw (marks-count s) h))
 
 pub grouped-is : (s : FolderSet) → Fitting s → (mk : List ℕ) (f : ℕ) (rest : List ℕ) → length mk ≡ all_masks

@@ -29,7 +29,7 @@ use Rattle.stored.proofs.Laws.Bytes.WithBit.{bits-with}
 use Rattle.stored.proofs.Laws.Tables.Assembled.{Sized, after-set, mask-read, mask-put}
 use Rattle.stored.proofs.Laws.Bytes.MaskRows.{bits_none, place, flags, flag_bits, role_bits, masks-are}
 
-roles-length : (first : Bool) (p : Path) → length (roles_from first p) ≡ length p
+pub roles-length : (first : Bool) (p : Path) → length (roles_from first p) ≡ length p
 unfolding roles_from
 roles-length first [] = refl
 roles-length first (s ∷ []) = refl

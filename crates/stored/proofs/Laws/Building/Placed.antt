@@ -107,7 +107,7 @@ path-short (step descendant (label n) ∷ p) w zero h = omega arith
 path-short (step descendant (label n) ∷ p) w (suc i) h = omega (arith, path-short p (name n ∷ []) i (le_of_suc-le-suc h))
 path-short (step descendant star ∷ p) w i h = omega (arith, path-short p [] i h)
 
-before-short : (p : Path) → length (before p) ≤ 1
+pub before-short : (p : Path) → length (before p) ≤ 1
 before-short [] = omega arith
 before-short (step child t ∷ p) = omega arith
 before-short (step descendant t ∷ p) = omega arith

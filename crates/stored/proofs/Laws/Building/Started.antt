@@ -23,11 +23,10 @@ use Rattle.notation.proofs.Laws.Stored.ReadSteps.{step-read}
 use Rattle.model.specs.Words.{document, before, begins}
 use Rattle.stored.specs.Automaton.{all_steps, Link, start_state, assembled}
 use Rattle.stored.specs.Code.Masks.{rooted, any_rooted, with_start}
-use Rattle.text.proofs.Laws.Tests.{both, clash}
+use Rattle.text.proofs.Laws.Tests.{both, clash, same_test}
 use Rattle.text.proofs.Laws.Lists.{any-is, is_any}
 use Rattle.model.proofs.Laws.Keywords.Words.{begins-is, is-begins}
 use Rattle.model.proofs.Laws.Keywords.Labels.{begins-document}
-use Rattle.stored.proofs.Laws.Tables.Goto.{same_test}
 use Rattle.stored.proofs.Laws.Tables.Assembled.{Sized, after-set, start-put}
 use Rattle.stored.proofs.Laws.Building.Masked.{path-in, steps-here}
 

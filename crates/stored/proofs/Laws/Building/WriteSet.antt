@@ -23,6 +23,7 @@ use Rattle.stored.specs.Build.{Built, SetWritten, write_conditions}
 use Rattle.text.specs.declared.refusals.Refusal.{Refusal}
 use Rattle.stored.proofs.Laws.Tables.SetReads.{of-set}
 use Rattle.stored.proofs.Laws.Shapes.BuiltShape.{built-shaped, built-grows}
+use Rattle.text.proofs.Laws.Output.{written-whole}
 
 module _ (text : List ℕ) (s : FolderSet) (acc : Accepted text s) (rest : List ℕ) where
   fit : Fitting s
@@ -48,12 +49,10 @@ module _ (text : List ℕ) (s : FolderSet) (acc : Accepted text s) (rest : List 
     module _ (answer : Result ℕ Refusal) (after : List ℕ) (w : SetWritten (automaton_of s ++ rest) out answer after) where
       -- the text's length
       pub written-length : says answer ≡ value (length text)
-      written-length = w.answers ∙ ap₂ (λ (r n : ℕ). said r n) none-refused (ap length stored-text)
+      written-length = (written-whole text out answer none-refused (omega (arith, text-short)) (rw stored-text at w.answers) (rw stored-text at w.leaves)).0
 
       written-bytes : after ≡ text ++ drop (length text) out
-      written-bytes =
-          let fits : 0 + length text ≤ length out = omega (arith, text-short) in
-          w.leaves ∙ rw (none-refused, stored-text) (sets-eq text out 0 fits ∙ ap (λ (n : ℕ). text ++ drop n out) (zero-add (length text)))
+      written-bytes = (written-whole text out answer none-refused (omega (arith, text-short)) (rw stored-text at w.answers) (rw stored-text at w.leaves)).1
 
       -- its bytes, and those past it as they were
       pub written-text : take (length text) after ≡ text

@@ -21,9 +21,6 @@ pub all-next : (i : ℕ) (f : ℕ → Bool) {r x y : Bool} → r ≡ (x && y) �
 unfolding all_below
 all-next i f e p q = rw (add-one, e, p, q)
 
-pub all_end : (n : ℕ) (f : ℕ → Bool) {r : Bool} {i : ℕ} → r ≡ all_below i f → i ≡ n → r ≡ all_below n f
-all_end n f h e = rw (← e) h
-
 -- a chain of calls over these numbers
 all-last : (n i : ℕ) (f : ℕ → Bool) → list_all f (range_with_len i (suc n)) ≡ (list_all f (range_with_len i n) && f (i + n))
 all-last zero i f = rw add-zero (and-true (f i))
@@ -61,9 +58,6 @@ all-at zero f h i l = absurd (omega arith)
 all-at (suc n) f h i l =
     let b = both (all_below n f) (f n) h in
     cases (eqb i n) (λ t. rw (eqb-true i n t) b.1) (λ t. let d : i ≡ n → ⊥ = eqb-false i n t in all-at n f b.0 i (omega arith))
-
-pub all-fails : (n : ℕ) (f : ℕ → Bool) (i : ℕ) → i < n → f i ≡ false → all_below n f ≡ false
-all-fails n f i l p = cases (all_below n f) (λ t. let q = all-at n f t i l in cc) (λ t. t)
 
 pub is_all : (n : ℕ) (f : ℕ → Bool) → ((i : ℕ) → i < n → f i ≡ true) → all_below n f ≡ true
 unfolding all_below

@@ -1,7 +1,7 @@
 -- The masks as one row of bits: how it is made step by step, and that it is the masks of the set.
 use Prim.Native.Nat.{ℕ, zero, suc, ◌+◌, ◌-◌, ◌*◌, ◌≤◌, ◌<◌}
 use mathlib.Core.Path.{◌≡◌, refl, sym, ◌∙◌, ap, ap₂}
-use mathlib.Core.Bool.{Bool, true, false, ◌&&◌, ◌||◌}
+use mathlib.Core.Bool.{Bool, true, false, ◌&&◌, ◌||◌, and-false, or-false, and-true, and_comm, or-true}
 use mathlib.Core.List.{List, [], ◌∷◌, ◌++◌, append-nil, append_assoc}
 use native.Mathlib.Nat.{add-zero, add-suc, sub-zero}
 use native.Mathlib.Omega.{arith}
@@ -12,10 +12,9 @@ use Rattle.notation.specs.Sets.{Axis, child, descendant, Test, step, FolderSet, 
 use Rattle.notation.specs.Reads.{is_descendant, is_star}
 use Rattle.stored.specs.Automaton.{mask_size, star_mask, child_mask, descendant_mask, anywhere_mask, root_mask, last_mask, mask_count, all_masks, tabulate, packed, byte_of, bit_bytes, Role, role, roles, role_at, mask_test, masks_from, masks}
 use Rattle.stored.specs.Code.Masks.{axis_mask}
-use Rattle.text.proofs.Laws.Tests.{cases, both, both_true}
+use Rattle.text.proofs.Laws.Tests.{cases, both, both_true, same_test}
 use Rattle.stored.proofs.Laws.Bytes.Tabulate.{tabulate-same, tabulate-constant}
 use Rattle.stored.proofs.Laws.Bytes.WithBit.{packed-same}
-use Rattle.stored.proofs.Laws.Tables.Goto.{same_test}
 
 -- equal bits, equal rows
 pub bits-same : (b c : ℕ → Bool) (n : ℕ) → ((j : ℕ) → j < 8 * n → b j ≡ c j) → bit_bytes b n ≡ bit_bytes c n
@@ -68,33 +67,11 @@ unfoldable pub role_bits : ℕ → List Role → (ℕ → Bool) → ℕ → Bool
 role_bits i [] b = b
 role_bits i (r ∷ rs) b = role_bits (suc i) rs (flag_bits i r b)
 
-and_no : (a : Bool) → (a && false) ≡ false
-and_no true = refl
-and_no false = refl
-
-or_no : (a : Bool) → (a || false) ≡ a
-or_no true = refl
-or_no false = refl
-
-and_yes : (a : Bool) → (a && true) ≡ a
-and_yes true = refl
-and_yes false = refl
-
-and-swap : (a b : Bool) → (a && b) ≡ (b && a)
-and-swap true true = refl
-and-swap true false = refl
-and-swap false true = refl
-and-swap false false = refl
-
-or_yes : (a : Bool) → (a || true) ≡ true
-or_yes true = refl
-or_yes false = refl
-
 or-last : (u v w b : Bool) → (u || (v || (w || b))) ≡ (b || (u || (v || w)))
-or-last true v w b = sym (or_yes b)
-or-last false true w b = sym (or_yes b)
-or-last false false true b = sym (or_yes b)
-or-last false false false b = sym (or_no b)
+or-last true v w b = sym (or-true b)
+or-last false true w b = sym (or-true b)
+or-last false false true b = sym (or-true b)
+or-last false false false b = sym (or-false b)
 
 or-none : (x b : Bool) → b ≡ (b || (x && false))
 or-none true true = refl
@@ -117,15 +94,15 @@ abbrev Has : Axis → Test → Bool → Bool → ℕ → Type 0
 Has a t first last m = mask_test m (role (step a t) first last) ≡ ((eqb m last_mask && last) || (eqb m (axis_mask first (is_descendant a)) || (eqb m star_mask && is_star t)))
 
 mask-has : (a : Axis) (t : Test) (first last : Bool) (m : ℕ) → m < mask_count → Has a t first last m
-mask-has child t true last = each-mask (Has child t true last) refl refl refl refl refl (sym (or_no last))
-mask-has child t false last = each-mask (Has child t false last) refl refl refl refl refl (sym (or_no last))
-mask-has descendant t true last = each-mask (Has descendant t true last) refl refl refl refl refl (sym (or_no last))
-mask-has descendant t false last = each-mask (Has descendant t false last) refl refl refl refl refl (sym (or_no last))
+mask-has child t true last = each-mask (Has child t true last) refl refl refl refl refl (sym (or-false last))
+mask-has child t false last = each-mask (Has child t false last) refl refl refl refl refl (sym (or-false last))
+mask-has descendant t true last = each-mask (Has descendant t true last) refl refl refl refl refl (sym (or-false last))
+mask-has descendant t false last = each-mask (Has descendant t false last) refl refl refl refl refl (sym (or-false last))
 
 -- the three bits of a step, where x: it is this step
 three : (p q r l s x b : Bool) → ((l && (p && x)) || ((q && x) || ((s && (r && x)) || b))) ≡ (b || (x && ((p && l) || (q || (r && s)))))
-three p q r l s true b = rw (and_yes p, and_yes q, and_yes r, and-swap l p, and-swap s r) (or-last (p && l) q (r && s) b)
-three p q r l s false b = rw (and_no p, and_no q, and_no r, and_no l, and_no s) (sym (or_no b))
+three p q r l s true b = rw (and-true p, and-true q, and-true r, and_comm l p, and_comm s r) (or-last (p && l) q (r && s) b)
+three p q r l s false b = rw (and-false p, and-false q, and-false r, and-false l, and-false s) (sym (or-false b))
 
 module _ (m : ℕ) (small : m < mask_count) (j : ℕ) (hj : j < 8 * mask_size) where
   role-bit : (i : ℕ) → i < 8 * mask_size → (r : Role) (b : ℕ → Bool) → flag_bits i r b (place m j) ≡ (b (place m j) || (eqb j i && mask_test m r))
@@ -148,7 +125,7 @@ module _ (m : ℕ) (small : m < mask_count) (j : ℕ) (hj : j < 8 * mask_size) w
       here t e =
           let none : j - i ≡ 0 = omega (arith, eqb-true j i e) in
           let over : leb (suc i) j ≡ false = lt-leb (suc i) j (omega (arith, eqb-true j i e)) in
-          rw (t, e, over, none) (or_no (b (place m j) || mask_test m r))
+          rw (t, e, over, none) (or-false (b (place m j) || mask_test m r))
 
       later : leb i j ≡ true → eqb j i ≡ false → ((b (place m j) || (eqb j i && mask_test m r)) || (leb (suc i) j && role_at (mask_test m) rs (j - suc i))) ≡ (b (place m j) || (leb i j && role_at (mask_test m) (r ∷ rs) (j - i)))
       later t e =
@@ -156,14 +133,14 @@ module _ (m : ℕ) (small : m < mask_count) (j : ℕ) (hj : j < 8 * mask_size) w
           let le : i ≤ j = leb-true i j t in
           let one : j - i ≡ suc (j - suc i) = omega arith in
           let on : leb (suc i) j ≡ true = le-leb (suc i) j (omega arith) in
-          rw (t, e, on, one) (ap (λ (x : Bool). x || role_at (mask_test m) rs (j - suc i)) (or_no (b (place m j))))
+          rw (t, e, on, one) (ap (λ (x : Bool). x || role_at (mask_test m) rs (j - suc i)) (or-false (b (place m j))))
 
       before : leb i j ≡ false → ((b (place m j) || (eqb j i && mask_test m r)) || (leb (suc i) j && role_at (mask_test m) rs (j - suc i))) ≡ (b (place m j) || (leb i j && role_at (mask_test m) (r ∷ rs) (j - i)))
       before t =
           let lt : j < i = leb-false i j t in
           let ne : eqb j i ≡ false = ne_eqb j i (omega arith) in
           let over : leb (suc i) j ≡ false = lt-leb (suc i) j (omega arith) in
-          rw (t, ne, over) (or_no (b (place m j) || false))
+          rw (t, ne, over) (or-false (b (place m j) || false))
 
   pub all-bits : (rs : List Role) → length rs ≤ 8 * mask_size → role_bits 0 rs (λ k. false) (place m j) ≡ role_at (mask_test m) rs j
   all-bits rs h = roles-bit rs 0 (λ k. false) (omega arith) ∙ rw (le-leb 0 j (omega arith), sub-zero)

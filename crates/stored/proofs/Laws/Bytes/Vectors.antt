@@ -1,7 +1,7 @@
 -- Blocks of bits as vectors of sixteen bytes, and the operators on them.
 use Prim.Native.Nat.{ℕ, zero, suc, ◌+◌, ◌*◌, ◌-◌, ◌/◌, ◌%◌, ◌^◌, ◌≤◌, ◌<◌}
 use mathlib.Core.Path.{◌≡◌, refl, sym, ◌∙◌, ap, ap₂}
-use mathlib.Core.Bool.{Bool, true, false, ◌&&◌, ◌||◌}
+use mathlib.Core.Bool.{Bool, true, false, ◌&&◌, ◌||◌, or-false}
 use mathlib.Core.List.{List, ◌++◌, append_assoc}
 use native.Mathlib.Nat.{add-zero, zero-add, zero-div}
 use native.Mathlib.Omega.{arith}
@@ -80,11 +80,6 @@ block-and = block-joined bit_and (λ a b. a && b) (λ x y h k. and_lt 8 x y h k)
 pub block-or : {f g : ℕ → Bool} {xs ys : List ℕ} → Block f xs → Block g ys → Block (λ i. f i || g i) (zip2 bit_or xs ys)
 block-or = block-joined bit_or (λ a b. a || b) (λ x y h k. or_lt 8 x y h k) or-bit
 
--- a byte moved one place on, beside the last bit of the byte before
-false-or : (b : Bool) → (b || false) ≡ b
-false-or true = refl
-false-or false = refl
-
 zero-bit : (k : ℕ) → bit_of 0 k ≡ false
 unfolding bit_of
 zero-bit k = let z : 0 / 2 ^ k % 2 ≡ 0 = ap (λ (n : ℕ). n % 2) (zero-div (2 ^ k)) in rw z
@@ -97,7 +92,7 @@ moved-on b before k h g l =
   where
     beside : (k : ℕ) → (bit_before b 0 k || bit_before 0 before k) ≡ bit_before b before k
     beside zero = ap (λ (x : Bool). x || bit_of before 7) (zero-bit 7)
-    beside (suc k) = ap (λ (x : Bool). bit_of b k || x) (zero-bit k) ∙ false-or (bit_of b k)
+    beside (suc k) = ap (λ (x : Bool). bit_of b k || x) (zero-bit k) ∙ or-false (bit_of b k)
 
 -- the byte before each byte of a block; no byte is before the first of a row
 pub record Before (bytes : List ℕ) (base from : ℕ) (before : List ℕ) : Type 0 where

@@ -1,7 +1,7 @@
 -- A byte with a bit set: its bits are those of the byte and this one; a row of bits with one set.
 use Prim.Native.Nat.{ℕ, ◌+◌, ◌*◌, ◌/◌, ◌%◌, ◌^◌, ◌<◌}
 use mathlib.Core.Path.{◌≡◌, refl, sym, ◌∙◌, ap}
-use mathlib.Core.Bool.{Bool, true, false, ◌||◌}
+use mathlib.Core.Bool.{Bool, true, false, ◌||◌, or_comm}
 use native.Mathlib.Omega.{arith}
 use borrow.Author.Tests.{eq-eqb, ne_eqb, eqb-true, eqb-false}
 use lib.Bits.{or_lt}
@@ -10,11 +10,10 @@ use lib.ListN.{length, get_or, set, length-set}
 use lib.Seq.{ext_get_or, get_or-set_same, get_or-set_other}
 use Rattle.stored.specs.Bits.{bit_of, with_bit}
 use Rattle.stored.specs.Automaton.{packed, byte_of, bit_bytes}
-use Rattle.text.proofs.Laws.Tests.{cases}
+use Rattle.text.proofs.Laws.Tests.{cases, same_test}
 use Rattle.stored.proofs.Laws.Bytes.Tabulate.{tabulate-length, tabulate-at}
 use Rattle.stored.proofs.Laws.Bytes.Bits.{packed-bit, packed-small}
 use Rattle.stored.proofs.Laws.Bytes.ByteBits.{or-bit, power-bit, power_small, packed-from}
-use Rattle.stored.proofs.Laws.Tables.Goto.{same_test}
 
 -- its bits, and that it is a byte
 pub with-bit : (b k i : ℕ) → k < 8 → i < 8 → bit_of (with_bit b k) i ≡ (bit_of b i || eqb k i)
@@ -35,12 +34,6 @@ packed-same b c h =
 abbrev pub adding : ℕ → (ℕ → Bool) → ℕ → Bool
 adding k b j = eqb j k || b j
 
-or_swap : (x y : Bool) → (x || y) ≡ (y || x)
-or_swap true true = refl
-or_swap true false = refl
-or_swap false true = refl
-or_swap false false = refl
-
 packed-with : (b : ℕ → Bool) (k : ℕ) → k < 8 → with_bit (packed b) k ≡ packed (adding k b)
 packed-with b k h = sym (packed-from (with_bit (packed b) k) (adding k b) (with-small (packed b) k (packed-small b) h) same)
   where
@@ -48,7 +41,7 @@ packed-with b k h = sym (packed-from (with_bit (packed b) k) (adding k b) (with-
     same_place i = same_test (eqb k i) (eqb i k) (λ t. eq-eqb i k (sym (eqb-true k i t))) (λ t. eq-eqb k i (sym (eqb-true i k t)))
 
     same : (i : ℕ) → i < 8 → bit_of (with_bit (packed b) k) i ≡ adding k b i
-    same i l = with-bit (packed b) k i h l ∙ rw (packed-bit b i l, same_place i) (or_swap (b i) (eqb i k))
+    same i l = with-bit (packed b) k i h l ∙ rw (packed-bit b i l, same_place i) (or_comm (b i) (eqb i k))
 
 -- one bit more in a row of bits
 pub bits-with : (b : ℕ → Bool) (n i : ℕ) → i < 8 * n → set (bit_bytes b n) (i / 8) (with_bit (get_or (bit_bytes b n) (i / 8) 0) (i % 8)) ≡ bit_bytes (adding i b) n

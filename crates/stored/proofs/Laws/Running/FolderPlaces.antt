@@ -15,7 +15,7 @@ use Rattle.text.specs.Lists.{any}
 use Rattle.notation.specs.Reads.{folder_index}
 use Rattle.notation.proofs.Laws.Stored.FolderTable.{no_folder, paths_before}
 use Rattle.model.specs.Folders.{count_from, places_from}
-use Rattle.text.proofs.Laws.Tests.{cases}
+use Rattle.text.proofs.Laws.Tests.{cases, neither}
 
 -- some folder of the set has this number
 abbrev pub has_number : FolderSet → ℕ → Bool
@@ -26,16 +26,12 @@ pub data Placed (first k number : ℕ) (fs : FolderSet) : Type 0 where
   at : (i : ℕ) → has_number fs number ≡ true → i < length fs → folder_index number k fs ≡ Some (k + i)
       → places_from first fs number ≡ count_from (first + paths_before fs i) (length (folder_paths (get_or fs i no_folder))) → Placed first k number fs
 
-either-false : (x y : Bool) → (x || y) ≡ false → (x ≡ false) × (y ≡ false)
-either-false true y h = (h, absurd (let z : ◌≡◌ {A = ℕ} 0 1 = cc in omega arith))
-either-false false y h = (refl, h)
-
 -- numbers above the last are not it
 none_above : (last first number : ℕ) (fs : FolderSet) → numbers_fall_after last fs ≡ false → number ≤ last → places_from first fs number ≡ []
 unfolding numbers_fall_after places_from
 none_above last first number [] h le = refl
 none_above last first number (folder n ps ∷ fs) h le =
-    let b = either-false (leb n last) (numbers_fall_after n fs) h in
+    let b = neither (leb n last) (numbers_fall_after n fs) h in
     let up : last < n = leb-false n last b.0 in
     rw (ne_eqb n number (λ e. omega arith)) (none_above n (first + length ps) number fs b.1 (omega arith))
 
@@ -43,7 +39,7 @@ pub placed : (last first k number : ℕ) (fs : FolderSet) → numbers_fall_after
 unfolding numbers_fall_after folder_index places_from any paths_of
 placed last first k number [] h = missing refl refl refl
 placed last first k number (folder n ps ∷ fs) h =
-    let b = either-false (leb n last) (numbers_fall_after n fs) h in
+    let b = neither (leb n last) (numbers_fall_after n fs) h in
     cases (eqb n number) (λ t. here t b.1) (λ t. later t (placed n (first + length ps) (suc k) number fs b.1))
   where
     here : eqb n number ≡ true → numbers_fall_after n fs ≡ false → Placed first k number (folder n ps ∷ fs)

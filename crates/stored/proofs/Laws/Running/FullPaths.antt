@@ -20,7 +20,7 @@ unfolding every
 every-at f [] a h m = absurd (Memᴰ.not-nil m)
 every-at f (b ∷ l) a h m = elim (Memᴰ.cases_cons m) [ inl e ↦ rw e (both (f b) (every f l) h).0 | inr r ↦ every-at f l a (both (f b) (every f l) h).1 r ]
 
-folder-paths : (f : Folder) → formed_folder f ≡ true → every formed_path (folder_paths f) ≡ true
+pub folder-paths : (f : Folder) → formed_folder f ≡ true → every formed_path (folder_paths f) ≡ true
 unfolding formed_folder
 folder-paths (folder n ps) h = (both (non_empty ps) (every formed_path ps) (both (within 1 max_number n) (non_empty ps && every formed_path ps) h).1).1
 

@@ -1,7 +1,7 @@
 -- The bits that an open computes are those of the names with one more: active steps, steps seen, matches.
 use Prim.Native.Nat.{ℕ, zero, suc, ◌+◌, ◌*◌, ◌≤◌, ◌<◌}
 use mathlib.Core.Path.{◌≡◌, refl, sym, ◌∙◌, ap, ap₂, subst}
-use mathlib.Core.Bool.{Bool, true, false, not, ◌&&◌, ◌||◌}
+use mathlib.Core.Bool.{Bool, true, false, not, ◌&&◌, ◌||◌, or_comm, and-false, and-true}
 use mathlib.Core.List.{List, [], ◌∷◌, ◌++◌}
 use native.Mathlib.Omega.{arith}
 use native.Mathlib.Nat.{add-suc}
@@ -64,20 +64,6 @@ empty-is (n ∷ names) = ne_eqb (suc (length names)) 0 (λ e. omega arith)
 shifted_at : (f : Path → ℕ → Bool) (ps : List Path) (place k : ℕ) → place < length ps → k < length (get_or ps place []) → (j : ℕ) → k ≡ suc j
     → shifted (step_bit f ps) (steps_before ps place + k) ≡ f (get_or ps place []) (suc j)
 shifted_at f ps place k h w j e = rw (e, add-suc) (bit_at f ps place j h (omega arith))
-
-or_swap : (x y : Bool) → (x || y) ≡ (y || x)
-or_swap true true = refl
-or_swap true false = refl
-or_swap false true = refl
-or_swap false false = refl
-
-and-true : (x : Bool) → (x && true) ≡ x
-and-true true = refl
-and-true false = refl
-
-and_none : (x : Bool) → (x && false) ≡ false
-and_none true = refl
-and_none false = refl
 
 module _ (s : FolderSet) (a : List ℕ) (m : Means s a) (names : List Name) (matched : ℕ → Bool) (deep : length names ≤ max_depth) (short : Short names) (rest : List ℕ) (e : Name) where
   abbrev run : List ℕ
@@ -168,7 +154,7 @@ module _ (s : FolderSet) (a : List ℕ) (m : Means s a) (names : List Name) (mat
         bit_at (λ p k. active p k (names ++ (e ∷ []))) ps place k h w,
         bit_at (λ p k. seen p k (names ++ (e ∷ []))) ps place k h w,
       )
-      (or_swap (seen (get_or ps place []) (suc k) names) (active (get_or ps place []) (suc k) (names ++ (e ∷ []))) ∙ sym (seen_more (get_or ps place []) (suc k) names e))
+      (or_comm (seen (get_or ps place []) (suc k) names) (active (get_or ps place []) (suc k) (names ++ (e ∷ []))) ∙ sym (seen_more (get_or ps place []) (suc k) names e))
 
   pub now-seen : (i : ℕ) → i < 8 * mask_size → now_seen a run e i ≡ seen_bits s (names ++ (e ∷ [])) i
   unfolding now_seen
@@ -189,7 +175,7 @@ module _ (s : FolderSet) (a : List ℕ) (m : Means s a) (names : List Name) (mat
   last-matched : (p : Path) (k : ℕ) (b : Bool) → ((eqb (suc k) (length p) && b) || (active p (suc k) (names ++ (e ∷ [])) && eqb (suc k) (length p))) ≡ (eqb (suc k) (length p) && (b || fits p (names ++ (e ∷ []))))
   last-matched p k b = cases (eqb (suc k) (length p))
       (λ t. rw (t, and-true (active p (suc k) (names ++ (e ∷ [])))) (ap (λ (n : ℕ). b || active p n (names ++ (e ∷ []))) (eqb-true (suc k) (length p) t)))
-      (λ t. rw (t, and_none (active p (suc k) (names ++ (e ∷ [])))))
+      (λ t. rw (t, and-false (active p (suc k) (names ++ (e ∷ [])))))
 
   matched-placed : (place k : ℕ) → place < length ps → k < length (get_or ps place [])
       → (match_bit matched 0 ps (steps_before ps place + k) || (active_bits s (names ++ (e ∷ [])) (steps_before ps place + k) && role_at is_last_role (roles s) (steps_before ps place + k)))

@@ -6,7 +6,7 @@ use mathlib.Core.List.{List, [], ◌∷◌, ◌++◌}
 use native.Mathlib.Omega.{arith}
 use native.Mathlib.Nat.{not-suc-le-zero, le_of_suc-le-suc}
 use borrow.Author.Tests.{ltb-true, ltb-false, lt-ltb, le-ltb, eq-eqb, ne_eqb, eqb-true, eqb-false}
-use lib.Dec.{ltb, eqb}
+use lib.Dec.{ltb, eqb, eqb-suc-suc}
 use lib.ListN.{length, get_or, take, length-append}
 use Rattle.notation.specs.Sets.{child, star, Step, step, Path}
 use Rattle.notation.specs.Form.{steps_of}
@@ -14,7 +14,7 @@ use Rattle.notation.proofs.Laws.Stored.PathTable.{steps_before}
 use Rattle.stored.specs.Automaton.{Role, role, roles_from, roles_in, role_at}
 use Rattle.stored.specs.Run.{step_bit, match_bit}
 use Rattle.text.proofs.Laws.Tests.{cases}
-use Rattle.stored.proofs.Laws.Building.Masked.{all-roles-length}
+use Rattle.stored.proofs.Laws.Building.Masked.{all-roles-length, roles-length}
 
 abbrev pub any_step : Step
 any_step = step child star
@@ -94,10 +94,6 @@ module _ (m : ℕ → Bool) where
 abbrev pub role_of : Path → ℕ → Role
 role_of p k = role (get_or p k any_step) (eqb k 0) (eqb (suc k) (length p))
 
--- one more on both sides
-pub suc-eqb : (a b : ℕ) → eqb (suc a) (suc b) ≡ eqb a b
-suc-eqb a b = cases (eqb a b) (λ t. rw t (eq-eqb (suc a) (suc b) (ap suc (eqb-true a b t)))) (λ t. rw t (ne_eqb (suc a) (suc b) (λ e. eqb-false a b t (omega arith))))
-
 abbrev first-or : Bool → ℕ → Bool
 first-or first zero = first
 first-or first (suc k) = false
@@ -126,17 +122,11 @@ module _ (f : Role → Bool) where
   role-in first (s ∷ t ∷ p) (suc k) h =
       role-in false (t ∷ p) k (le_of_suc-le-suc h)
       ∙ ap (λ (b : Bool). f (role (get_or (t ∷ p) k any_step) b (eqb (suc k) (length (t ∷ p))))) (same k)
-      ∙ ap (λ (b : Bool). f (role (get_or (t ∷ p) k any_step) false b)) (sym (suc-eqb (suc k) (suc (length p))))
+      ∙ ap (λ (b : Bool). f (role (get_or (t ∷ p) k any_step) false b)) (sym (eqb-suc-suc (suc k) (suc (length p))))
     where
       same : (k : ℕ) → first-or false k ≡ false
       same zero = refl
       same (suc k) = refl
-
-roles-length : (first : Bool) (p : Path) → length (roles_from first p) ≡ length p
-unfolding roles_from
-roles-length first [] = refl
-roles-length first (s ∷ []) = refl
-roles-length first (s ∷ t ∷ p) = ap suc (roles-length false (t ∷ p))
 
 first-is : (k : ℕ) → first-or true k ≡ eqb k 0
 first-is zero = refl

@@ -32,33 +32,14 @@ use Rattle.stored.proofs.Laws.Tables.Assembled.{chain_in, group_in, start-read}
 use Rattle.stored.proofs.Laws.Tables.States.{word-ends, label-begins}
 use Rattle.stored.proofs.Laws.Building.Staged.{Links, Short, sized, stage-grows}
 use Rattle.stored.proofs.Laws.Tables.Links.{marks-count, links-length, links-at}
-use Rattle.stored.proofs.Laws.Tables.Compiled.{automaton-grouped, compiled-fitting}
+use Rattle.stored.proofs.Laws.Tables.Compiled.{automaton-grouped, compiled-fitting, word-short}
 use Rattle.stored.proofs.Laws.Tables.Searched.{behind-after}
 use Rattle.stored.proofs.Laws.Building.Groups.{far-behind}
 use Rattle.stored.proofs.Laws.Shapes.Shaped.{FolderFacts, PathFacts, LabelFacts, Shaped, is-shaped}
 use Rattle.text.proofs.Laws.Tests.{neither}
 use Rattle.stored.proofs.Laws.Shapes.SetShape.{folder-facts, path-facts, step-fact, label-facts}
 use Rattle.stored.proofs.Laws.Tables.SetReads.{of-set}
-
--- a run that ends at a label has at most the run before and the steps of its path
-run_short : (p : Path) (w u : Word) → Memᴰ u (label_words w p) → length u ≤ length w + length p
-unfolding label_words
-run_short [] w u m = absurd (Memᴰ.not-nil m)
-run_short (step child (label n) ∷ p) w u m = elim (Memᴰ.cases_cons m) [
-  | inl e ↦ omega (arith, ap length e, length-append w (name n ∷ []))
-  | inr t ↦ omega (arith, run_short p (followed_by w n) u t, length-append w (name n ∷ []))
-]
-run_short (step child star ∷ p) w u m = omega (arith, run_short p [] u m)
-run_short (step descendant (label n) ∷ p) w u m = elim (Memᴰ.cases_cons m) [
-  | inl e ↦ omega (arith, ap length e)
-  | inr t ↦ omega (arith, run_short p (name n ∷ []) u t)
-]
-run_short (step descendant star ∷ p) w u m = omega (arith, run_short p [] u m)
-
-before-short : (p : Path) → length (before p) ≤ 1
-before-short [] = omega arith
-before-short (step child t ∷ p) = omega arith
-before-short (step descendant t ∷ p) = omega arith
+use Rattle.stored.proofs.Laws.Building.Placed.{before-short}
 
 none_of : {A : Type 0} (f : A → Bool) {a : A} (l : List A) → any f l ≡ false → Memᴰ a l → f a ≡ false
 unfolding any
@@ -74,7 +55,7 @@ words-short s few l h =
     let n = get_or (all_labels s) l [] in
     let w : LabelWord s (followed_by x.0 n) = (begins-label s x.0 n).0 (rw x.1 at (label-begins s l h)) in
     let p : length w.path ≤ max_steps = ltb-false max_steps (length w.path) (none_of path_long (paths_of s) few w.of_set) in
-    omega (arith, ap length x.1, run_short w.path (before w.path) (followed_by x.0 n) w.at_label, before-short w.path)
+    omega (arith, ap length x.1, word-short w.path (before w.path) (followed_by x.0 n) w.at_label, before-short w.path)
 
 -- the links of a set
 pub links-right : (s : FolderSet) → Links s (links s)

@@ -25,6 +25,7 @@ use Rattle.stored.specs.Usable.{Ready, Usable}
 use Rattle.stored.specs.declared.counters.Counters.{Counters}
 use Rattle.text.proofs.Laws.Tests.{both, neither}
 use Rattle.text.proofs.Laws.Order.{not-given, given-first, given-then}
+use Rattle.stored.proofs.Laws.Bytes.Stores.{sets-left}
 
 pub long-enough : (a run : List ℕ) → too_short a run ≡ false → (automaton_size ≤ length a) × (run_size ≤ length run)
 long-enough a run h = let n = neither (ltb (length a) automaton_size) (ltb (length run) run_size) h in (ltb-false _ _ n.0, ltb-false _ _ n.1)
@@ -147,14 +148,6 @@ module _ (a run : List ℕ) (c : Counters) (e : Name) where
   pub close-unformed : Usable a run c → name_form e ≡ false → close_refusal a run c e ≡ number_of SyntaxError
   unfolding given first
   close-unformed u f = close-others u ∙ rw f
-
--- a fresh run
-sets-left : (v x y : List ℕ) (i : ℕ) → i + length v ≤ length x → sets (x ++ y) i v ≡ sets x i v ++ y
-sets-left [] x y i h = refl
-sets-left (b ∷ v) x y i h =
-    let l : i < length x = omega arith in
-    let k : suc i + length v ≤ length (set x i b) = rw (length-set x i b) (omega arith) in
-    ap (λ (z : List ℕ). sets z (suc i) v) (set-append_left x y i b l) ∙ sets-left v (set x i b) y (suc i) k
 
 pub within-run : row_at 0 + state_in + word_size ≤ run_size
 unfolding rows_at row_size state_in run_size

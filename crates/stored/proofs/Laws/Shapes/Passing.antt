@@ -64,6 +64,10 @@ close-order-given (level n w ∷ outer) stored e x y h =
     let last : stored ≡ n = h ∙ ap (λ (k : ℕ). get_or ([] ∷ names_of (level n w ∷ outer)) (suc k) []) (sym (length-map outer name_of)) ∙ last_name n (map name_of outer) in
     rw (last, ne_eqb (suc (length outer)) 0 (λ z. omega arith))
 
+pub none_open : (l : List Level) → eqb (length l) 0 ≡ not (non_empty l)
+none_open [] = refl
+none_open (x ∷ l) = ne_eqb (suc (length l)) 0 (λ e. omega arith)
+
 module _ (s : FolderSet) (a : List ℕ) (m : Means s a) (st : State) (few : Few s st []) (rest : List ℕ) where
   abbrev g : Sound s st
   g = few.0
@@ -118,10 +122,6 @@ module _ (s : FolderSet) (a : List ℕ) (m : Means s a) (st : State) (few : Few 
       some-opens : (n : ℕ) → not (eqb n 0) ≡ ltb 0 n
       some-opens zero = refl
       some-opens (suc n) = rw (ne_eqb (suc n) 0 (λ e. omega arith), lt-ltb 0 (suc n) (omega arith))
-
-      none_open : (l : List Level) → eqb (length l) 0 ≡ not (non_empty l)
-      none_open [] = refl
-      none_open (x ∷ l) = ne_eqb (suc (length l)) 0 (λ e. omega arith)
 
   -- an open lent all as last left is refused as the machine says
   pub open-refused : (l : Lent) (e : Name) → open_refusal a run (counters_of st) e ≡ number_in (refusal st (open_call l e))

@@ -34,6 +34,7 @@ use Rattle.stored.specs.Automaton.{all_steps, all_labels}
 use Rattle.text.proofs.Laws.Lists.{every_append}
 use Rattle.text.proofs.Laws.Tests.{both, neither}
 use Rattle.stored.proofs.Laws.Shapes.Shaped.{FolderFacts, PathFacts, LabelFacts}
+use Rattle.stored.proofs.Laws.Running.FullPaths.{folder-paths}
 
 -- a test of all elements, or of some, at each
 every-at : {A : Type 0} (f : A → Bool) (d : A) (l : List A) → every f l ≡ true → (i : ℕ) → i < length l → f (get_or l i d) ≡ true
@@ -53,16 +54,12 @@ positive : (x : Folder) → formed_folder x ≡ true → 1 ≤ folder_number x
 unfolding formed_folder
 positive (folder n ps) h = leb-true 1 n (both (leb 1 n) (leb n max_number) (both (within 1 max_number n) _ h).0).0
 
-formed-paths : (x : Folder) → formed_folder x ≡ true → every formed_path (folder_paths x) ≡ true
-unfolding formed_folder
-formed-paths (folder n ps) h = (both (non_empty ps) (every formed_path ps) (both (within 1 max_number n) _ h).1).1
-
 all-formed : (s : FolderSet) → every formed_folder s ≡ true → every formed_path (paths_of s) ≡ true
 unfolding paths_of every
 all-formed [] h = refl
 all-formed (x ∷ s) h =
     let b = both (formed_folder x) (every formed_folder s) h in
-    every_append formed_path (folder_paths x) (paths_of s) (formed-paths x b.0) (all-formed s b.1)
+    every_append formed_path (folder_paths x) (paths_of s) (folder-paths x b.0) (all-formed s b.1)
 
 some-steps : (p : Path) → formed_path p ≡ true → 1 ≤ length p
 unfolding formed_path

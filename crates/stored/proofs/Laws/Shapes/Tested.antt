@@ -13,23 +13,8 @@ use Rattle.text.specs.Names.{within}
 use Rattle.text.proofs.Laws.Tests.{cases}
 use Rattle.stored.specs.Tables.{size_at, size_of}
 
-pub and-by : {r a b x y : Bool} → r ≡ (a && b) → a ≡ x → b ≡ y → r ≡ (x && y)
-and-by e p q = rw (e, p, q)
-
 pub leb-by : {m n x y : ℕ} → m ≡ x → n ≡ y → leb m n ≡ leb x y
 leb-by p q = rw (p, q)
-
-pub ltb-by : {m n x y : ℕ} → m ≡ x → n ≡ y → ltb m n ≡ ltb x y
-ltb-by p q = rw (p, q)
-
-pub sum_by : {m n x y : ℕ} → m ≡ x → n ≡ y → m + n ≡ x + y
-sum_by p q = rw (p, q)
-
-pub within_by : (low high : ℕ) {r : Bool} {m x : ℕ} → r ≡ within low high m → m ≡ x → r ≡ within low high x
-within_by low high e p = rw (e, p)
-
-pub size-by : (a : List ℕ) {r m x : ℕ} → r ≡ size_of a m → m ≡ x → r ≡ size_of a x
-size-by a e p = rw (e, p)
 
 -- the length of the word of a state: of the empty word and `#`, and of a label's
 pub size_small : (a : List ℕ) (q : ℕ) → q < 2 → q ≡ size_of a q
@@ -43,9 +28,6 @@ unfolding size_of
 size-label a zero h = absurd (omega arith)
 size-label a (suc zero) h = absurd (omega arith)
 size-label a (suc (suc l)) h = let s : suc (suc l) - 2 ≡ l = omega arith in rw s
-
-pub passes-by : {r x : Bool} → r ≡ x → not r ≡ false → x ≡ true
-passes-by {r} e p = sym e ∙ not-false r p
 
 -- one test in the place of two
 as-both : (r x y : Bool) → (x ≡ true → y ≡ true → r ≡ true) → (r ≡ true → (x ≡ true) × (y ≡ true)) → r ≡ (x && y)
@@ -74,3 +56,5 @@ max-within x y top =
     as-both (leb (max x y) top) (leb x top) (leb y top)
     (λ p q. le-leb (max x y) top (max-le (leb-true x top p) (leb-true y top q)))
     (λ t. let h = leb-true (max x y) top t in (le-leb x top (omega (arith, le-max_left x y)), le-leb y top (omega (arith, le-max_right x y))))
+
+pub ruleset sizes = (size_small, size-label)

@@ -53,9 +53,3 @@ pub chains-length : (all : List Name) (k : ℕ) (names : List Name) → length (
 unfolding chains_from
 chains-length all k [] = refl
 chains-length all k (n ∷ names) = ap suc (chains-length all (suc k) names)
-
-pub past_end : {A : Type 0} (l : List A) (j : ℕ) → length l ≤ j → drop j l ≡ []
-past_end [] zero h = refl
-past_end [] (suc j) h = refl
-past_end (x ∷ l) zero h = absurd (omega arith)
-past_end (x ∷ l) (suc j) h = past_end l j (omega arith)

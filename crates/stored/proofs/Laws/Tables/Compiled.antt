@@ -44,9 +44,10 @@ use Rattle.stored.proofs.Laws.Tables.Marked.{no_mark, group_at, Grouped, marks-r
 use Rattle.stored.proofs.Laws.Tables.Searched.{behind-within}
 use Rattle.stored.proofs.Laws.Tables.SetReads.{LabelStep, label-owner}
 use Rattle.stored.proofs.Laws.Building.Groups.{far-behind, bits_small}
+use Rattle.stored.proofs.Laws.Building.Placed.{before-short}
 
 -- a label's word has at most its path's steps and `#`
-word-short : (p : Path) (w u : Word) → Memᴰ u (label_words w p) → length u ≤ length w + length p
+pub word-short : (p : Path) (w u : Word) → Memᴰ u (label_words w p) → length u ≤ length w + length p
 unfolding label_words
 word-short [] w u m = absurd (Memᴰ.not-nil m)
 word-short (step child (label n) ∷ p) w u m =
@@ -58,11 +59,6 @@ word-short (step child star ∷ p) w u m = omega (arith, word-short p [] u m)
 word-short (step descendant (label n) ∷ p) w u m =
     elim (Memᴰ.cases_cons m) [ inl e ↦ omega (arith, ap length e) | inr t ↦ omega (arith, word-short p (name n ∷ []) u t) ]
 word-short (step descendant star ∷ p) w u m = omega (arith, word-short p [] u m)
-
-before-short : (p : Path) → length (before p) ≤ 1
-before-short [] = omega arith
-before-short (step child t ∷ p) = omega arith
-before-short (step descendant t ∷ p) = omega arith
 
 pub label-short : (s : FolderSet) (u : Word) (l : LabelWord s u) → length u ≤ suc (length l.path)
 label-short s u l = omega (arith, word-short l.path (before l.path) u l.at_label, before-short l.path)

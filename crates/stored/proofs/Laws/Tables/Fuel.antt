@@ -13,7 +13,7 @@ use Rattle.stored.specs.Tables.{next_at, parent_at, size_of, fail_of, goto_from,
 use Rattle.stored.specs.Usable.{Searchable, Falling, Walkable}
 use Rattle.stored.specs.declared.walk.Walk.{Walk}
 use Rattle.text.proofs.Laws.Tests.{cases}
-use Rattle.stored.proofs.Laws.Tables.Along.{along}
+use Rattle.stored.proofs.Laws.Tables.Along.{along, closer}
 
 pub goto-end : (more : ℕ) (a : List ℕ) (q : ℕ) → goto_from more a q 0 ≡ 0
 unfolding goto_from
@@ -141,3 +141,7 @@ over-state a w q k i h = (from-bounded a w k h (size_of a q) q i).arrived
 pub over-moves : (a : List ℕ) → Walkable a → (q k : ℕ) → q ≤ suc (label_count a) → k ≤ label_count a → (walk_by a q k).moves ≤ size_of a q
 unfolding walk_by
 over-moves a w q k i h = (from-bounded a w k h (size_of a q) q i).moved
+
+pub ruleset gotos = (closer, goto-end, goto-found, goto-further)
+
+pub ruleset walks = (fail-state, fail-shorter, size-within, over-follows, over-empty, over-falls)

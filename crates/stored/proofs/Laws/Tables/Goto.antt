@@ -8,7 +8,7 @@ use mathlib.Core.List.{List, []}
 use native.Mathlib.Omega.{arith}
 use borrow.Author.Tests.{eqb-true, eqb-false, eq-eqb}
 use lib.Dec.{eqb}
-use lib.ListN.{length, get_or, drop}
+use lib.ListN.{length, get_or, drop, drop_of_length-le}
 use lib.Seq.{drop-cons}
 use Rattle.text.specs.Names.{Name}
 use Rattle.notation.specs.Limits.{max_labels}
@@ -18,12 +18,13 @@ use Rattle.model.specs.Prefix.{IsPrefix}
 use Rattle.model.specs.Walk.{followed_by}
 use Rattle.stored.specs.Automaton.{find, all_labels, all_words, same_word, state_of, shortened, named}
 use Rattle.stored.specs.Tables.{next_at, parent_at, goto_from, goto_by, goto}
-use Rattle.text.proofs.Laws.Tests.{cases, clash}
+use Rattle.text.proofs.Laws.Tests.{cases, clash, same_test}
 use Rattle.model.proofs.Laws.Keywords.Words.{same-name, name-same}
 use Rattle.stored.proofs.Laws.Bytes.Finding.{find-here, find-later, find-empty}
-pub use Rattle.stored.proofs.Laws.Tables.Chained.{Chained, no_chain, chain_at, chain-at, chains-length, hash-small, past_end}
+pub use Rattle.stored.proofs.Laws.Tables.Chained.{Chained, no_chain, chain_at, chain-at, chains-length, hash-small}
 use Rattle.stored.proofs.Laws.Tables.LookedUp.{first-of}
 use Rattle.stored.proofs.Laws.Tables.States.{same_word-is, word_same, shortened-followed, followed-last, words_count, word-ends, label-parent, state-followed, state-one}
+use Rattle.stored.proofs.Laws.Tables.Fuel.{goto-end}
 
 -- the parent of label l is stored
 abbrev pub ParentAt : FolderSet → List ℕ → ℕ → Type 0
@@ -33,18 +34,6 @@ ParentAt s a l = parent_at a l ≡ state_of s (shortened (get_or (all_words s) l
 pub record Linked (s : FolderSet) (a : List ℕ) : Type 0 where
   pub chained : Chained s a
   pub parent : (l : ℕ) → l < length (all_labels s) → ParentAt s a l
-
--- tests with one answer
-pub same_test : (x y : Bool) → (x ≡ true → y ≡ true) → (y ≡ true → x ≡ true) → x ≡ y
-same_test true true f g = refl
-same_test true false f g = sym (f refl)
-same_test false true f g = g refl
-same_test false false f g = refl
-
-pub goto-end : (more : ℕ) (a : List ℕ) (q : ℕ) → goto_from more a q 0 ≡ 0
-unfolding goto_from
-goto-end zero a q = refl
-goto-end (suc more) a q = refl
 
 goto-hit : (more : ℕ) (a : List ℕ) (q l : ℕ) → eqb (parent_at a l) q ≡ true → goto_from (suc more) a q (suc l) ≡ suc (suc l)
 unfolding goto_from
@@ -97,8 +86,8 @@ module _ (s : FolderSet) (a : List ℕ) (c : Chained s a) (w : Word) (prefix : I
         → goto_from more a (state_of s w) (find (named e) (suc j) (drop j (all_labels s))) ≡ find (same_word (followed_by w e)) (suc (suc j)) (drop j (all_words s))
     along zero j more size room fresh =
         rw (
-          past_end (all_labels s) j (omega arith),
-          past_end (all_words s) j (omega (arith, words_count s)),
+          drop_of_length-le (all_labels s) {i = j} (omega arith),
+          drop_of_length-le (all_words s) {i = j} (omega (arith, words_count s)),
           find-empty (named e) (suc j),
           find-empty (same_word (followed_by w e)) (suc (suc j)),
         )

@@ -40,7 +40,7 @@ module _ (s : FolderSet) where
   chains-count : length (chains (all_labels s)) ≡ length (all_labels s)
   chains-count = chains-length (all_labels s) 0 (all_labels s)
 
-  as-groups : length (chains (all_labels s)) ≡ length (groups (marks s))
+  pub as-groups : length (chains (all_labels s)) ≡ length (groups (marks s))
   as-groups = chains-count ∙ sym (groups-length 0 (marks s) ∙ marks-count)
 
   as-words : length (chains (all_labels s)) ≡ length (all_words s)

@@ -12,12 +12,8 @@ use Rattle.stored.specs.Tables.{head_at, other_at, first_at, look_from, look_up,
 use Rattle.stored.specs.Usable.{Lookable, Searchable}
 use Rattle.text.proofs.Laws.Tests.{cases}
 use Rattle.stored.proofs.Laws.Tables.Goto.{hash-small}
-use Rattle.stored.proofs.Laws.Tables.Along.{along}
-
-pub look-end : (more : ℕ) (a : List ℕ) (e : Name) → look_from more a e 0 ≡ 0
-unfolding look_from
-look-end zero a e = refl
-look-end (suc more) a e = refl
+use Rattle.stored.proofs.Laws.Tables.Along.{along, closer}
+use Rattle.stored.proofs.Laws.Tables.LookedUp.{look-end}
 
 module _ (a : List ℕ) (c : Lookable a) (e : Name) where
   look_at : (l : ℕ) → l < label_count a → look_from max_labels a e (suc l) ≡ cond (same_name (label_name a l) e) (suc l) (look_from max_labels a e (other_at a l))
@@ -60,3 +56,7 @@ first-none a e z = rw z
 pub first-at : (a : List ℕ) (e : Name) (l : ℕ) → look_up a e ≡ suc l → first_of a e ≡ first_at a l
 unfolding first_of
 first-at a e l p = rw p
+
+pub ruleset looks = (hash-small, closer, look-end, look-found, look-further)
+
+pub ruleset firsts = (first-none, first-at, first-within)

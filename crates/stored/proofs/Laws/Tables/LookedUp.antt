@@ -5,7 +5,7 @@ use mathlib.Core.Bool.{true, false}
 use mathlib.Core.List.{List, [], ◌∷◌}
 use native.Mathlib.Omega.{arith}
 use borrow.Author.Tests.{eqb-true, eq-eqb}
-use lib.ListN.{length, get_or, drop}
+use lib.ListN.{length, get_or, drop, drop_of_length-le}
 use lib.Seq.{drop-cons}
 use Rattle.text.specs.Names.{Name, same_name}
 use Rattle.text.specs.Lists.{any}
@@ -17,7 +17,7 @@ use Rattle.stored.specs.Tables.{head_at, other_at, look_from, look_up, first_aft
 use Rattle.text.proofs.Laws.Tests.{cases, clash, both, both_true}
 use Rattle.model.proofs.Laws.Keywords.Words.{same-name}
 use Rattle.stored.proofs.Laws.Bytes.Finding.{find-missing, last-here, last-later, last_empty}
-use Rattle.stored.proofs.Laws.Tables.Chained.{Chained, chain_at, hash-small, past_end}
+use Rattle.stored.proofs.Laws.Tables.Chained.{Chained, chain_at, hash-small}
 
 pub record ChainedFrom (names : List Name) (k : ℕ) (a : List ℕ) : Type 0 where
   pub few : length names ≤ max_labels
@@ -30,7 +30,7 @@ pub data LookedUp (names : List Name) (k : ℕ) (e : Name) (p : ℕ) : Type 0 wh
   missing : p ≡ 0 → any (named e) (drop k names) ≡ false → LookedUp names k e p
   found : (r : ℕ) → p ≡ suc r → k ≤ r → r < length names → get_or names r [] ≡ e → is_last e (drop (suc r) names) ≡ true → LookedUp names k e p
 
-look-end : (more : ℕ) (a : List ℕ) (e : Name) → look_from more a e 0 ≡ 0
+pub look-end : (more : ℕ) (a : List ℕ) (e : Name) → look_from more a e 0 ≡ 0
 unfolding look_from
 look-end zero a e = refl
 look-end (suc more) a e = refl
@@ -67,7 +67,7 @@ module _ (names : List Name) (k : ℕ) (a : List ℕ) (c : ChainedFrom names k a
   along : (left j more : ℕ) → k ≤ j → left ≡ length names - j → left ≤ more
       → LookedUp names j e (look_from more a e (find_with_later (last_of_hash (hash e)) (suc j) (drop j names)))
   along zero j more i size room =
-      let d : drop j names ≡ [] = past_end names j (omega arith) in
+      let d : drop j names ≡ [] = drop_of_length-le names (omega arith) in
       rw (d, last_empty (last_of_hash (hash e)) (suc j)) (missing (look-end more a e) (rw d (any-empty e)))
   along (suc left) j zero i size room = absurd (omega arith)
   along (suc left) j (suc more) i size room =

@@ -8,7 +8,7 @@ use mathlib.Core.List.{List, [], ◌∷◌, map, Memᴰ}
 use native.Mathlib.Omega.{arith}
 use borrow.Author.Tests.{eqb-true, eqb-false, eq-eqb, leb-true, le-leb}
 use lib.Dec.{eqb, leb}
-use lib.ListN.{length, get_or, take, drop}
+use lib.ListN.{length, get_or, take, drop, drop_of_length-le}
 use lib.Seq.{drop-cons}
 use Rattle.text.specs.Names.{Name}
 use Rattle.text.specs.Lists.{any}
@@ -21,12 +21,11 @@ use Rattle.stored.specs.Automaton.{all_steps, all_labels, named, find, byte_of, 
 use Rattle.stored.specs.Bits.{bit_of}
 use Rattle.stored.specs.Tables.{far_at, bits_at}
 use Rattle.stored.specs.Marked.{marked_from}
-use Rattle.text.proofs.Laws.Tests.{cases, clash, both, both_true, either, either_left, either-right}
+use Rattle.text.proofs.Laws.Tests.{cases, clash, both, both_true, either, either_left, either-right, same_test}
 use Rattle.text.proofs.Laws.Lists.{any-is, is_any}
 use Rattle.model.proofs.Laws.Keywords.Words.{same-name}
 use Rattle.stored.proofs.Laws.Bytes.Bits.{packed-bit, packed-small}
 use Rattle.stored.proofs.Laws.Bytes.Finding.{find-here, find-later, find-empty}
-use Rattle.stored.proofs.Laws.Tables.Goto.{same_test, past_end}
 use Rattle.notation.proofs.Laws.Stored.LabelTable.{no_step}
 use Rattle.stored.proofs.Laws.Tables.Assembled.{no_group}
 use Rattle.stored.proofs.Laws.Tables.MarkTurns.{marked-none}
@@ -162,7 +161,7 @@ module _ (ms : List Mark) (a : List ℕ) (g : Grouped ms a) (rise : Rising ms) (
   along : (left j more b : ℕ) → j + left ≡ length ms → left ≤ more
       → marked_from more a (find (reaches e b) (suc j) (drop j ms)) i ≡ any (chosen e b i) (drop j ms)
   along zero j more b size room =
-      rw (past_end ms j (omega arith), find-empty (reaches e b) (suc j)) (marked-none more a i ∙ sym (any_none (chosen e b i)))
+      rw (drop_of_length-le ms {i = j} (omega arith), find-empty (reaches e b) (suc j)) (marked-none more a i ∙ sym (any_none (chosen e b i)))
   along (suc left) j zero b size room = absurd (omega arith)
   along (suc left) j (suc more) b size room =
       let h : j < length ms = omega arith in

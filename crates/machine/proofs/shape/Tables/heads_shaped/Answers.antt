@@ -3,10 +3,10 @@ use mathlib.Core.Path.{refl, ap, ◌∙◌}
 use native.Mathlib.Omega.{arith}
 use borrow.Author.Tests.{le-leb}
 use Rattle.notation.specs.Reads.{label_count}
-use Rattle.stored.specs.Automaton.{hashes, heads_at}
+use Rattle.stored.specs.Automaton.{heads_at}
 use Rattle.stored.specs.Tables.{head_at}
 use Rattle.stored.specs.Shape.{head_shaped}
-use Rattle.stored.proofs.Laws.Bytes.AllBelow.{all_none, all-next, all_end}
+use Rattle.stored.proofs.Laws.Bytes.AllBelow.{all_none, all-next}
 use Rattle.stored.proofs.Laws.Shapes.Tested.{leb-by, max-within}
 use Rattle.machine.proofs.shape.Tables.heads_shaped.Goals as goal
 
@@ -21,10 +21,3 @@ loop-h-preserved c =
     let a = c.args.self.now in
     let turn = c.loop-h in
     all-next turn.h (head_shaped a) (leb-by c.max-most.ensures refl ∙ max-within turn.most c.word.result (label_count a)) turn.invariant (leb-by (c.word.ensures.value ∙ ap (λ b. head_at b turn.h) c.self.view_is) refl)
-
-pub returns : goal.returns
-unfolding hashes
-returns c =
-    let a = c.args.self.now in
-    leb-by c.from.ensures (c.self.invariant.4 ∙ ap label_count c.self.view_is)
-    ∙ all_end hashes (head_shaped a) c.loop-h.invariant (omega arith)
