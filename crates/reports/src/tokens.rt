@@ -155,10 +155,10 @@ fn text(s: &[u8], at: usize) -> Option<Found>
     ensures { result ≡ found_of (length s.now) at (read_text (drop at s.now)) }
 {
     let i = blanks_end(s, at);
-    if s.len() <= i || s[i] == b'<' {
-        return text_found(at, i, Kind::Blank);
+    match s.get(i) {
+        Some(b'<') | None => text_found(at, i, Kind::Blank),
+        Some(_) => text_from(s, at, i),
     }
-    text_from(s, at, i)
 }
 
 // The rest, from an offset on, of a text that is not blank, up to the next `<` or the end; it has no `]]>`. Small letters first: most bytes are
