@@ -15,6 +15,7 @@ use crate::layout::{
 };
 use crate::limits::{MAX_LABELS, MAX_PATHS, MAX_SET_BYTES};
 use crate::{FolderNumber, PathPlace};
+use std::ops::Range;
 
 #[derive(Clone, Copy)]
 pub struct StoredFolder {
@@ -22,6 +23,17 @@ pub struct StoredFolder {
     // The place of its first path, and its count of paths.
     pub first: PathPlace,
     pub paths: usize,
+}
+
+impl StoredFolder {
+    ghost use Rattle.std.specs.Prelude.{◌+◌, ◌^◌, min};
+
+    // The places of its paths.
+    pub fn places(self) -> Range<usize>
+        ensures { result ≡ record { start = self.first.0; end = min (self.first.0 + self.paths) (2 ^ 64 - 1) } }
+    {
+        self.first.0..self.first.0.saturating_add(self.paths)
+    }
 }
 
 #[derive(Clone, Copy)]

@@ -32,10 +32,9 @@ pub fn folder_paths_matched(a: &[u8], run: &[u8], i: usize) -> bool
     ensures { result ≡ any_matched a.now run.now (paths_of_folder (folder_held a.now i)) }
 {
     match set::folder_at(a, i) {
-        Some(folder) => {
-            let first = folder.first.0;
-            (first..first + folder.paths).any(|place| place_matched(a, run, PathPlace(place)))
-        }
+        Some(folder) => folder
+            .places()
+            .any(|place| place_matched(a, run, PathPlace(place))),
         None => false,
     }
 }
