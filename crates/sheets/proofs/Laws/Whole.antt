@@ -1,42 +1,27 @@
 -- All that is promised of the class sheet.
-use Rattle.std.specs.Prelude.{Result}
-use Rattle.text.specs.declared.refusals.Refusal.{Refusal}
 use Prim.Native.Nat.{ℕ, ◌≤◌}
 use native.Mathlib.Omega.{arith}
-use mathlib.Core.Path.{◌≡◌, refl, sym, ◌∙◌, ap}
+use mathlib.Core.Path.{◌≡◌, refl, ◌∙◌, ap}
 use mathlib.Core.Bool.{true, false}
 use mathlib.Core.List.{List, map}
-use lib.ListN.{length, drop}
+use lib.ListN.{length}
 use Rattle.notation.specs.Limits.{max_number, max_paths}
-use Rattle.notation.specs.Sets.{FolderSet}
-use Rattle.notation.specs.Accepted.{Accepted}
-use Rattle.stored.specs.Build.{Built}
-use Rattle.stored.specs.Run.{run_size}
 use Rattle.stored.specs.Shape.{automaton_shaped}
 use Rattle.stored.specs.Asking.{place_matched}
-use Rattle.stored.specs.declared.counters.Counters.{Counters}
-use Rattle.stored.proofs.Laws.Building.BuiltSet.{built-means}
-use Rattle.filing.specs.Filing.{filed}
-use Rattle.filing.specs.ReportRefusals.{Files}
-use Rattle.filing.specs.Shown.{PrintsText}
-use Rattle.filing.specs.Code.Filing.{file_with}
 use Rattle.filing.proofs.Laws.Listing.Shown.{shown-once, shown-some}
 use Rattle.filing.proofs.Laws.Demand1.Calls.{written-by}
 use Rattle.filing.proofs.Laws.Demand1.Shown.{printed-by}
-use Rattle.filing.proofs.Laws.Filing.FilingParts.{given-filed}
-use Rattle.filing.proofs.Laws.Filing.FilingOrder.{filing-is}
-use Rattle.filing.proofs.Laws.Filing.FromBytes.{answer-is, left-filed}
 use Rattle.sheets.specs.Limits.{number_width, path_width, line_width, body_lines, page_size, max_pages, sheet_size}
 use Rattle.sheets.specs.Sheet.{sheet, pages_for}
-use Rattle.sheets.specs.SheetIn.{place_row, rows_in, sheet_in, sheet_conditions, SheetWritten}
+use Rattle.sheets.specs.SheetIn.{place_row, rows_in, sheet_in, sheet_conditions}
 use Rattle.sheets.specs.SheetOf.{SheetFor}
 use Rattle.sheets.specs.ClassSheet.{blank_sheet, OfShaped, ClassSheet}
 use Rattle.sheets.proofs.Laws.Page.Pages.{pages-are, pages-most}
 use Rattle.sheets.proofs.Laws.Page.Lines.{in_lines-is, sheet-length, sheet-blank}
 use Rattle.sheets.proofs.Laws.Stored.Shaped.{rows_few, rows-small, sheet-fits}
 use Rattle.sheets.proofs.Laws.Stored.Numbered.{number_of, places-are, places-rise}
-use Rattle.sheets.proofs.Laws.Filed.Selected.{sheet-once, sheet-shown, sheet-total, no_rows, none-selects, rows-added}
-use Rattle.sheets.proofs.Laws.Filed.Same.{rows_from, none_from}
+use Rattle.sheets.proofs.Laws.Filed.Selected.{sheet-once, sheet-total, no_rows, none-selects, rows-added}
+use Rattle.sheets.proofs.Laws.Filed.Same.{none_from}
 use Rattle.sheets.proofs.Laws.Filed.SetRows.{sheet-plain, blank_none}
 use Rattle.sheets.proofs.Laws.Page.Content.{of-rows}
 use Rattle.sheets.proofs.Laws.Filed.Faithful.{of-filed}

@@ -1,10 +1,9 @@
 -- The tables from which the lines of a sheet are made: places of matched paths, and the number of each place's folder.
-use Rattle.std.specs.Prelude.{ℕ, ◌≤◌, ◌<◌, ◌≡◌, cond, List, map, leb, length, get_or, take, Option}
+use Rattle.std.specs.Prelude.{ℕ, ◌≤◌, ◌<◌, ◌≡◌, List, map, length, get_or}
 use Rattle.notation.specs.Limits.{max_number, max_paths}
-use Rattle.notation.specs.declared.reads.StoredFolder.{StoredFolder}
 use Rattle.stored.specs.HeldSet.{path_held}
 use Rattle.sheets.specs.Sheet.{Row, row}
-use Rattle.sheets.specs.SheetIn.{matched_places, or_before, number_among}
+use Rattle.sheets.specs.SheetIn.{number_among}
 
 -- of each place the number of the last of the first n folders whose first path is not after it
 pub record Numbered (a : List ℕ) (n : ℕ) (numbers : List ℕ) : Type 0 where

@@ -1,8 +1,6 @@
 -- `listing::put_folder`: the line of the folder that is stored, or nothing.
-use native.Mathlib.Omega.{arith}
 use mathlib.Core.Path.{sym, ◌∙◌, ap}
 use Rattle.model.specs.Folders.{count_from}
-use Rattle.stored.specs.HeldSet.{top_held}
 use Rattle.notation.specs.Print.{footer, folder_word}
 use Rattle.text.specs.Output.{no_pieces}
 use Rattle.text.proofs.Laws.Output.{one, and_then, same_bytes}
@@ -12,9 +10,6 @@ use Rattle.filing.proofs.listing.put_folder.Goals as goal
 
 pub returns-then-not-folder_paths_matched : goal.returns-then-not-folder_paths_matched
 returns-then-not-folder_paths_matched g c = same_bytes no_pieces (folder-no _ _ _ (sym c.folder_paths_matched.ensures ∙ c.if-not-folder_paths_matched.true))
-
-pub put_paths-requires : goal.put_paths-requires
-put_paths-requires g c = let t = c.folder_at.ensures.1 in (omega (arith, ap top_held c.in-Some.is, t), omega (arith, ap top_held c.in-Some.is, t))
 
 pub returns-in-Some : goal.returns-in-Some
 unfolding footer folder_word

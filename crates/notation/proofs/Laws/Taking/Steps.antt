@@ -5,14 +5,14 @@ use mathlib.Core.Path.{◌≡◌, refl, sym, ap, ◌∙◌}
 use mathlib.Core.Bool.{Bool, true, false, cond}
 use mathlib.Core.List.{List, ◌++◌}
 use lib.ListN.{length, drop, length-append, length-drop}
-use Rattle.std.specs.Prelude.{Some, None}
+use Rattle.std.specs.Prelude.{Some}
 use Rattle.std.proofs.lemmas.Option.{none-some, same_Some}
 use Rattle.text.specs.Bytes.{joined}
 use Rattle.text.specs.Read.{Read, fail, got}
 use Rattle.text.proofs.Laws.Reads.{WhenRead, holds-got, behind}
-use Rattle.notation.specs.Sets.{Axis, child, descendant, label, star, Step, step, axis_of, test_of}
+use Rattle.notation.specs.Sets.{Axis, child, descendant, label, star, Step, step, axis_of}
 use Rattle.notation.specs.Print.{print_axis, print_step}
-use Rattle.notation.specs.Form.{label_of, formed_step}
+use Rattle.notation.specs.Form.{formed_step}
 use Rattle.notation.specs.Reads.{stored_step}
 use Rattle.notation.specs.Code.Reader.{read_step}
 use Rattle.notation.specs.Code.Taking.{step_found, found_counted, found_written, state, take_step, Small}

@@ -4,9 +4,9 @@ use native.Mathlib.Omega.{arith}
 use native.Mathlib.Numerals.{add-one}
 use native.Mathlib.Nat.{mod-eq_of_lt}
 use mathlib.Core.Path.{◌≡◌, refl, sym, ap, ◌∙◌}
-use mathlib.Core.Bool.{Bool, true, false, ◌&&◌, and-false, or-false}
+use mathlib.Core.Bool.{Bool, true, false, and-false, or-false}
 use mathlib.Core.List.{List, [], ◌∷◌, ◌++◌, append_assoc, append-nil, map, map-append}
-use lib.Dec.{eqb, leb, ltb}
+use lib.Dec.{leb, ltb}
 use borrow.Author.Tests.{eqb-true, ltb-true, ltb-false, le-leb, lt-leb}
 use lib.ListN.{length, take, drop, get_or, set, length-append, length-drop, length-map}
 use lib.Seq.{take-suc-set}
@@ -14,7 +14,6 @@ use Rattle.text.specs.Names.{Name, begins_name, in_name, name_form, same_name}
 use Rattle.text.specs.Lists.{every, any, non_empty}
 use Rattle.text.specs.Read.{Read, fail, got, then_read, front, back, name_ahead, read_name, print_many}
 use Rattle.text.proofs.Laws.Tests.{cases, and_left, and_right, clash}
-use Rattle.text.proofs.Laws.Scans.{span-no}
 use Rattle.text.proofs.Laws.Lists.{every-head, every_rest}
 use Rattle.text.proofs.Laws.Reads.{WhenRead, failed, gotten, holds-got, then-holds, when-holds, word_sound}
 use Rattle.text.proofs.Laws.ReadMany.{many-none, many_more, many-sound, shorter}
@@ -35,7 +34,7 @@ use Rattle.reports.specs.Code.Ordered.{name_at, names_at}
 use Rattle.reports.specs.Code.Attributes.{next_of, next_from, kept, Notes, inside_of, inside_from}
 use Rattle.reports.specs.Code.Seen.{has_byte}
 use Rattle.reports.specs.Seen.{judged}
-use Rattle.reports.proofs.Laws.Read.Reaches.{left-drop, left-end, never, blanks-left, blanks-no}
+use Rattle.reports.proofs.Laws.Read.Reaches.{left-drop, never, blanks-left, blanks-no}
 use Rattle.reports.proofs.Laws.Read.Inside.{no-blanks}
 
 -- the name of an attribute that was read is the name bytes that it begins with

@@ -1,22 +1,22 @@
 -- Names, marks, values and attributes from an offset: how far each goes, by the bytes that the code looks at.
-use Prim.Native.Nat.{ℕ, ◌+◌, ◌-◌, ◌≤◌, ◌<◌}
+use Prim.Native.Nat.{ℕ, ◌+◌, ◌≤◌, ◌<◌}
 use native.Mathlib.Omega.{arith}
 use native.Mathlib.Numerals.{add-one}
 use mathlib.Core.Path.{◌≡◌, sym, ap, ◌∙◌}
-use mathlib.Core.Bool.{Bool, true, false}
+use mathlib.Core.Bool.{true, false}
 use mathlib.Core.List.{List, [], ◌∷◌, ◌++◌, append_assoc}
 use borrow.Author.Tests.{eq-eqb, ne_eqb}
-use lib.ListN.{length, get_or, drop, length-append, length-drop, drop_of_length-le}
+use lib.ListN.{length, get_or, drop, drop_of_length-le}
 use lib.Seq.{drop-cons}
 use Rattle.std.proofs.Common.{None, Some}
 use Rattle.text.specs.Names.{begins_name, in_name}
 use Rattle.documents.specs.Tokens.{quote_byte, blank, in_value, attribute}
 use Rattle.text.specs.Read.{front, back, read_word, read_name}
 use Rattle.documents.specs.Reading.{read_quote, read_parts, read_attribute_from}
-use Rattle.reports.specs.Code.Reaches.{reach_of, reach, blanks_to, read_mark, read_quoted, read_value}
+use Rattle.reports.specs.Code.Reaches.{reach, blanks_to, read_mark, read_quoted, read_value}
 use Rattle.text.proofs.Laws.Reads.{holds-map, name-sound, word_sound}
 use Rattle.text.proofs.Laws.Fronts.{front-back}
-use Rattle.reports.proofs.Laws.Read.Reaches.{Suffix, reached, reach-no, reach-map, reach-then, left_at, left-end, left-drop, blanks-left}
+use Rattle.reports.proofs.Laws.Read.Reaches.{Suffix, reached, reach-no, reach-map, reach-then, left_at, left-end, blanks-left}
 
 pub name-suffix : (l : List ℕ) → Suffix l (read_name l)
 name-suffix l = holds-map (name-sound l) (λ n r g. (n, g.1))

@@ -9,8 +9,7 @@ use lib.Dec.{eqb}
 use borrow.Author.Tests.{ne_eqb, eq-eqb}
 use lib.ListN.{length, drop}
 use Rattle.std.proofs.Common.{None, Some}
-use Rattle.reports.specs.declared.tokens.Kind.{Kind}
-use Rattle.reports.specs.declared.tokens.Kind.TheVariants.{Declaration, Blank, Text}
+use Rattle.reports.specs.declared.tokens.Kind.TheVariants.{Declaration}
 use Rattle.reports.specs.declared.tokens.Found.{Found}
 use Rattle.documents.specs.Tokens.{Token, declaration, comment, start_tag, empty_tag, end_tag, text, is_declaration, RunOfTokens}
 use Rattle.text.specs.Read.{Read, fail, got, then_read}

@@ -1,5 +1,5 @@
 -- The token at an offset gives the offsets of a tag's name; so every offset of every bytes has exactly one pair of them.
-use Prim.Native.Nat.{ℕ, ◌-◌}
+use Prim.Native.Nat.{ℕ}
 use mathlib.Core.Path.{◌≡◌, refl}
 use mathlib.Core.Bool.{Bool, true, false}
 use mathlib.Core.List.{List}
@@ -7,8 +7,6 @@ use lib.ListN.{length, drop}
 use Rattle.text.specs.Names.{Name}
 use Rattle.std.proofs.Common.{Option, None, Some}
 use Rattle.reports.specs.declared.tokens.Span.{Span}
-use Rattle.reports.specs.declared.tokens.Kind.{Kind}
-use Rattle.reports.specs.declared.tokens.Kind.TheVariants.{Declaration, Comment, Start, Empty, End, Blank, Text}
 use Rattle.reports.specs.declared.tokens.Found.{Found}
 use Rattle.documents.specs.Tokens.{Token, declaration, comment, start_tag, empty_tag, end_tag, text}
 use Rattle.text.specs.Read.{Read, fail, got}

@@ -3,13 +3,13 @@ use Prim.Native.Nat.{ℕ, suc, ◌+◌, ◌-◌, ◌≤◌, ◌<◌}
 use native.Mathlib.Omega.{arith}
 use native.Mathlib.Numerals.{add-one}
 use mathlib.Core.Path.{◌≡◌, refl, sym, ap, ap₂, ◌∙◌}
-use mathlib.Core.Bool.{Bool, true, false, ◌&&◌, cond, and-false}
+use mathlib.Core.Bool.{Bool, true, false, cond, and-false}
 use mathlib.Core.List.{List, [], ◌∷◌, ◌++◌, append_assoc, map}
-use lib.Dec.{eqb, leb, ltb}
+use lib.Dec.{eqb, ltb}
 use borrow.Author.Tests.{eq-eqb, ne_eqb, eqb-true, eqb-false, ltb-true, ltb-false}
 use lib.ListN.{length, get_or, drop, length-append, length-drop, drop_of_length-le}
 use lib.Seq.{drop-cons}
-use Rattle.std.proofs.Common.{Option, None, Some}
+use Rattle.std.proofs.Common.{None, Some}
 use Rattle.text.specs.Names.{Name}
 use Rattle.text.proofs.Laws.Tests.{cases, and_left, and_right}
 use Rattle.reports.specs.declared.tokens.Span.{Span}
@@ -19,9 +19,8 @@ use Rattle.reports.specs.declared.attributes.Inside.{Inside}
 use Rattle.documents.specs.Tokens.{blank, Attribute, print_attributes, formed_attribute, empty_tag}
 use Rattle.text.specs.Read.{Read, fail, got, then_read, front, back, read_word, read_name}
 use Rattle.documents.specs.Reading.{read_attributes, read_tag_end, read_tag, read_end_tag}
-use Rattle.reports.specs.Code.Reaches.{reach, blanks_to, read_mark, read_inside}
+use Rattle.reports.specs.Code.Reaches.{reach, blanks_to, read_mark}
 use Rattle.reports.specs.Code.Attributes.{inside_of, inside_from}
-use Rattle.documents.specs.Limits.{max_report_bytes}
 use Rattle.documents.specs.Repeats.{attribute_name, repeated}
 use Rattle.reports.specs.Seen.{judged, span_of, found_of}
 use Rattle.reports.specs.Code.Seen.{has_byte, tag_end_of}

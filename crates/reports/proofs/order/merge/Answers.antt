@@ -1,10 +1,8 @@
 -- `order::merge` meets its contract. The loop's invariant: whatever the rest merges to, the whole merges to it behind what is out already.
-use mathlib.Core.Path.{sym, ap, subst, ◌∙◌}
 use Prim.Native.Nat.{◌<◌}
 use native.Mathlib.Omega.{arith}
 use lib.ListN.{length}
 use Rattle.std.proofs.lemmas.List.{set-get_or}
-use Rattle.reports.specs.Code.Ordered.{names_at, MergesTo}
 use Rattle.reports.proofs.Laws.Ordered.Merging.{next-is, from-left, from-right, met, ended}
 use Rattle.reports.proofs.order.merge.Goals as goal
 use Rattle.reports.proofs.order.merge.Goals.{in-Less, in-Greater}

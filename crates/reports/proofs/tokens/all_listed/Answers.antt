@@ -1,5 +1,5 @@
 -- `tokens::all_listed` meets its contract: a fold by `&` is the test of every byte.
-use mathlib.Core.Path.{◌≡◌, refl, sym, ap, ◌∙◌}
+use mathlib.Core.Path.{◌≡◌, sym, ◌∙◌}
 use mathlib.Core.Bool.{Bool, true, ◌&&◌, and_assoc, and-true}
 use mathlib.Core.List.{List, [], ◌∷◌}
 use Prim.Native.Nat.{ℕ}

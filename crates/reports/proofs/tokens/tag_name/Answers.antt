@@ -1,5 +1,5 @@
 -- `tokens::tag_name` meets its contract: it hands back the part between the offsets that `tag_span` answers, and they lie in the bytes.
-use mathlib.Core.Path.{refl, sym, ap}
+use mathlib.Core.Path.{refl, ap}
 use Prim.Native.Nat.{ℕ}
 use native.Mathlib.Nat.{add_comm}
 use Rattle.documents.proofs.Laws.Printed.TagAt.{tag-at-cut}

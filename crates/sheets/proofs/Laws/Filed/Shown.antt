@@ -1,35 +1,27 @@
 -- On the automaton of a set and the run of a machine's state the sheet is that of the state's matches.
 use Rattle.std.specs.Prelude.{Result}
 use Rattle.text.specs.declared.refusals.Refusal.{Refusal}
-use Prim.Native.Nat.{ℕ, zero, suc, ◌≤◌, ◌<◌}
-use native.Mathlib.Omega.{arith}
-use mathlib.Core.Path.{◌≡◌, refl}
+use Prim.Native.Nat.{ℕ, ◌≤◌}
+use mathlib.Core.Path.{◌≡◌}
 use mathlib.Core.Bool.{false}
 use mathlib.Core.List.{List, [], ◌++◌}
 use lib.Dec.{ltb}
 use lib.ListN.{length}
 use borrow.Author.Tests.{le-ltb}
-use Rattle.text.specs.Refusals.{number_of}
 use Rattle.text.specs.Order.{first, given}
-use Rattle.text.proofs.Laws.Numbers.{some_number}
 use Rattle.notation.specs.Sets.{FolderSet}
 use Rattle.model.specs.Calls.{State}
 use Rattle.model.proofs.Laws.Machine.Moves.{Few}
 use Rattle.stored.specs.Run.{run_of}
-use Rattle.stored.specs.declared.counters.Counters.{Counters}
 use Rattle.stored.proofs.Laws.Running.Means.{Means}
 use Rattle.stored.proofs.Laws.Shapes.Passing.{run-shaped, long-enough}
-use Rattle.filing.specs.Listing.{refused_line}
 use Rattle.filing.specs.Shown.{PrintsText}
 use Rattle.filing.proofs.Laws.Listing.Showing.{text-printed}
-use Rattle.filing.proofs.Laws.Listing.Written.{refused-length}
-use Rattle.sheets.specs.Limits.{number_width, path_width, line_width, body_lines, page_size, max_pages, sheet_size}
+use Rattle.sheets.specs.Limits.{sheet_size}
 use Rattle.sheets.specs.Sheet.{sheet}
 use Rattle.sheets.specs.SheetIn.{sheet_conditions, SheetWritten}
-use Rattle.sheets.specs.SheetOf.{SheetFor}
 use Rattle.sheets.proofs.Laws.Stored.Shaped.{sheet-fits}
 use Rattle.sheets.proofs.Laws.Filed.Same.{rows_from, sheet-same}
-use Rattle.sheets.proofs.Laws.Filed.Selected.{sheet-shown}
 
 -- on the automaton of a set and the run of a machine's state nothing is refused
 module _ (s : FolderSet) (a : List ℕ) (w : Means s a) (m : State) (few : Few s m []) (rest : List ℕ) (out : List ℕ) (room : sheet_size ≤ length out) where

@@ -1,5 +1,5 @@
 -- Of an automaton of the right shape and any run: 128 rows at most, each with a number of four digits at most, and so a sheet's size.
-use Prim.Native.Nat.{ℕ, zero, suc, ◌≤◌}
+use Prim.Native.Nat.{ℕ, ◌≤◌}
 use native.Mathlib.Omega.{arith}
 use mathlib.Core.Path.{◌≡◌}
 use mathlib.Core.Bool.{true}
@@ -7,16 +7,12 @@ use mathlib.Core.Logic.{inl, inr}
 use mathlib.Core.List.Memᴰ
 use mathlib.Core.List.{List, [], ◌∷◌, map, Memᴰ}
 use lib.ListN.{length, length-map}
-use Rattle.text.specs.Bytes.{joined}
-use Rattle.text.proofs.Laws.Tests.{cases}
 use Rattle.notation.specs.Limits.{max_number, max_paths}
-use Rattle.model.specs.Folders.{count_from}
 use Rattle.stored.specs.Shape.{automaton_shaped}
 use Rattle.stored.specs.HeldSet.{folders_held}
-use Rattle.stored.specs.Asking.{place_matched}
 use Rattle.sheets.specs.Limits.{sheet_size}
 use Rattle.sheets.specs.Sheet.{Row}
-use Rattle.sheets.specs.SheetIn.{matched_from, matched_places, place_row, rows_in, sheet_in}
+use Rattle.sheets.specs.SheetIn.{matched_places, place_row, rows_in, sheet_in}
 use Rattle.sheets.proofs.Laws.Page.Aligned.{number_of_row}
 use Rattle.sheets.proofs.Laws.Page.Lines.{sheet-most}
 use Rattle.sheets.proofs.Laws.Stored.Tables.{matched-few, among-most}

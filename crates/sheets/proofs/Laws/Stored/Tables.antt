@@ -11,7 +11,7 @@ use mathlib.Core.List.{List, [], ◌∷◌, ◌++◌, map, append-nil}
 use lib.Dec.{leb}
 use lib.ListN.{length, get_or, take, drop, replicate, set, length-take, length-drop, length-append, length-replicate, length-map, get_or-map, get_or-append}
 use Rattle.std.proofs.lemmas.List.{get_or-append_right, get_or-replicate, drop_all}
-use lib.Seq.{get_or-take, get_or-set_same, get_or-set_other, length-take-le, take-suc-set}
+use lib.Seq.{get_or-take, take-suc-set}
 use borrow.Author.Tests.{leb-true, leb-false, le-leb, lt-leb}
 use Rattle.text.specs.Bytes.{joined}
 use Rattle.notation.specs.Limits.{max_number, max_paths}
@@ -23,8 +23,8 @@ use Rattle.stored.specs.Asking.{place_matched}
 use Rattle.stored.proofs.Laws.Shapes.Held.{number_held, number-most}
 use Rattle.text.proofs.Laws.Tests.{cases}
 use Rattle.sheets.specs.Limits.{line_width}
-use Rattle.sheets.specs.Sheet.{spaces, body_line, body_at, pages_for, pages_from, sheet}
-use Rattle.sheets.specs.SheetIn.{if_place_matched, matched_from, matched_places, or_before, number_among, place_row, rows_in, sheet_in}
+use Rattle.sheets.specs.Sheet.{spaces, body_line, body_at}
+use Rattle.sheets.specs.SheetIn.{if_place_matched, matched_from, matched_places, or_before, number_among, place_row, rows_in}
 use Rattle.sheets.specs.Code.Rows.{Numbered, table_row, table_rows, InTables}
 use Rattle.sheets.proofs.Laws.Page.Counted.{joined-more}
 use Rattle.sheets.proofs.Laws.Page.Lines.{body_is-is, body-none}
