@@ -6,11 +6,8 @@ ghost use Rattle.std.specs.Prelude.{IfOk};
 ghost use Rattle.filing.specs.Printed.{PrintedFor};
 ghost use Rattle.programs.specs.Shows.{Shows};
 
-use filing::limits::LISTING_SIZE;
-use filing::printing::print_filing;
-use machine::layout::AUTOMATON_SIZE;
-use machine::run::layout::RUN_SIZE;
-use programs::output::{print_page, written};
+use filing::printing::Listing;
+use programs::output::{page, print_page};
 use std::alloc::{AllocError, Global};
 use std::io;
 
@@ -18,11 +15,7 @@ use std::io;
 fn filed(alloc: Global, set: &[u8], report: &[u8]) -> Result<Vec<u8>, AllocError>
     ensures { IfOk result (λ page. Shows PrintedFor set.now report.now page.items) }
 {
-    let mut automaton = [0; AUTOMATON_SIZE];
-    let mut run = [0; RUN_SIZE];
-    let mut out = [0; LISTING_SIZE];
-    let answer = print_filing(set, report, &mut automaton, &mut run, &mut out);
-    Vec::from_slice(alloc, written(answer, &out))
+    page::<Listing>(alloc, set, report)
 }
 
 fn main(rt: HostRuntime) -> io::Result<()> {

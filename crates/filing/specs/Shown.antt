@@ -11,12 +11,14 @@ use Rattle.text.specs.Written.{TextWritten}
 use Rattle.notation.specs.Accepted.{Accepted}
 use Rattle.notation.specs.Judged.{RefusedText, Verdict, Judged}
 use Rattle.model.specs.Calls.{State}
+use Rattle.stored.specs.Run.{run_size}
 use Rattle.stored.specs.Build.{Built, built_into}
 use Rattle.stored.specs.RunCalls.{too_short, no_counters}
 use Rattle.stored.specs.declared.counters.Counters.{Counters}
 use Rattle.filing.specs.Filing.{Refused, FiledWith}
 use Rattle.filing.specs.ReportRefusals.{Files}
 use Rattle.filing.specs.Listing.{refused_line}
+use Rattle.filing.specs.Limits.{max_refused_line}
 
 -- For s report bytes: these bytes are shown of the report, filed with the set
 module _ (For : FolderSet → List ℕ → List ℕ → Type 0) where
@@ -79,3 +81,19 @@ module _ (shows : List ℕ → List ℕ → Counters → List ℕ → Result ℕ
   pub record PrintsWith (size : ℕ) (text report a run out : List ℕ) (answer : Result ℕ Refusal) (a' run' out' : List ℕ) : Type 0 where
     pub short : too_small size a run out ≡ true → (answer ≡ Err ShortBuffer) × ((a' ≡ a) × ((run' ≡ run) × (out' ≡ out)))
     pub done : too_small size a run out ≡ false → (filed : Result Counters Refusal) × FilesText text report a run filed a' run' × ShownAs filed a' run' out answer out'
+
+-- of a filed report one text only is shown
+abbrev pub Unique : (FolderSet → List ℕ → List ℕ → Type 0) → Type 0
+Unique For = (s : FolderSet) (report x y : List ℕ) → For s report x → For s report y → x ≡ y
+
+-- what is shown of what filing left, by this size, these bytes for a set and a report, and this contract
+pub record Faithful (size : ℕ) (For : FolderSet → List ℕ → List ℕ → Type 0) (shows : List ℕ → List ℕ → Counters → List ℕ → Result ℕ Refusal → List ℕ → Type 0) : Type 0 where
+  -- the line of a refusal has room
+  pub line : max_refused_line ≤ size
+  -- of a filed report one text only is shown
+  pub once : Unique For
+  -- and of a report filed with the automaton that a build left it is printed
+  pub filed : (text before a : List ℕ) (s : FolderSet) → Accepted text s → Built text before 0 a
+      → (report run : List ℕ) → run_size ≤ length run → (c : Counters) (run' : List ℕ) (c' : Counters) → Files a run c report 0 run' c'
+      → (out : List ℕ) → size ≤ length out → (answer : Result ℕ Refusal) (out' : List ℕ) → shows a run' c' out answer out'
+      → (bytes : List ℕ) × For s report bytes × PrintsText size bytes out answer out'

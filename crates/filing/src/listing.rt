@@ -1,5 +1,5 @@
 // Writing what the filing program prints: the listing of a run, or the line of a refusal.
-ghost use Rattle.std.specs.Prelude.{◌≡◌, ◌≤◌, [], length};
+ghost use Rattle.std.specs.Prelude.{◌≡◌, ◌≤◌, ◌-◌, [], length};
 ghost use Rattle.model.specs.Folders.{count_from};
 ghost use Rattle.stored.specs.HeldSet.{folders_held};
 ghost use Rattle.text.specs.Answers.{refusal_in};
@@ -13,6 +13,7 @@ use crate::limits::LISTING_SIZE;
 use machine::run::{lent, matches};
 use machine::set;
 use notation::PathPlace;
+use std::ops::Range;
 use stored::counters::Counters;
 use text::output::{Front, Length, Sink, put_number, put_numbered};
 use text::refusals::Refusal;
@@ -25,12 +26,11 @@ fn put_path<S: Sink>(a: &[u8], place: usize, to: &mut S)
     to.put(b")");
 }
 
-// The matched ones of `count` paths from place `first` on.
-fn put_paths<S: Sink>(a: &[u8], run: &[u8], first: usize, count: usize, to: &mut S)
-    requires { (first ≤ 65536) × (count ≤ 65536) }
-    ensures { Adds S.puts to.old (paths_listed a.now run.now (count_from first count)) to.new }
+// The matched ones of the paths at these places. The loop counts places itself: over the range it would be told by what was given so far.
+fn put_paths<S: Sink>(a: &[u8], run: &[u8], places: Range<usize>, to: &mut S)
+    ensures { Adds S.puts to.old (paths_listed a.now run.now (count_from places.start (places.end - places.start))) to.new }
 {
-    for place in first..first + count {
+    for place in places.start..places.end {
         if matches::place_matched(a, run, PathPlace(place)) {
             put_path(a, place, to);
         }
@@ -46,7 +46,8 @@ fn put_folder<S: Sink>(a: &[u8], run: &[u8], i: usize, to: &mut S)
     }
     if let Some(folder) = set::folder_at(a, i) {
         put_numbered(to, b"(folder ", folder.number.0);
-        put_paths(a, run, folder.first.0, folder.paths, to);
+        let first = folder.first.0;
+        put_paths(a, run, first..first + folder.paths, to);
         to.put(b")\n");
     }
 }
@@ -93,7 +94,7 @@ fn check(a: &[u8], run: &[u8], c: Counters, out: &[u8]) -> Result<(), Refusal>
         return Err(Refusal::ShortBuffer);
     }
     lent::refusal(a, run, c)?;
-    let mut length = Length { bytes: 0 };
+    let mut length = Length::default();
     put_listing(a, run, c, &mut length);
     if length.bytes > out.len() {
         return Err(Refusal::ShortBuffer);
@@ -109,20 +110,21 @@ pub fn write_listing(a: &[u8], run: &[u8], c: Counters, out: &mut [u8]) -> Resul
     check(a, run, c, out)?;
     let mut front = Front::new(out);
     put_listing(a, run, c, &mut front);
-    front.end.ok_or(Refusal::ShortBuffer)
+    front.written()
 }
 
-// An inner call: the line of a refusal, by its number, at the start of a buffer that has room for each such line.
-pub fn write_line(n: u8, out: &mut [u8]) -> Result<usize, Refusal>
+// The line of a refusal, by its number, at the start of a buffer that has room for each such line.
+pub(crate) fn write_line(n: u8, out: &mut [u8]) -> Result<usize, Refusal>
     requires { max_refused_line ≤ length out.old }
     ensures { TextWritten [] (refused_line n) out.old result out.new }
 {
     let mut front = Front::new(out);
     put_refused(n, &mut front);
-    front.end.ok_or(Refusal::ShortBuffer)
+    front.written()
 }
 
-// Writes the line of a refusal, by its number, which may be any byte, and answers its length; 1 for a buffer that is short for a listing.
+// Writes the line of a refusal, by its number, and answers its length; 1 for a buffer that is short for a listing. The number may be any byte, as
+// this interface always had it: a `Refusal` would ask more of a caller.
 #[tactic(auto, using(crate::proofs::Laws::Listing::Written::refused_lines), unfolding(crate::specs::Limits::listing_size, notation::specs::Limits::max_set_bytes, crate::specs::Limits::max_moves_line))]
 pub fn write_refused(n: u8, out: &mut [u8]) -> Result<usize, Refusal>
     ensures { RefusedWritten n out.old result out.new }

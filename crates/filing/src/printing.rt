@@ -13,11 +13,14 @@ pub struct Listing;
 #[tactic(auto, unfolding(crate::specs::Limits::listing_size, crate::specs::Limits::max_moves_line, notation::specs::Limits::max_set_bytes))]
 impl Show for Listing {
     ghost use Rattle.filing.specs.Limits.{listing_size, line-within};
+    ghost use Rattle.filing.specs.Printed.{PrintedFor};
     ghost use Rattle.filing.specs.Listed.{ListingWritten};
 
     const SIZE: usize = LISTING_SIZE;
 
     ghost SIZE = { listing_size };
+
+    ghost For = { PrintedFor };
 
     ghost shows = { ListingWritten };
 

@@ -1,31 +1,28 @@
 // Filing a report: its tokens in order, each given to the machine as what it is in the tree.
-ghost use Rattle.std.specs.Prelude.{◌≡◌, [], ◌≤◌, length, take, drop, ◌-◌};
+ghost use Rattle.std.specs.Prelude.{◌≡◌, true, [], ◌≤◌, length, take, drop, ◌-◌};
 ghost use Rattle.text.specs.Answers.{refusal_in};
+ghost use Rattle.text.specs.Names.{name_form};
 ghost use Rattle.stored.specs.Demand3.{Left};
 ghost use Rattle.documents.specs.Reading.{read_report};
 ghost use Rattle.documents.specs.Limits.{max_report_bytes};
-ghost use Rattle.reports.specs.Seen.{name_of, from_in, to_in};
 ghost use Rattle.filing.specs.Filing.{Outcome, filed, and_then};
 ghost use Rattle.filing.specs.ReportRefusals.{stored_machine, Files};
 ghost use Rattle.filing.specs.Code.Filing.{file_report};
-ghost use Rattle.filing.specs.Code.Taking.{Answered, Takes, left_in, Named, late_declaration, repeats, with_repeat, file_found, file_last, run_from};
+ghost use Rattle.filing.specs.Code.Taking.{Answered, Takes, left_in, NamedIn, name_bytes, late_declaration, repeats, file_open, file_found, step_found, file_last, run_from};
 
 use machine::run::session::Session;
 use machine::run::start::start;
 use reports::limits::MAX_REPORT;
-use reports::tokens::{Kind, all_listed, token_at};
+use reports::tokens::{Kind, Span, all_listed, token_at};
 use stored::counters::Counters;
 use text::refusals::Refusal;
 
-// The name of a tag, and none of another token.
-fn name_in(s: &[u8], kind: Kind) -> &[u8]
-    requires { (from_in (name_of kind) ≤ to_in (name_of kind)) × (to_in (name_of kind) ≤ length s.now) }
-    ensures { result.now ≡ take (to_in (name_of kind) - from_in (name_of kind)) (drop (from_in (name_of kind)) s.now) }
+// The bytes of a tag's name.
+fn name_at(s: &[u8], name: Span) -> &[u8]
+    requires { (name.from ≤ name.to) × (name.to ≤ length s.now) }
+    ensures { result.now ≡ take (name.to - name.from) (drop name.from s.now) }
 {
-    match kind.name() {
-        Some(name) => &s[name.from..name.to],
-        None => &s[..0],
-    }
+    &s[name.from..name.to]
 }
 
 // A declaration stands at offset 0 only.
@@ -45,20 +42,28 @@ fn repeats(kind: Kind) -> bool
     )
 }
 
-// A token with the name of its tag. Text outside the root is blank.
-fn take(session: &mut Session, kind: Kind, name: &[u8]) -> Result<(), Refusal>
-    requires { Named kind name.now }
-    ensures { Takes session.old (file_found session.old.a.now (left_in session.old) kind name.now) (refusal_in result) session.new }
+// An open without its failure moves. It is a call, since an answer in memory would be cleared at every token.
+#[inline(never)]
+fn open_tag(session: &mut Session, name: &[u8]) -> Result<(), Refusal>
+    requires { name_form name.now ≡ true }
+    ensures { Takes session.old (file_open session.old.a.now (left_in session.old) name.now) (refusal_in result) session.new }
+{
+    session.open(name)?;
+    Ok(())
+}
+
+// A token. Text outside the root is blank.
+fn take(session: &mut Session, s: &[u8], kind: Kind) -> Result<(), Refusal>
+    requires { NamedIn s.now kind }
+    ensures { Takes session.old (file_found session.old.a.now (left_in session.old) kind (name_bytes s.now kind)) (refusal_in result) session.new }
 {
     match kind {
-        Kind::Start { .. } => {
-            session.open(name)?;
-            Ok(())
-        }
-        Kind::End { .. } => session.close(name),
-        Kind::Empty { .. } => {
-            session.open(name)?;
-            session.close(name)
+        Kind::Start { name, .. } => open_tag(session, name_at(s, name)),
+        Kind::End { name } => session.close(name_at(s, name)),
+        Kind::Empty { name, .. } => {
+            let e = name_at(s, name);
+            open_tag(session, e)?;
+            session.close(e)
         }
         Kind::Text => {
             if session.depth() == 0 {
@@ -75,17 +80,17 @@ fn take(session: &mut Session, kind: Kind, name: &[u8]) -> Result<(), Refusal>
 fn take_next(
     session: &mut Session,
     taken: Result<(), Refusal>,
+    s: &[u8],
     kind: Kind,
-    name: &[u8],
 ) -> Result<(), Refusal>
-    requires { Named kind name.now }
-    ensures { (o : Outcome Left) → Answered o (refusal_in taken) session.old.run.now session.old.counters.now → Takes session.old (and_then (with_repeat (repeats kind) o) (λ t. file_found session.old.a.now t kind name.now)) (refusal_in result) session.new }
+    requires { NamedIn s.now kind }
+    ensures { (o : Outcome Left) → Answered o (refusal_in taken) session.old.run.now session.old.counters.now → Takes session.old (step_found session.old.a.now o kind (name_bytes s.now kind)) (refusal_in result) session.new }
 {
     if repeats(kind) {
         return Err(Refusal::RepeatedAttribute);
     }
     taken?;
-    take(session, kind, name)
+    take(session, s, kind)
 }
 
 // The tokens in order. The first refusal of a token is kept, and the rest is only read, for 9 and 15, which come before it; nothing comes before 9.
@@ -101,7 +106,7 @@ fn take_tokens(session: &mut Session, s: &[u8]) -> Result<(), Refusal>
         if is_late(kind, at) {
             return Err(Refusal::SyntaxError);
         }
-        taken = take_next(session, taken, kind, name_in(s, kind));
+        taken = take_next(session, taken, s, kind);
         at = found.end;
     }
     taken

@@ -14,6 +14,7 @@ use text::refusals::Refusal;
 pub trait Show {
     ghost use Rattle.std.specs.Prelude.{ℕ, List, Result, ◌≤◌};
     ghost use Rattle.text.specs.declared.refusals.Refusal.{Refusal};
+    ghost use Rattle.notation.specs.Sets.{FolderSet};
     ghost use Rattle.stored.specs.declared.counters.Counters.{Counters};
     ghost use Rattle.filing.specs.Limits.{max_refused_line};
 
@@ -21,6 +22,9 @@ pub trait Show {
     const SIZE: usize;
 
     ghost SIZE: { ℕ };
+
+    // What bytes are to be shown of a report, filed with a set; that they are is `Faithful`.
+    ghost For: { FolderSet → List ℕ → List ℕ → Type 0 };
 
     // What a show of what filing left answers and leaves.
     ghost shows: { List ℕ → List ℕ → Counters → List ℕ → Result ℕ Refusal → List ℕ → Type 0 };

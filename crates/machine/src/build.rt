@@ -1,4 +1,5 @@
-// Building an automaton: a set is read into its first bytes, and a pass for each of its tables makes the others behind it.
+// Building an automaton: a set is read into its first bytes, and a pass for each of its tables makes the others behind it. What a pass needs of
+// those before it stands in clauses (Linkable, Searchable, Growing), not in a type: the bytes have it from some pass on.
 mod bytes;
 mod chains;
 mod fails;

@@ -17,7 +17,8 @@ use crate::tally::Tally;
 use text::refusals::Refusal;
 use text::store;
 
-// Judges a text, in build's order. One pass, which writes nowhere.
+// Judges a text, in build's order. One pass, with no buffer to write into. A trait with a sink that keeps nothing would say it no more plainly:
+// `Reading`, its methods and all that their clauses cite would be generic over it.
 #[tactic(auto, using(text::proofs::Laws::Results::handed_on, crate::proofs::Laws::Refused::Taken::taken_verdict), unfolding(crate::specs::Code::Taking::text_refusal, crate::specs::Limits::max_set_bytes))]
 fn judge(text: &[u8]) -> Result<(), Refusal>
     ensures { result ≡ answered (text_refusal text.now) }
@@ -25,8 +26,7 @@ fn judge(text: &[u8]) -> Result<(), Refusal>
     if MAX_SET_BYTES < text.len() {
         return Err(Refusal::TooLarge);
     }
-    let mut nowhere = [0u8; 1];
-    let tally = take_set(text, &mut nowhere).ok_or(Refusal::MalformedSet)?;
+    let tally = take_set(text, &mut []).ok_or(Refusal::MalformedSet)?;
     tally.verdict()
 }
 

@@ -1,4 +1,5 @@
-// What is stored of a read set: cheap calls on any part of a buffer that keeps one. They answer by what is stored.
+// What is stored of a read set: cheap calls on any part of a buffer that keeps one. They answer by what is stored. A number of two bytes is
+// answered as a `usize` and its bound, since each caller counts on with it: as `u16` it would be widened at each call.
 #![tactic(auto, unfolding(crate::specs::Limits::max_paths, crate::specs::Limits::max_steps, crate::specs::Limits::max_labels, crate::specs::Layout::set_size, crate::specs::Layout::folders_at, crate::specs::Layout::folder_size, crate::specs::Layout::paths_at, crate::specs::Layout::path_size, crate::specs::Layout::steps_at, crate::specs::Layout::labels_at, crate::specs::Layout::label_size, crate::specs::Reads::present, crate::specs::Reads::paths_end, crate::specs::Reads::folder_at, crate::specs::Reads::path_at, crate::specs::Reads::step_at, crate::specs::Reads::label_at))]
 
 ghost use Rattle.std.specs.Prelude.{◌≡◌, true, ◌-◌, ◌<◌, ◌≤◌, length, get_or};
@@ -42,7 +43,7 @@ pub struct StoredStep {
 }
 
 impl StoredStep {
-    // The byte of a step in its table, and back.
+    // The byte of a step in its table, and back. Methods, not `From`, whose impls need a ghost member each to say of which byte they speak.
     pub fn kind(self) -> u8
         ensures { result ≡ kind_of self }
     {
@@ -85,6 +86,8 @@ pub fn word_at(part: &[u8], at: usize) -> usize
         0
     }
 }
+
+// The counts, a call each: what a name's contract says of its count, one call with an offset could not say.
 
 // The length of the set's text.
 pub fn text_len(part: &[u8]) -> usize

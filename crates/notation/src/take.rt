@@ -60,7 +60,8 @@ impl<'a> Reading<'a> {
         Some(())
     }
 
-    // As many items as there are, where each begins with this word.
+    // As many items as there are, where each begins with this word. A `while`: of an iterator, `from_fn(|| self.begins(word).then(|| item(self)))`,
+    // the borrow checker says that it does not cover it yet, since `item` needs a shorter lifetime there than its bound names.
     fn all<F: Fn(&mut Reading<'a>) -> Option<()>>(&mut self, word: &[u8], item: F) -> Option<()>
         requires callable { F.IsAlwaysCallable item }
         requires moves { (p : _) (x : _) (q : _) → F.post item p x q → Moves p.now x q.now }

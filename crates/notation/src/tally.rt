@@ -24,8 +24,8 @@ pub struct Tally {
     pub fault: Option<Refusal>,
 }
 
-// No count is above the number of bytes read: `Reading` knows it, and each method asks for it of the counts it raises. Without the text a
-// tally could not tell it of itself.
+// No count is above the number of bytes read: `Reading` knows it, and each method asks for it of the counts it raises. As a ghost field here it
+// would ask for more: that the bytes of what is counted are read, and that the text, which a tally does not have, is not too long for them.
 impl Tally {
     // So many bytes on.
     pub fn moved(self, n: usize) -> Tally

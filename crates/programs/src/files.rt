@@ -68,7 +68,8 @@ fn read_named(rt: &(impl Files + AllocGlobal), name: &str, limit: usize) -> io::
     }
 }
 
-// Reads the named file, so many bytes at most; what fails is told on standard error.
+// Reads the named file, so many bytes at most; what fails is told on standard error. The bytes are on the heap, where memory may run out: then
+// that is told.
 pub fn read_file(
     rt: &(impl Files + Eprint + AllocGlobal),
     name: &str,

@@ -25,7 +25,7 @@ const SOME: usize = 256;
 const MANY: usize = 13107;
 
 // What comes next in a tag: no attribute, and where the blanks end; or one, where its name begins and where it ends.
-#[derive(Clone, Copy)]
+#[derive(Clone, Copy, Debug, PartialEq, Eq)]
 enum Next {
     Blanks(usize),
     Attribute { name: usize, end: usize },
@@ -44,7 +44,8 @@ fn next_attribute(s: &[u8], at: usize) -> Option<Next>
     Some(Next::Attribute { name: n, end })
 }
 
-// A place is kept if there is room for it, in two bytes: these hold every offset into a report.
+// A place is kept if there is room for it, in two bytes: these hold every offset into a report, and in longer bytes nothing is told by them. Names that
+// are not kept are counted too, so that no `ArrayVec` tells their count.
 fn keep(places: &mut [u16], k: usize, name: usize)
     ensures { places.new ≡ kept places.old k name }
 {
@@ -54,13 +55,13 @@ fn keep(places: &mut [u16], k: usize, name: usize)
 }
 
 // Where the attributes of a tag and the blanks after them end, and how many attributes there are.
-#[derive(Clone, Copy)]
+#[derive(Clone, Copy, Debug, PartialEq, Eq)]
 struct Noted {
     end: usize,
     count: usize,
 }
 
-// The places of the names are noted as far as there is room.
+// The places of the names are noted as far as there is room. An iterator over the attributes would end with `None`, and not with where the blanks end.
 #[tactic(auto, using(crate::proofs::Laws::Read::Attributes::notings))]
 fn note_names(s: &[u8], at: usize, places: &mut [u16]) -> Option<Noted>
     ensures { MatchOption result
@@ -93,7 +94,7 @@ fn many_repeat<const ROOM: usize>(s: &[u8], at: usize, count: usize) -> bool
     let mut places = [0; ROOM];
     let mut spare = [0; ROOM];
     note_names(s, at, &mut places);
-    sort(s, &mut places[..count], &mut spare[..count])
+    sort(s, &mut places[..count], &mut spare[..count]).is_err()
 }
 
 // Whether a name is repeated among so many, noted as far as there is room; told only in no more bytes than a report may have.
@@ -110,11 +111,11 @@ fn names_repeat(s: &[u8], at: usize, count: usize, places: &mut [u16]) -> bool
         return false;
     }
     if count == 2 {
-        return same_names(s, places[0] as usize, places[1] as usize);
+        return same_names(s, usize::from(places[0]), usize::from(places[1]));
     }
     if count <= FEW {
         let mut spare = [0; FEW];
-        return sort(s, &mut places[..count], &mut spare[..count]);
+        return sort(s, &mut places[..count], &mut spare[..count]).is_err();
     }
     if count <= SOME {
         return many_repeat::<SOME>(s, at, count);
@@ -123,7 +124,7 @@ fn names_repeat(s: &[u8], at: usize, count: usize, places: &mut [u16]) -> bool
 }
 
 // Where the attributes of a tag and the blanks after them end, and whether two have the same name.
-#[derive(Clone, Copy)]
+#[derive(Clone, Copy, Debug, PartialEq, Eq)]
 pub struct Inside {
     pub end: usize,
     pub twice: bool,

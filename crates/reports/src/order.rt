@@ -1,5 +1,6 @@
 // Names compared where they stand, by their offsets, and offsets sorted by the names there.
 ghost use Rattle.std.specs.Prelude.{◌≡◌, ◌+◌, length};
+ghost use Rattle.std.specs.Result.{is_err};
 ghost use Rattle.text.specs.Names.{same_name};
 ghost use Rattle.reports.specs.Code.Ordered.{name_at, names_at, first_byte, order_of, ahead, MergesTo, Sorts};
 
@@ -58,20 +59,24 @@ fn next_part(s: &[u8], left: &[u16], right: &[u16]) -> Ordering
     match (left, right) {
         ([], _) => Ordering::Greater,
         (_, []) => Ordering::Less,
-        ([p, ..], [q, ..]) => compare(s, *p as usize, *q as usize),
+        ([p, ..], [q, ..]) => compare(s, usize::from(*p), usize::from(*q)),
     }
 }
 
-// Two sorted parts, merged; true as soon as a name of the one meets the same name of the other.
-fn merge(s: &[u8], left: &[u16], right: &[u16], out: &mut [u16]) -> bool
+// Two names are the same.
+#[derive(Clone, Copy, Debug, PartialEq, Eq)]
+pub struct Repeated;
+
+// Two sorted parts, merged, up to a name that both have.
+fn merge(s: &[u8], left: &[u16], right: &[u16], out: &mut [u16]) -> Result<(), Repeated>
     requires { length out.old ≡ length left.now + length right.now }
-    ensures { MergesTo (names_at s.now left.now) (names_at s.now right.now) result (names_at s.now out.new) }
+    ensures { MergesTo (names_at s.now left.now) (names_at s.now right.now) (is_err result) (names_at s.now out.new) }
 {
     let mut i = 0;
     let mut j = 0;
     for place in out.iter_mut() {
         match next_part(s, &left[i..], &right[j..]) {
-            Ordering::Equal => return true,
+            Ordering::Equal => return Err(Repeated),
             Ordering::Less => {
                 *place = left[i];
                 i += 1;
@@ -82,48 +87,42 @@ fn merge(s: &[u8], left: &[u16], right: &[u16], out: &mut [u16]) -> bool
             }
         }
     }
-    false
+    Ok(())
 }
 
 // Two offsets need no halves.
-fn sort_two(s: &[u8], places: &mut [u16]) -> bool
+fn sort_two(s: &[u8], places: &mut [u16]) -> Result<(), Repeated>
     requires { length places.old ≡ 2 }
-    ensures { Sorts s.now places.old result places.new }
+    ensures { Sorts s.now places.old (is_err result) places.new }
 {
-    match compare(s, places[0] as usize, places[1] as usize) {
-        Ordering::Less => false,
-        Ordering::Equal => true,
+    match compare(s, usize::from(places[0]), usize::from(places[1])) {
+        Ordering::Less => Ok(()),
+        Ordering::Equal => Err(Repeated),
         Ordering::Greater => {
             places.swap(0, 1);
-            false
+            Ok(())
         }
     }
 }
 
-// Sorts offsets by the names there, and answers whether two of these are the same; then the offsets are in no order. By halves: each is
-// sorted, and both are merged by way of `spare`. The library's sort finds no two that are the same, and takes up to a third more instructions.
-pub fn sort(s: &[u8], places: &mut [u16], spare: &mut [u16]) -> bool
+// Sorts offsets by the names there; if two of these are the same, the offsets are in no order. By halves: each is sorted, and both are merged by
+// way of `spare`. The library's sort finds no two that are the same, and takes up to a third more instructions.
+pub fn sort(s: &[u8], places: &mut [u16], spare: &mut [u16]) -> Result<(), Repeated>
     requires { length spare.old ≡ length places.old }
-    ensures { Sorts s.now places.old result places.new }
+    ensures { Sorts s.now places.old (is_err result) places.new }
 {
     let n = places.len();
     if n < 2 {
-        return false;
+        return Ok(());
     }
     if n == 2 {
         return sort_two(s, places);
     }
     let half = n / 2;
-    if sort(s, &mut places[..half], &mut spare[..half]) {
-        return true;
-    }
-    if sort(s, &mut places[half..], &mut spare[half..]) {
-        return true;
-    }
+    sort(s, &mut places[..half], &mut spare[..half])?;
+    sort(s, &mut places[half..], &mut spare[half..])?;
     let sorted = &places[..];
-    if merge(s, &sorted[..half], &sorted[half..], spare) {
-        return true;
-    }
+    merge(s, &sorted[..half], &sorted[half..], spare)?;
     places.copy_from_slice(spare);
-    false
+    Ok(())
 }

@@ -9,7 +9,8 @@ ghost use Rattle.reports.specs.Code.Seen.{has_byte};
 use crate::scan::{blanks_end, in_text};
 use text::names;
 
-// One of the five references, after its `&`. There are few, and no loop has room for this test.
+// One of the five references, after its `&`. There are few, and no loop has room for this test. What `find` over an array of them answers is to be
+// proved by hand, and these tests are not.
 #[cold]
 #[tactic(auto, using(crate::proofs::Laws::Read::Words::told, crate::proofs::Laws::Read::Reaches::references))]
 pub fn reference_end(s: &[u8], at: usize) -> Option<usize>
@@ -51,7 +52,7 @@ pub fn name_end(s: &[u8], at: usize) -> Option<usize>
 pub fn byte_at(s: &[u8], at: usize, byte: u8) -> bool
     ensures { result ≡ has_byte s.now at byte }
 {
-    at < s.len() && s[at] == byte
+    s.get(at) == Some(&byte)
 }
 
 // A byte, after blanks.
@@ -63,7 +64,7 @@ pub fn mark_end(s: &[u8], at: usize, mark: u8) -> Option<usize>
     byte_at(s, q, mark).then_some(q + 1)
 }
 
-// The parts of a value and the quote after them.
+// The parts of a value and the quote after them. A reference is passed as a whole, so that no search goes over the bytes one by one.
 #[tactic(auto, using(crate::proofs::Laws::Read::Values::quotes))]
 fn quoted_end(s: &[u8], at: usize, quote: u8) -> Option<usize>
     ensures { result ≡ reach (read_quoted quote) s.now at }

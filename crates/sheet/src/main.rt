@@ -6,11 +6,8 @@ ghost use Rattle.std.specs.Prelude.{IfOk};
 ghost use Rattle.sheets.specs.SheetOf.{SheetFor};
 ghost use Rattle.programs.specs.Shows.{Shows};
 
-use machine::layout::AUTOMATON_SIZE;
-use machine::run::layout::RUN_SIZE;
-use programs::output::{print_page, written};
-use sheets::limits::SHEET_SIZE;
-use sheets::printing::print_sheet;
+use programs::output::{page, print_page};
+use sheets::printing::Sheet;
 use std::alloc::{AllocError, Global};
 use std::io;
 
@@ -18,11 +15,7 @@ use std::io;
 fn shown(alloc: Global, set: &[u8], report: &[u8]) -> Result<Vec<u8>, AllocError>
     ensures { IfOk result (λ page. Shows SheetFor set.now report.now page.items) }
 {
-    let mut automaton = [0; AUTOMATON_SIZE];
-    let mut run = [0; RUN_SIZE];
-    let mut out = [0; SHEET_SIZE];
-    let answer = print_sheet(set, report, &mut automaton, &mut run, &mut out);
-    Vec::from_slice(alloc, written(answer, &out))
+    page::<Sheet>(alloc, set, report)
 }
 
 fn main(rt: HostRuntime) -> io::Result<()> {

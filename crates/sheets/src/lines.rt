@@ -1,10 +1,9 @@
 // The lines of a sheet, each put together piece by piece.
 #![tactic(auto, using(crate::proofs::Laws::Page::Aligned::lines), unfolding(crate::specs::Limits::number_width, crate::specs::Limits::path_width, crate::specs::Limits::line_width, crate::specs::Sheet::right_aligned))]
 
-ghost use Rattle.std.specs.Prelude.{◌≡◌, ◌+◌, ◌≤◌, length};
+ghost use Rattle.std.specs.Prelude.{◌≡◌, ◌-◌, ◌≤◌, length};
 ghost use Rattle.text.specs.Decimal.{decimal};
 ghost use Rattle.text.specs.Output.{Adds};
-ghost use Rattle.notation.specs.Limits.{max_number};
 ghost use Rattle.sheets.specs.Limits.{number_width, path_width, line_width};
 ghost use Rattle.sheets.specs.Sheet.{row, spaces, right_aligned, left_aligned, head_line, number_shown, path_shown, body_line, ended};
 
@@ -19,10 +18,9 @@ fn put_spaces<S: Sink>(n: usize, to: &mut S)
     to.put(&blank[..n]);
 }
 
-// The spaces before a number in four places.
+// The spaces before a number in four places; none before a longer one.
 fn indent(n: usize) -> usize
-    requires { n ≤ max_number }
-    ensures { result + length (decimal n) ≡ number_width }
+    ensures { result ≡ number_width - length (decimal n) }
 {
     match n {
         0..=9 => 3,
@@ -34,7 +32,6 @@ fn indent(n: usize) -> usize
 
 // A number right-aligned in four places.
 fn put_right<S: Sink>(n: usize, to: &mut S)
-    requires { n ≤ max_number }
     ensures { Adds S.puts to.old (right_aligned number_width (decimal n)) to.new }
 {
     put_spaces(indent(n), to);
@@ -43,7 +40,6 @@ fn put_right<S: Sink>(n: usize, to: &mut S)
 
 // A folder's number, four spaces for 0.
 fn put_folder<S: Sink>(number: usize, to: &mut S)
-    requires { number ≤ max_number }
     ensures { Adds S.puts to.old (right_aligned number_width (number_shown number)) to.new }
 {
     if number == 0 {
@@ -69,7 +65,6 @@ fn put_path<S: Sink>(path: &[u8], to: &mut S)
 
 // The line of a row.
 pub fn put_row<S: Sink>(number: usize, path: &[u8], to: &mut S)
-    requires { number ≤ max_number }
     ensures { Adds S.puts to.old (ended (body_line (row number path.now))) to.new }
 {
     put_folder(number, to);
@@ -88,7 +83,6 @@ pub fn put_blank<S: Sink>(to: &mut S)
 
 // The head line of a page, which has this number.
 pub fn put_head<S: Sink>(number: usize, to: &mut S)
-    requires { number ≤ max_number }
     ensures { Adds S.puts to.old (ended (head_line number)) to.new }
 {
     to.put(b"FILED");

@@ -13,11 +13,14 @@ pub struct Sheet;
 #[tactic(auto, unfolding(crate::specs::Limits::sheet_size, crate::specs::Limits::max_pages, crate::specs::Limits::page_size, crate::specs::Limits::body_lines, crate::specs::Limits::line_width, crate::specs::Limits::number_width, crate::specs::Limits::path_width))]
 impl Show for Sheet {
     ghost use Rattle.sheets.specs.Limits.{sheet_size, line-within};
+    ghost use Rattle.sheets.specs.SheetOf.{SheetFor};
     ghost use Rattle.sheets.specs.SheetIn.{SheetWritten};
 
     const SIZE: usize = SHEET_SIZE;
 
     ghost SIZE = { sheet_size };
+
+    ghost For = { SheetFor };
 
     ghost shows = { λ a run _ before answer after. SheetWritten a run before answer after };
 

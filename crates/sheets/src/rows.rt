@@ -5,24 +5,23 @@ ghost use Rattle.stored.specs.HeldSet.{folders_held};
 ghost use Rattle.sheets.specs.SheetIn.{matched_places};
 ghost use Rattle.sheets.specs.Code.Rows.{Numbered};
 
+use arrayvec::ArrayVec;
 use machine::run::matches;
 use machine::set;
 use notation::PathPlace;
 use notation::limits::MAX_PATHS;
 
-// The places of the matched paths, in order, in the front of a table: how many there are is known at the end, and there is no heap to collect them.
-#[tactic(auto, using(crate::proofs::Laws::Stored::Tables::places), unfolding(text::specs::Bytes::joined, model::specs::Folders::count_from))]
-pub fn matched_places<'t>(a: &[u8], run: &[u8], table: &'t mut [u8; MAX_PATHS]) -> &'t [u8]
-    ensures { result.now ≡ matched_places a.now run.now }
+// The places of the matched paths, in order.
+pub fn matched_places(a: &[u8], run: &[u8]) -> ArrayVec<u8, MAX_PATHS>
+    ensures { result.items ≡ matched_places a.now run.now }
 {
-    let mut count = 0;
+    let mut places = ArrayVec::new();
     for place in 0..MAX_PATHS {
         if matches::place_matched(a, run, PathPlace(place)) {
-            table[count] = place as u8;
-            count += 1;
+            places.push(place as u8);
         }
     }
-    &table[..count]
+    places
 }
 
 // The number of each place's folder. A folder's number stands from its first path on, until a later folder takes its place, so that no folder

@@ -1,12 +1,11 @@
 // Writing the class sheet of a run.
-#![tactic(auto, unfolding(notation::specs::Limits::max_number, crate::specs::Limits::max_pages))]
+#![tactic(auto, unfolding(crate::specs::Limits::max_pages))]
 
-ghost use Rattle.std.specs.Prelude.{◌≡◌, true, ◌≤◌, length};
+ghost use Rattle.std.specs.Prelude.{◌≡◌, ◌≤◌, length};
 ghost use Rattle.text.specs.Answers.{refusal_in};
 ghost use Rattle.text.specs.Order.{given};
 ghost use Rattle.text.specs.Output.{Adds};
 ghost use Rattle.notation.specs.Limits.{max_paths};
-ghost use Rattle.stored.specs.Shape.{automaton_shaped};
 ghost use Rattle.sheets.specs.Limits.{body_lines, max_pages};
 ghost use Rattle.sheets.specs.Sheet.{body_at, ended, body_from, page, pages_for, pages_from, sheet};
 ghost use Rattle.sheets.specs.SheetIn.{sheet_in, sheet_conditions, SheetWritten};
@@ -17,7 +16,6 @@ use crate::rows;
 use machine::run::lent;
 use machine::set;
 use notation::PathPlace;
-use notation::limits::MAX_PATHS;
 use std::marker::Model;
 use text::output::{Front, Sink};
 use text::refusals::Refusal;
@@ -92,14 +90,13 @@ impl Rows<'_> {
 
 #[tactic(auto, using(text::proofs::Laws::Output::same_bytes, crate::proofs::Laws::Stored::Tables::tables), unfolding(crate::specs::SheetIn::sheet_in))]
 fn put_sheet<S: Sink>(a: &[u8], run: &[u8], to: &mut S)
-    requires { automaton_shaped a.now ≡ true }
     ensures { Adds S.puts to.old (sheet_in a.now run.now) to.new }
 {
-    let mut table = [0; MAX_PATHS];
+    let places = rows::matched_places(a, run);
     let numbers = rows::folder_numbers(a);
     let rows = Rows {
         automaton: a,
-        places: rows::matched_places(a, run, &mut table),
+        places: places.as_slice(),
         numbers: &numbers,
     };
     rows.put_pages(to);
@@ -124,5 +121,5 @@ pub fn write_sheet(a: &[u8], run: &[u8], out: &mut [u8]) -> Result<usize, Refusa
     check(a, run, out)?;
     let mut front = Front::new(out);
     put_sheet(a, run, &mut front);
-    front.end.ok_or(Refusal::ShortBuffer)
+    front.written()
 }

@@ -3,6 +3,8 @@ ghost use Rattle.std.specs.Prelude.{◌≡◌, [], ◌∷◌, ◌++◌, ◌+◌,
 ghost use Rattle.text.specs.Decimal.{decimal};
 ghost use Rattle.text.specs.Output.{Adds, put_at, written_to};
 
+use crate::refusals::Refusal;
+
 // Where the pieces of a text go, one after the other.
 pub trait Sink {
     ghost use Rattle.std.specs.Prelude.{ℕ, List};
@@ -15,7 +17,7 @@ pub trait Sink {
 }
 
 // How long a text is; nothing is written.
-#[derive(Clone, Copy, Debug)]
+#[derive(Clone, Copy, Debug, Default)]
 pub struct Length {
     pub bytes: usize,
 }
@@ -39,10 +41,20 @@ pub struct Front<'a> {
 }
 
 impl<'a> Front<'a> {
+    ghost use Rattle.std.specs.Option.{ok_or};
+    ghost use Rattle.text.specs.declared.refusals.Refusal.TheVariants.{ShortBuffer};
+
     pub fn new(out: &'a mut [u8]) -> Front<'a>
         ensures { result ≡ record { out = out.entry; end = Some 0 } }
     {
         Front { out, end: Some(0) }
+    }
+
+    // The bytes that all pieces take, if all had room.
+    pub fn written(&self) -> Result<usize, Refusal>
+        ensures { result ≡ ok_or self.now.end ShortBuffer }
+    {
+        self.end.ok_or(Refusal::ShortBuffer)
     }
 }
 

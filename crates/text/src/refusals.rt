@@ -35,6 +35,7 @@ pub enum Refusal {
 }
 
 impl Refusal {
+    // A method, not `From`: its name says at each call what the byte is.
     pub fn number(self) -> u8
         ensures { result ≡ number_of self }
     {

@@ -1,5 +1,5 @@
 -- What the calls of a report's tokens answer, by what the code says of each token (follows the code; laws tie it to the tokens' events).
-use Rattle.std.specs.Prelude.{ℕ, ◌≡◌, Bool, true, false, not, ◌&&◌, List, [], ◌∷◌, eqb}
+use Rattle.std.specs.Prelude.{ℕ, ◌-◌, ◌≤◌, ◌≡◌, Bool, true, false, not, ◌&&◌, List, [], ◌∷◌, eqb, length, take, drop}
 use Rattle.text.specs.Names.{Name, name_form}
 use Rattle.text.specs.declared.refusals.Refusal.TheVariants.{SyntaxError, NotOneRoot, RepeatedAttribute}
 use Rattle.text.specs.Refusals.{number_of}
@@ -7,6 +7,7 @@ use Rattle.text.specs.Order.{gives, first}
 use Rattle.stored.specs.RunCalls.{depth_of, start_run}
 use Rattle.stored.specs.Demand3.{Left}
 use Rattle.stored.specs.declared.counters.Counters.{Counters}
+use Rattle.reports.specs.Seen.{name_of, from_in, to_in}
 use Rattle.reports.specs.declared.tokens.Kind.{Kind}
 use Rattle.reports.specs.declared.tokens.Kind.TheVariants.{Declaration, Comment, Start, Empty, End, Blank, Text}
 use Rattle.documents.specs.Tokens.{Token}
@@ -66,6 +67,16 @@ Named (Empty n twice) e = name_form e ≡ true
 Named (End n) e = name_form e ≡ true
 Named Blank e = Unit {0}
 Named Text e = Unit {0}
+
+-- the bytes of a tag's name, where it stands; none of another token
+abbrev pub name_bytes : List ℕ → Kind → Name
+name_bytes s k = take (to_in (name_of k) - from_in (name_of k)) (drop (from_in (name_of k)) s)
+
+-- a tag's name lies within the report, and has name form
+pub record NamedIn (s : List ℕ) (k : Kind) : Type 0 where
+  pub low : from_in (name_of k) ≤ to_in (name_of k)
+  pub high : to_in (name_of k) ≤ length s
+  pub formed : Named k (name_bytes s k)
 
 -- what a token makes of what was filed before it, with its tag's name
 abbrev pub file_found : List ℕ → Left → Kind → Name → Outcome Left

@@ -1,28 +1,28 @@
 // A close: the innermost element's row becomes zero.
 #![tactic(auto, unfolding(stored::specs::Run::row_size, stored::specs::Run::run_size))]
 
-ghost use Rattle.std.specs.Prelude.{◌≡◌, ◌≤◌, ◌<◌, length, true};
+ghost use Rattle.std.specs.Prelude.{◌≡◌, ◌≤◌, ◌<◌, true};
 ghost use Rattle.text.specs.Answers.{refusal_in};
 ghost use Rattle.text.specs.Names.{name_form};
 ghost use Rattle.model.specs.Limits.{max_depth};
 ghost use Rattle.stored.specs.RunContracts.{Closes};
-ghost use Rattle.stored.specs.Run.{run_size};
 ghost use Rattle.stored.specs.RunCalls.{depth_of, close_run};
 
 use crate::run::layout::{ACTIVE_IN, DEPTH_AT, ROW_SIZE, SEEN_IN};
-use crate::run::rows::Run;
+use crate::run::rows::{Run, RunMut};
 use crate::run::session::Session;
 use crate::run::{lent, refusals, row, rows};
 use stored::counters::Counters;
 use text::names::name_form;
 use text::refusals::Refusal;
 
-// A close that is accepted: for callers that know the size and the depth of the run, and that an element is open. The row is cleared in parts
-// and not in their order: joined, they are a call, which takes more instructions.
-fn close_on(run: &mut [u8])
-    requires { (run_size ≤ length run.old) × ((0 < depth_of run.old) × (depth_of run.old ≤ max_depth)) }
-    ensures { run.new ≡ close_run run.old }
+// A close that is accepted: for callers that know the depth of the run, and that an element is open. The row is cleared in parts and not in
+// their order: joined, they are a call, which takes more instructions.
+fn close_on(run: &mut RunMut)
+    requires { (0 < depth_of run.old.bytes.now) × (depth_of run.old.bytes.now ≤ max_depth) }
+    ensures { run.new.bytes ≡ record run.old.bytes { now = close_run run.old.bytes.now } }
 {
+    let run = &mut *run.bytes;
     let d = Run { bytes: run }.depth();
     let at = rows::row_at(d);
     run[at + SEEN_IN..at + ROW_SIZE].fill(0);
@@ -43,7 +43,7 @@ impl<'a> Session<'a> {
         let run = &mut *self.run;
         let counters = &mut *self.counters;
         refusals::close_others(self.a, run, e)?;
-        close_on(run);
+        close_on(&mut RunMut { bytes: run });
         counters.count_close();
         Ok(())
     }

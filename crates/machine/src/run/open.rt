@@ -8,14 +8,13 @@ ghost use Rattle.model.specs.Limits.{max_depth};
 ghost use Rattle.stored.specs.Tables.{first_of};
 ghost use Rattle.stored.specs.RunContracts.{Opens};
 ghost use Rattle.stored.specs.Usable.{Openable, Ready};
-ghost use Rattle.stored.specs.Run.{run_size};
 ghost use Rattle.stored.specs.RunCalls.{depth_of, open_run, open_walk};
 ghost use Rattle.machine.specs.Places.{place_of};
 
 use crate::automaton::{Automaton, Label};
 use crate::layout::MASK_SIZE;
 use crate::run::layout::{DEPTH_AT, ROW_SIZE};
-use crate::run::rows::Run;
+use crate::run::rows::{Run, RunMut};
 use crate::run::session::Session;
 use crate::run::{lent, refusals, row, rows};
 use stored::counters::Counters;
@@ -27,22 +26,22 @@ use text::refusals::Refusal;
 // walk ends in.
 fn write(
     automaton: &Automaton,
-    run: &mut [u8],
+    run: &mut RunMut,
     e: &[u8],
     first: Option<Label>,
     d: usize,
     state: usize,
 )
-    requires openable { (Openable automaton.now) × ((run_size ≤ length run.old) × ((d < max_depth) × (length e.now ≤ max_name))) }
-    requires first_value { (place_of first ≡ first_of automaton.now e.now) × ((d ≡ depth_of run.old) × (state ≡ (open_walk automaton.now run.old e.now).state)) }
-    ensures { run.new ≡ open_run automaton.now run.old e.now }
+    requires openable { (Openable automaton.now) × ((d < max_depth) × (length e.now ≤ max_name)) }
+    requires first_value { (place_of first ≡ first_of automaton.now e.now) × ((d ≡ depth_of run.old.bytes.now) × (state ≡ (open_walk automaton.now run.old.bytes.now e.now).state)) }
+    ensures { run.new.bytes ≡ record run.old.bytes { now = open_run automaton.now run.old.bytes.now e.now } }
 {
     let mut taken = [0; MASK_SIZE];
     automaton.flag_labels(first, &mut taken);
     let at = rows::row_at(d + 1);
-    row::write_row(&mut run[at..at + ROW_SIZE], e, state);
+    row::write_row(&mut run.bytes[at..at + ROW_SIZE], e, state);
     automaton.store_bits(run, &taken, d);
-    row::put_word(run, DEPTH_AT, d + 1);
+    row::put_word(run.bytes, DEPTH_AT, d + 1);
 }
 
 // An open that is accepted: for callers that know the shape of automaton and run, and that the name may be opened.
@@ -55,7 +54,14 @@ fn open_on(a: &[u8], run: &mut [u8], e: &[u8]) -> Walk
     let before = Run { bytes: run };
     let d = before.depth();
     let walked = automaton.walk_from(before.state(d), first);
-    write(&automaton, run, e, first, d, walked.state);
+    write(
+        &automaton,
+        &mut RunMut { bytes: run },
+        e,
+        first,
+        d,
+        walked.state,
+    );
     walked
 }
 

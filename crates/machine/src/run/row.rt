@@ -12,13 +12,14 @@ ghost use Rattle.stored.specs.Code.OpenSteps.{blank_row};
 use crate::run::layout::{ACTIVE_IN, NAME_IN, ROW_SIZE, SEEN_IN, STATE_IN};
 use notation::layout::WORD_SIZE;
 use text::names::MAX_NAME;
+use text::store::le16;
 
 // A number of two bytes, the lower first.
 pub fn put_word(part: &mut [u8], at: usize, v: usize)
     requires { at + word_size ≤ length part.old }
     ensures { part.new ≡ sets part.old at (le16 v) }
 {
-    part[at..at + WORD_SIZE].copy_from_slice(&((v % 65536) as u16).to_le_bytes());
+    part[at..at + WORD_SIZE].copy_from_slice(&le16(v));
 }
 
 // All of the row. Its bits are cleared in two parts with the state between them, and the name is filled up beside it: one fill of the row is a

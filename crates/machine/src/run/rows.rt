@@ -1,7 +1,7 @@
 // What is stored in the rows of a run.
 #![tactic(auto, unfolding(model::specs::Limits::max_depth, stored::specs::Run::rows_at, stored::specs::Run::row_size, stored::specs::Run::run_size, stored::specs::Run::state_in, stored::specs::RunCalls::depth_of))]
 
-ghost use Rattle.std.specs.Prelude.{◌≡◌, ◌+◌, ◌≤◌, ◌<◌};
+ghost use Rattle.std.specs.Prelude.{◌≡◌, ◌+◌, ◌≤◌, ◌<◌, length};
 ghost use Rattle.model.specs.Limits.{max_depth};
 ghost use Rattle.stored.specs.Run.{row_at, row_size, run_size};
 ghost use Rattle.stored.specs.RunCalls.{depth_of, name_length, state_at};
@@ -67,4 +67,11 @@ impl<'r> Run<'r> {
     {
         word(self.bytes, row_at(d) + STATE_IN)
     }
+}
+
+// The same of a run that is written.
+#[derive(Drop)]
+pub struct RunMut<'r> {
+    pub bytes: &'r mut [u8],
+    pub ghost sized: { run_size ≤ length bytes.now },
 }

@@ -8,7 +8,7 @@ ghost use Rattle.stored.specs.Automaton.{mask_size, anywhere_mask, root_mask, bi
 ghost use Rattle.stored.specs.Bits.{bit_in};
 ghost use Rattle.notation.specs.Limits.{max_paths, max_steps};
 ghost use Rattle.notation.specs.Reads.{step_count};
-ghost use Rattle.stored.specs.Run.{row_at, active_in, seen_in, matches_at, run_size};
+ghost use Rattle.stored.specs.Run.{row_at, active_in, seen_in, matches_at};
 ghost use Rattle.stored.specs.RunCalls.{mask_bit, shifted, used_bytes};
 ghost use Rattle.stored.specs.Code.OpenSteps.{Block, taken_active, taken_seen, taken_matched, stored_bits};
 ghost use Rattle.machine.specs.Masks.{mask_number};
@@ -17,6 +17,7 @@ use crate::automaton::Automaton;
 use crate::layout::{MASK_SIZE, MASKS_AT, Mask};
 use crate::run::layout::{ACTIVE_IN, MATCHES_AT, SEEN_IN};
 use crate::run::rows;
+use crate::run::rows::RunMut;
 use notation::layout::STEP_COUNT_AT;
 use std::simd::prelude::*;
 
@@ -62,10 +63,11 @@ impl<'a> Automaton<'a> {
     }
 
     // A block of the bits in the row of depth d + 1, made of that of depth d and of the labels taken, and of the matches.
-    fn store_block(&self, run: &mut [u8], taken: &[u8; MASK_SIZE], d: usize, from: usize)
-        requires { (run_size ≤ length run.old) × ((d < max_depth) × (from + 16 ≤ mask_size)) }
-        ensures { run.new ≡ sets (sets (sets run.old (row_at (suc d) + active_in + from) (bit_bytes (λ i. taken_active self.now run.old taken.now d (8 * from + i)) 16)) (row_at (suc d) + seen_in + from) (bit_bytes (λ i. taken_seen self.now run.old taken.now d (8 * from + i)) 16)) (matches_at + from) (bit_bytes (λ i. taken_matched self.now run.old taken.now d (8 * from + i)) 16) }
+    fn store_block(&self, run: &mut RunMut, taken: &[u8; MASK_SIZE], d: usize, from: usize)
+        requires { (d < max_depth) × (from + 16 ≤ mask_size) }
+        ensures { run.new.bytes ≡ record run.old.bytes { now = sets (sets (sets run.old.bytes.now (row_at (suc d) + active_in + from) (bit_bytes (λ i. taken_active self.now run.old.bytes.now taken.now d (8 * from + i)) 16)) (row_at (suc d) + seen_in + from) (bit_bytes (λ i. taken_seen self.now run.old.bytes.now taken.now d (8 * from + i)) 16)) (matches_at + from) (bit_bytes (λ i. taken_matched self.now run.old.bytes.now taken.now d (8 * from + i)) 16) } }
     {
+        let run = &mut *run.bytes;
         let around = rows::row_at(d);
         let child = self.mask(Mask::Child, from) & one_on(run, around + ACTIVE_IN, from);
         let descendant = self.mask(Mask::Descendant, from) & one_on(run, around + SEEN_IN, from);
@@ -83,10 +85,10 @@ impl<'a> Automaton<'a> {
     }
 
     // The bits of all steps, block by block, stored into the new row and the matches.
-    pub fn store_bits(&self, run: &mut [u8], taken: &[u8; MASK_SIZE], d: usize)
+    pub fn store_bits(&self, run: &mut RunMut, taken: &[u8; MASK_SIZE], d: usize)
         requires steps { step_count self.now ≤ max_paths * max_steps }
-        requires room { (run_size ≤ length run.old) × (d < max_depth) }
-        ensures { run.new ≡ stored_bits run.old d (taken_active self.now run.old taken.now d) (taken_seen self.now run.old taken.now d) (taken_matched self.now run.old taken.now d) (used_bytes self.now) }
+        requires room { d < max_depth }
+        ensures { run.new.bytes ≡ record run.old.bytes { now = stored_bits run.old.bytes.now d (taken_active self.now run.old.bytes.now taken.now d) (taken_seen self.now run.old.bytes.now taken.now d) (taken_matched self.now run.old.bytes.now taken.now d) (used_bytes self.now) } }
     {
         let blocks = (self.word(STEP_COUNT_AT) + 127) / 128;
         for i in 0..blocks {

@@ -18,10 +18,6 @@ module _ (ok : ℕ → Bool) (s : List ℕ) (i : ℕ) where
   unfolding every
   every-at h = ap (every ok) (drop-cons s i 0 h)
 
-  pub every-end : length s ≤ i → every ok (drop i s) ≡ true
-  unfolding every
-  every-end h = ap (every ok) (drop_of_length-le s h)
-
   front-no : i < length s → ok (get_or s i 0) ≡ false → length (front ok (drop i s)) ≡ 0
   unfolding front
   front-no h e = rw (drop-cons s i 0 h, e)

@@ -13,7 +13,7 @@ use Rattle.documents.proofs.Laws.Read.ReadSound.{Good, token-sound}
 use Rattle.reports.specs.declared.tokens.Found.{Found}
 use Rattle.documents.proofs.Laws.Printed.TagAt.{Cut}
 use Rattle.reports.specs.Seen.{text_kind, shown, found_of, name_of, from_in, to_in}
-use Rattle.filing.specs.Code.Taking.{Named}
+use Rattle.filing.specs.Code.Taking.{Named, NamedIn}
 use Rattle.reports.specs.Code.Seen.{tag_name, name_of_token}
 use Rattle.reports.proofs.Laws.Read.Reaches.{never, some_is}
 use Rattle.reports.proofs.Laws.Read.TagName.{name_in, spans}
@@ -33,7 +33,7 @@ named total (end_tag n b) at h = and_left _ _ h
 named total (text ps) at h = named-text _
 
 module _ (s : List ℕ) (at : ℕ) (f : Found) (is : found_of (length s) at (read_token (drop at s)) ≡ Some f) where
-  pub named-token : Named f.kind (tag_name (read_token (drop at s)))
+  named-token : Named f.kind (tag_name (read_token (drop at s)))
   named-token = go (read_token (drop at s)) (token-sound (drop at s)) is
     where
       go : (m : Read Token) → WhenRead (Good (drop at s)) m → found_of (length s) at m ≡ Some f → Named f.kind (tag_name m)
@@ -45,3 +45,6 @@ module _ (s : List ℕ) (at : ℕ) (f : Found) (is : found_of (length s) at (rea
   -- the name, where it stands
   pub name-cut : Cut s (from_in (name_of f.kind)) (to_in (name_of f.kind)) (tag_name (read_token (drop at s)))
   name-cut = (spans s at {r = name_of f.kind} (ap name_in (sym is))).cut
+
+  pub named_in : NamedIn s f.kind
+  named_in = record { low = name-cut.low; high = name-cut.high; formed = rw name-cut.part named-token }

@@ -19,13 +19,13 @@ use Rattle.filing.specs.Code.Filing.{file_with}
 use Rattle.filing.specs.Listing.{listing}
 use Rattle.filing.specs.Listed.{ListingWritten}
 use Rattle.filing.specs.Printed.{PrintedFor}
-use Rattle.filing.specs.Shown.{PrintsText}
+use Rattle.filing.specs.Shown.{Faithful, PrintsText}
 use Rattle.filing.proofs.Laws.Filing.FilingOrder.{filing-is}
 use Rattle.filing.proofs.Laws.Filing.FilingParts.{given-filed}
 use Rattle.filing.proofs.Laws.Filing.FromBytes.{answer-is, left-filed}
 use Rattle.filing.proofs.Laws.Listing.PrintedOnce.{listing-once}
 use Rattle.filing.proofs.Laws.Listing.PrintedXPath.{listing-printed}
-use Rattle.filing.proofs.Laws.Listing.Showing.{text-printed, Faithful}
+use Rattle.filing.proofs.Laws.Listing.Showing.{text-printed}
 use Rattle.filing.proofs.Laws.Listing.Whole.{listing-fits, not-refused, listing-written}
 
 listing-filed : (text before a : List ℕ) (s : FolderSet) → Accepted text s → Built text before 0 a

@@ -32,11 +32,10 @@ use Rattle.filing.specs.ReportRefusals.{Files}
 use Rattle.filing.specs.Code.Filing.{file_with}
 use Rattle.filing.specs.Listing.{refused_line}
 use Rattle.filing.specs.FiledReport.{Demand2Bytes}
-use Rattle.filing.specs.Limits.{max_refused_line}
-use Rattle.filing.specs.Shown.{ShownOf, its_number, its_text, ShownText, of_refused_set, of_set, too_small, PrintsText, PrintsBy, FilesText, set_refused, report_refused, report_filed, ShownAs, PrintsWith}
+use Rattle.filing.specs.Shown.{Faithful, ShownOf, its_number, its_text, ShownText, of_refused_set, of_set, too_small, PrintsText, PrintsBy, FilesText, set_refused, report_refused, report_filed, ShownAs, PrintsWith}
 use Rattle.filing.proofs.Laws.Filing.FilingOrder.{filing-is}
 use Rattle.filing.proofs.Laws.Filing.FromBytes.{answer-is, demand2-bytes}
-use Rattle.filing.proofs.Laws.Listing.Shown.{Unique, Total, shown-some}
+use Rattle.filing.proofs.Laws.Listing.Shown.{Total, shown-some}
 use Rattle.filing.proofs.Laws.Listing.Written.{refused-length}
 use Rattle.text.proofs.Laws.Output.{written-whole}
 
@@ -64,18 +63,6 @@ module _ (size : ℕ) (a run out : List ℕ) (h : too_small size a run out ≡ f
 pub text-printed : {size : ℕ} {order : List Condition} {text out after : List ℕ} {answer : Result ℕ Refusal} → length text ≤ size → size ≤ length out
     → TextWritten order text out answer after → given order ≡ 0 → PrintsText size text out answer after
 text-printed {text = text} {out} {answer = answer} fits room w z = let whole = written-whole text out answer z (omega arith) w.answers w.leaves in record { fits = fits; answers = whole.0; leaves = whole.1 }
-
--- what is shown of what filing left, by this size, these bytes for a set and a report, and this contract
-pub record Faithful (size : ℕ) (For : FolderSet → List ℕ → List ℕ → Type 0) (shows : List ℕ → List ℕ → Counters → List ℕ → Result ℕ Refusal → List ℕ → Type 0) : Type 0 where
-  -- the line of a refusal has room
-  pub line : max_refused_line ≤ size
-  -- of a filed report one text only is shown
-  pub once : Unique For
-  -- and of a report filed with the automaton that a build left it is printed
-  pub filed : (text before a : List ℕ) (s : FolderSet) → Accepted text s → Built text before 0 a
-      → (report run : List ℕ) → run_size ≤ length run → (c : Counters) (run' : List ℕ) (c' : Counters) → Files a run c report 0 run' c'
-      → (out : List ℕ) → size ≤ length out → (answer : Result ℕ Refusal) (out' : List ℕ) → shows a run' c' out answer out'
-      → (bytes : List ℕ) × For s report bytes × PrintsText size bytes out answer out'
 
 module _ (size : ℕ) (For : FolderSet → List ℕ → List ℕ → Type 0) (text report a run out : List ℕ) where
   too_small-is : too_small size a run out ≡ true → PrintsBy size For text report a run out (Err ShortBuffer) a run out

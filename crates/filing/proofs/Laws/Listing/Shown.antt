@@ -12,12 +12,8 @@ use Rattle.notation.proofs.Laws.Refused.Judging.{some-verdict, only-verdict}
 use Rattle.filing.specs.Filing.{Outcome, refused, filed, FiledWith}
 use Rattle.filing.specs.Code.Filing.{file_with}
 use Rattle.filing.specs.Listing.{refused_line}
-use Rattle.filing.specs.Shown.{ShownOf, its_number, its_text, ShownText, of_refused_set, of_set}
+use Rattle.filing.specs.Shown.{Unique, ShownOf, its_number, its_text, ShownText, of_refused_set, of_set}
 use Rattle.filing.proofs.Laws.Filing.FilingOrder.{filing-is, filing-only}
-
--- of a filed report one text only is shown
-abbrev pub Unique : (FolderSet → List ℕ → List ℕ → Type 0) → Type 0
-Unique For = (s : FolderSet) (report x y : List ℕ) → For s report x → For s report y → x ≡ y
 
 -- of each filed report a text is shown
 abbrev pub Total : (FolderSet → List ℕ → List ℕ → Type 0) → Type 0

@@ -23,10 +23,10 @@ pub returns-then-length-out : goal.returns-then-length-out
 unfolding listing_size max_set_bytes max_moves_line
 returns-then-length-out c = let a = c.args in
     let z = sym (c.in_ok-refusal.ensures) in
-    sym (length-says a.a.now a.run.now a.c a.out.now (omega (arith, c.if-out-lt-LISTING_SIZE.false)) z (omega arith) c.put_listing.ensures ∙ rw (lt-leb _ _ c.if-length-out.true))
+    sym (length-says a.a.now a.run.now a.c a.out.now (omega (arith, c.if-out-lt-LISTING_SIZE.false)) z (omega arith) (rw c.default-length.ensures at c.put_listing.ensures) ∙ rw (lt-leb _ _ c.if-length-out.true))
 
 pub returns : goal.returns
 unfolding listing_size max_set_bytes max_moves_line
 returns c = let a = c.args in
     let z = sym (c.in_ok-refusal.ensures) in
-    sym (length-says a.a.now a.run.now a.c a.out.now (omega (arith, c.if-out-lt-LISTING_SIZE.false)) z (omega arith) c.put_listing.ensures ∙ rw (le-leb _ _ c.if-length-out.false))
+    sym (length-says a.a.now a.run.now a.c a.out.now (omega (arith, c.if-out-lt-LISTING_SIZE.false)) z (omega arith) (rw c.default-length.ensures at c.put_listing.ensures) ∙ rw (le-leb _ _ c.if-length-out.false))

@@ -15,4 +15,4 @@ returns c =
     let x = rw c.new-front.ensures at c.put_refused.ensures in
     let l : length (refused_line a.n) ≤ length a.out.now = omega (arith, refused-length a.n (omega (arith, c.ranges.n)), c.requires) in
     let same = same-buffer [] (refused_line a.n) _ given-none l x in
-    written_as [] (refused_line a.n) _ given-none l x _ _ _ c.ok_or.ensures.value (grind (arith, same))
+    written_as [] (refused_line a.n) _ given-none l x _ _ _ c.written.ensures (grind (arith, same))

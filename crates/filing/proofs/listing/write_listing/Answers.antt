@@ -14,4 +14,4 @@ returns c = let a = c.args in
     let l = listing-room a.a.now a.run.now a.c a.out.now z in
     let x = rw c.new-front.ensures at c.put_listing.ensures in
     let same = same-buffer conditions text _ z l x in
-    written_as conditions text _ z l x _ _ _ c.ok_or.ensures.value (grind (arith, same))
+    written_as conditions text _ z l x _ _ _ c.written.ensures (grind (arith, same))

@@ -7,35 +7,23 @@ use Rattle.text.specs.Answers.{refusal_in}
 use Rattle.text.proofs.Laws.Numbers.{some_number}
 use Rattle.text.proofs.Laws.Results.{handed_number}
 use Rattle.filing.proofs.Laws.Filing.Taking.{text-blank, text-outside, text-inside}
-use Rattle.filing.proofs.Laws.Filing.Sessions.{kept_same, takes_here, opened, closed, takes-stop, takes-on}
+use Rattle.filing.proofs.Laws.Filing.Sessions.{kept_same, takes_here, closed, takes-stop, takes-on}
 use Rattle.filing.proofs.report.take.Goals as goal
 
-pub returns-in_err-open-in-Start : goal.returns-in_err-open-in-Start
-returns-in_err-open-in-Start c =
-    let same = handed_number _ _ _ c.from_residual.ensures.1 (sym (ap refusal_in c.in_err-open-in-Start.was)) in
-    rw (c.in-Start.is, same) (opened c.args.session.now _ c.args.name.now _ c.open.ensures.opens c.open.ensures.kept)
-
-pub returns-in_ok-open-in-Start : goal.returns-in_ok-open-in-Start
-returns-in_ok-open-in-Start c =
-    rw c.in-Start.is (rw (ap refusal_in c.in_ok-open-in-Start.was) at (opened c.args.session.now _ c.args.name.now _ c.open.ensures.opens c.open.ensures.kept))
-
 pub returns-in-End : goal.returns-in-End
-returns-in-End c = rw c.in-End.is (closed c.args.session.now _ c.args.name.now _ c.close.ensures.closes c.close.ensures.kept)
+returns-in-End c = rw (c.in-End.is, sym c.name_at-in-End.ensures) (closed c.args.session.now _ _ _ c.close.ensures.closes c.close.ensures.kept)
 
-pub returns-in_err-open-in-Empty : goal.returns-in_err-open-in-Empty
-returns-in_err-open-in-Empty c =
-    let is = ap refusal_in c.in_err-open-in-Empty.was in
-    let same = handed_number _ _ _ c.from_residual-in_err-open-in-Empty.ensures.1 (sym is) in
-    let o = opened c.args.session.now _ c.args.name.now _ c.open-in-Empty.ensures.opens c.open-in-Empty.ensures.kept in
-    rw (c.in-Empty.is, same) (takes-stop _ o (λ z. some_number _ (sym is ∙ z)))
+pub returns-in_err-open_tag-in-Empty : goal.returns-in_err-open_tag-in-Empty
+returns-in_err-open_tag-in-Empty c =
+    let is = ap refusal_in c.in_err-open_tag-in-Empty.was in
+    let same = handed_number _ _ _ c.from_residual.ensures.1 (sym is) in
+    rw (c.in-Empty.is, sym c.name_at-e.ensures, same) (takes-stop _ c.open_tag-in-Empty.ensures (λ z. some_number _ (sym is ∙ z)))
 
-pub returns-in_ok-open-in-Empty : goal.returns-in_ok-open-in-Empty
-returns-in_ok-open-in-Empty c =
-    let s = c.args.session.now in
-    let e = c.args.name.now in
-    let z = ap refusal_in c.in_ok-open-in-Empty.was in
-    let o = opened s _ e _ c.open-in-Empty.ensures.opens c.open-in-Empty.ensures.kept in
-    rw c.in-Empty.is (takes-on _ o z (closed _ _ e _ c.close-in-Empty.ensures.closes c.close-in-Empty.ensures.kept))
+pub returns-in_ok-open_tag-in-Empty : goal.returns-in_ok-open_tag-in-Empty
+returns-in_ok-open_tag-in-Empty c =
+    let z = ap refusal_in c.in_ok-open_tag-in-Empty.was in
+    rw (c.in-Empty.is, sym c.name_at-e.ensures)
+    (takes-on _ c.open_tag-in-Empty.ensures z (closed _ _ _ _ c.close-in-Empty.ensures.closes c.close-in-Empty.ensures.kept))
 
 pub returns-then-depth-eq0 : goal.returns-then-depth-eq0
 returns-then-depth-eq0 c =

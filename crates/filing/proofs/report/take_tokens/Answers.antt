@@ -6,7 +6,7 @@ use lib.ListN.{length}
 use Rattle.text.specs.Refusals.{number_of}
 use Rattle.text.proofs.Laws.Results.{handed_number}
 use Rattle.filing.specs.Filing.{filed}
-use Rattle.filing.proofs.Laws.Filing.Named.{named-token, name-cut}
+use Rattle.filing.proofs.Laws.Filing.Named.{named_in, name-cut}
 use Rattle.filing.proofs.Laws.Filing.Taking.{missing, there_is, taken-end, turn-none, turn-late, turn-past, turn-taken}
 use Rattle.filing.specs.Code.Taking.{left_in}
 use Rattle.filing.proofs.Laws.Filing.Sessions.{kept_same, kept-on}
@@ -39,17 +39,10 @@ returns-then-is_late c =
     let late = turn-late _ _ c.requires _ c.loop-at-test.true _ _ _ _ i.turn _ is (sym c.is_late.ensures ∙ c.if-is_late.true) in
     rw late (record { kept = i.kept; taking = record { answered = refl; restarts = i.restarts } })
 
-pub name_in-requires : goal.name_in-requires
-name_in-requires c =
-    let is = sym c.token_at.ensures ∙ there_is c.token_at.result _ _ (sym c.ok_or.ensures.value ∙ c.in_ok-found.was) in
-    let cut = name-cut c.args.s.now c.loop-at.at c.in_ok-found.found is in
-    (cut.low, cut.high)
-
 pub take_next-taken-requires : goal.take_next-taken-requires
 take_next-taken-requires c =
     let is = sym c.token_at.ensures ∙ there_is c.token_at.result _ _ (sym c.ok_or.ensures.value ∙ c.in_ok-found.was) in
-    let cut = name-cut c.args.s.now c.loop-at.at c.in_ok-found.found is in
-    rw (c.name_in.ensures ∙ cut.part) (named-token c.args.s.now c.loop-at.at c.in_ok-found.found is)
+    named_in c.args.s.now c.loop-at.at c.in_ok-found.found is
 
 past : (c : After-take_next-taken) → (c.loop-at.at < c.in_ok-found.found.end) × (c.in_ok-found.found.end ≤ length c.args.s.now)
 past c =
@@ -67,7 +60,7 @@ loop-at-preserved c =
     let is = sym c.token_at.ensures ∙ there_is c.token_at.result _ _ (sym c.ok_or.ensures.value ∙ c.in_ok-found.was) in
     let cut = name-cut c.args.s.now c.loop-at.at c.in_ok-found.found is in
     let same = ap (λ (b : Bor (List ℕ)). b.now) i.kept.automaton in
-    let takes = rw (c.name_in.ensures ∙ cut.part) at (c.take_next-taken.ensures i.turn.outcome i.turn.answered) in
+    let takes = rw cut.part at (c.take_next-taken.ensures i.turn.outcome i.turn.answered) in
     let taken = rw same at takes.taking in
     record {
       within = (past (goal.at.loop-at-preserved c).After-take_next-taken).1;

@@ -20,7 +20,7 @@ use Rattle.notation.specs.declared.steps.StepFound.{StepFound}
 use Rattle.notation.specs.declared.tally.Tally.{Tally}
 use Rattle.notation.proofs.Laws.Reading.Paths.{step-sound}
 
--- a step has a byte at least, and at most one label
+-- a step has a byte at least
 pub some_byte : (x : Step) → 1 ≤ length (print_step x)
 unfolding print_step
 some_byte (step child t) = omega arith

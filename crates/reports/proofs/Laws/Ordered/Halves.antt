@@ -31,9 +31,6 @@ module _ (p a : List ℕ) (h : ℕ) (fits : h ≤ length p) (size : length a ≡
       ap (take rest) (drop_at a (drop h p) h (size ∙ half-size))
       ∙ take_all rest (drop h p) (omega (arith, whole, length-drop h p))
 
-  pub later-size : length (mid_of h rest back) ≡ length p - h
-  later-size = ap length later ∙ length-drop h p
-
   module _ (b : List ℕ) (again : length b ≡ length (mid_of h rest back)) where
     pub whole_again : length (put_mid h rest back b) ≡ length p
     whole_again = same_len_mid h rest back b again ∙ whole

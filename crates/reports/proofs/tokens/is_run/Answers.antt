@@ -7,5 +7,5 @@ use Rattle.reports.proofs.tokens.is_run.Goals as goal
 pub returns-in_default : goal.returns-in_default
 returns-in_default c = let e : false ≡ run_from c.args.s.now 0 = grind (arith, runs) in run-said c.args.s.now false e
 
-pub returns-then-matches : goal.returns-then-matches
-returns-then-matches c = let e : false ≡ run_from c.args.s.now 0 = grind (arith, runs) in run-said c.args.s.now false e
+pub returns-then-eq : goal.returns-then-eq
+returns-then-eq c = let e : false ≡ run_from c.args.s.now 0 = grind (arith, runs) in run-said c.args.s.now false e

@@ -14,11 +14,10 @@ use Rattle.stored.proofs.Laws.Building.BuiltSet.{built-means}
 use Rattle.filing.specs.Filing.{filed}
 use Rattle.filing.specs.ReportRefusals.{Files}
 use Rattle.filing.specs.Code.Filing.{file_with}
-use Rattle.filing.specs.Shown.{PrintsText}
+use Rattle.filing.specs.Shown.{Faithful, PrintsText}
 use Rattle.filing.proofs.Laws.Filing.FilingParts.{given-filed}
 use Rattle.filing.proofs.Laws.Filing.FilingOrder.{filing-is}
 use Rattle.filing.proofs.Laws.Filing.FromBytes.{answer-is, left-filed}
-use Rattle.filing.proofs.Laws.Listing.Showing.{Faithful}
 use Rattle.sheets.specs.Limits.{sheet_size, line-within}
 use Rattle.sheets.specs.Sheet.{sheet}
 use Rattle.sheets.specs.SheetIn.{SheetWritten}

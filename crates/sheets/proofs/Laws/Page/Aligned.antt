@@ -96,6 +96,22 @@ decimal-length (suc k) n low high =
     let whole = length-append (decimal (n / 10)) ((48 + n % 10) ∷ []) in
     omega (arith, whole, ap length (decimal_step n (omega arith)), decimal-length k (n / 10) (omega arith) (omega arith))
 
+-- a number has a digit more than its tens, and one at least
+digit-more : (n : ℕ) → 10 ≤ n → length (decimal n) ≡ suc (length (decimal (n / 10)))
+digit-more n h = omega (arith, length-append (decimal (n / 10)) ((48 + n % 10) ∷ []), ap length (decimal_step n h))
+
+digit-some : (n : ℕ) → 1 ≤ length (decimal n)
+digit-some n =
+    cases (leb 10 n)
+    (λ t. omega (arith, digit-more n (leb-true 10 n t)))
+    (λ f. omega (arith, ap length (decimal-one n (leb-false 10 n f))))
+
+-- so one of four digits and more leaves none of four places
+pub decimal-wide : (n : ℕ) → 1000 ≤ n → number_width - length (decimal n) ≡ 0
+unfolding number_width
+decimal-wide n h =
+    omega (arith, digit-more n (omega arith), digit-more (n / 10) (omega arith), digit-more (n / 10 / 10) (omega arith), digit-some (n / 10 / 10 / 10))
+
 pub right-none : right_aligned number_width (number_shown 0) ≡ spaces 4
 unfolding right_aligned number_width number_shown
 right-none = append-nil (spaces 4)

@@ -9,9 +9,9 @@ use mathlib.Core.Path.{◌≡◌, refl, sym, ◌∙◌, ap}
 use mathlib.Core.Bool.{Bool, true, false, cond}
 use mathlib.Core.List.{List, [], ◌∷◌, ◌++◌, map, append-nil}
 use lib.Dec.{leb}
-use lib.ListN.{length, get_or, take, drop, replicate, set, length-take, length-drop, length-append, length-replicate, length-map, get_or-map, get_or-append}
+use lib.ListN.{length, get_or, take, drop, replicate, length-take, length-drop, length-append, length-replicate, length-map, get_or-map, get_or-append}
 use Rattle.std.proofs.lemmas.List.{get_or-append_right, get_or-replicate, drop_all}
-use lib.Seq.{get_or-take, take-suc-set}
+use lib.Seq.{get_or-take}
 use borrow.Author.Tests.{leb-true, leb-false, le-leb, lt-leb}
 use Rattle.text.specs.Bytes.{joined}
 use Rattle.notation.specs.Limits.{max_number, max_paths}
@@ -35,15 +35,12 @@ behind l x top h e (suc j) k = e j (omega arith)
 
 -- one place more
 module _ (a run : List ℕ) where
-  pub place-added : (at : List ℕ) (count n : ℕ) → count < length at → take count at ≡ matched_from a run 0 n → place_matched a run (record { 0 = n }) ≡ true
-      → take (suc count) (set at count n) ≡ matched_from a run 0 (suc n)
-  place-added at count n h e t =
-      take-suc-set at count n h ∙ rw e (ap (λ (b : Bool). matched_from a run 0 n ++ cond b (n ∷ []) []) (sym t) ∙ rw zero-add at (joined-more (if_place_matched a run) 0 n))
+  pub place-added : (n : ℕ) → place_matched a run (record { 0 = n }) ≡ true → matched_from a run 0 n ++ (n ∷ []) ≡ matched_from a run 0 (suc n)
+  place-added n t = ap (λ (b : Bool). matched_from a run 0 n ++ cond b (n ∷ []) []) (sym t) ∙ rw zero-add at (joined-more (if_place_matched a run) 0 n)
 
-  pub place-left : (at : List ℕ) (count n : ℕ) → take count at ≡ matched_from a run 0 n → place_matched a run (record { 0 = n }) ≡ false
-      → take count at ≡ matched_from a run 0 (suc n)
-  place-left at count n e f =
-      e ∙ sym (append-nil (matched_from a run 0 n)) ∙ ap (λ (b : Bool). matched_from a run 0 n ++ cond b (n ∷ []) []) (sym f) ∙ rw zero-add at (joined-more (if_place_matched a run) 0 n)
+  pub place-left : (n : ℕ) → place_matched a run (record { 0 = n }) ≡ false → matched_from a run 0 n ≡ matched_from a run 0 (suc n)
+  place-left n f =
+      sym (append-nil (matched_from a run 0 n)) ∙ ap (λ (b : Bool). matched_from a run 0 n ++ cond b (n ∷ []) []) (sym f) ∙ rw zero-add at (joined-more (if_place_matched a run) 0 n)
 
   pub matched-few : (first n : ℕ) → length (matched_from a run first n) ≤ n
   unfolding joined count_from
@@ -130,12 +127,11 @@ module _ (a places numbers : List ℕ) where
 
 -- the tables of an automaton and a run
 module _ (a run numbers : List ℕ) (n : Numbered a (folders_held a) numbers) where
-  pub in_tables : automaton_shaped a ≡ true → InTables (matched_places a run) numbers
-  in_tables h = record {
+  pub in_tables : InTables (matched_places a run) numbers
+  in_tables = record {
     few = matched-few a run 0 max_paths;
     size = n.size;
     inside = λ j k. matched-below a run 0 max_paths max_paths j (omega arith) k;
-    small = λ p k. rw (n.each p k) (among-most a h p (folders_held a));
   }
 
   rows_same : (first m : ℕ) → first + m ≤ max_paths → map (table_row a numbers) (matched_from a run first m) ≡ map (place_row a) (matched_from a run first m)
@@ -149,8 +145,6 @@ module _ (a run numbers : List ℕ) (n : Numbered a (folders_held a) numbers) wh
   pub rows_are : table_rows a (matched_places a run) numbers ≡ rows_in a run
   unfolding table_rows rows_in
   rows_are = rows_same 0 max_paths (omega arith)
-
-pub ruleset places = (place-added, place-left)
 
 pub ruleset lines = (table-row, table_none)
 

@@ -1,11 +1,10 @@
 -- `lines::indent`: what a number's digits leave of four places.
 use native.Mathlib.Omega.{arith}
-use mathlib.Core.Path.{ap}
+use mathlib.Core.Path.{sym, ap}
 use lib.ListN.{length}
 use Rattle.text.proofs.Laws.Decimal.{tens, decimal-one}
-use Rattle.notation.specs.Limits.{max_number}
 use Rattle.sheets.specs.Limits.{number_width}
-use Rattle.sheets.proofs.Laws.Page.Aligned.{decimal-length}
+use Rattle.sheets.proofs.Laws.Page.Aligned.{decimal-length, decimal-wide}
 use Rattle.sheets.proofs.lines.indent.Goals as goal
 
 pub returns-in-0-to-9 : goal.returns-in-0-to-9
@@ -21,5 +20,4 @@ unfolding number_width tens
 returns-in-100-to-999 c = omega (arith, decimal-length 1 c.args.n (omega arith) (omega arith))
 
 pub returns-in_default : goal.returns-in_default
-unfolding number_width max_number tens
-returns-in_default c = omega (arith, decimal-length 2 c.args.n (omega arith) (omega arith))
+returns-in_default c = sym (decimal-wide c.args.n (omega arith))

@@ -9,9 +9,6 @@ use Rattle.sheets.proofs.Laws.Stored.Refused.{shaped-then, room-then}
 use Rattle.sheets.proofs.Laws.Stored.Shaped.{sheet-fits}
 use Rattle.sheets.proofs.sheet.write_sheet.Goals as goal
 
-pub put_sheet-requires : goal.put_sheet-requires
-put_sheet-requires c = shaped-then c.args.a.now c.args.run.now c.args.out.now (sym c.in_ok-check.ensures)
-
 pub returns : goal.returns
 returns c = let a = c.args in
     let conditions = sheet_conditions a.a.now a.run.now a.out.now in
@@ -20,4 +17,4 @@ returns c = let a = c.args in
     let l : length text ≤ length a.out.now = omega (arith, sheet-fits a.a.now a.run.now (shaped-then a.a.now a.run.now a.out.now z), room-then a.a.now a.run.now a.out.now z) in
     let x = rw c.new-front.ensures at c.put_sheet.ensures in
     let same = same-buffer conditions text _ z l x in
-    written_as conditions text _ z l x _ _ _ c.ok_or.ensures.value (grind (arith, same))
+    written_as conditions text _ z l x _ _ _ c.written.ensures (grind (arith, same))

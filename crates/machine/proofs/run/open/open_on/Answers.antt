@@ -31,7 +31,7 @@ write-requires c =
     let f = c.first_label-first in
     let at : q.result ≡ state_at R (depth_of R) = q.ensures.value ∙ ap (λ (n : ℕ). state_at R n) d.ensures in
     let w : c.walk_from-walked.result ≡ open_walk A R E = c.walk_from-walked.ensures.walked ∙ ap₂ (walk_by A) at f.ensures.found in record {
-      openable = (openable A c.requires.0.shaped c.requires.0.size, (c.requires.0.run_length, (omega (arith, d.ensures, c.requires.1.0), c.requires.1.1)));
+      openable = (openable A c.requires.0.shaped c.requires.0.size, (omega (arith, d.ensures, c.requires.1.0), c.requires.1.1));
       first_value = (f.ensures.found, (d.ensures, ap (λ (x : Walk). x.state) w));
     }
 
@@ -44,8 +44,9 @@ returns c =
     let q = c.state in
     let w = c.walk_from-walked in
     let f = c.first_label-first in
+    let written = c.write.ensures in
     let at : q.result ≡ state_at R (depth_of R) = q.ensures.value ∙ ap (λ (n : ℕ). state_at R n) d.ensures in
     let l : q.result ≤ suc (label_count A) = rw at ((run-shape A R c.requires.0.run_is_shaped).state (depth_of R) (omega arith)) in (
       w.ensures.walked ∙ ap₂ (walk_by A) at f.ensures.found,
-      (omega (arith, w.ensures.moves, size-within A (openable A c.requires.0.shaped c.requires.0.size).walkable.falling q.result l), c.write.ensures),
+      (omega (arith, w.ensures.moves, size-within A (openable A c.requires.0.shaped c.requires.0.size).walkable.falling q.result l), grind (arith, written)),
     )
