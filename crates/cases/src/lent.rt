@@ -1,6 +1,8 @@
 // A buffer of which the first bytes are lent to a call.
+use crate::script::place;
 use anyhow::{Context, Result, ensure};
 use std::alloc::Global;
+use std::marker::Model;
 
 #[derive(Drop)]
 pub struct Lent {
@@ -8,15 +10,22 @@ pub struct Lent {
     size: usize,
 }
 
+impl Model for Lent {
+    ghost use Rattle.std.specs.Prelude.{List, ℕ, take, vec_len, ◌≤◌};
+
+    ghost Value = { List ℕ };
+
+    ghost view = { λ l. take l.size l.bytes.items };
+
+    ghost invariant = { λ l. l.size ≤ vec_len l.bytes };
+}
+
 impl Lent {
     // So many equal bytes; how many of them are lent.
     pub fn new(alloc: Global, value: u8, room: usize, size: usize) -> Result<Self> {
-        let mut lent = Lent {
-            bytes: vec![in alloc; value; room]?,
-            size: 0,
-        };
-        lent.lend(size)?;
-        Ok(lent)
+        let bytes = vec![in alloc; value; room]?;
+        ensure!(size <= room, "{size} bytes of {room}");
+        Ok(Lent { bytes, size })
     }
 
     // From now on so many are lent.
@@ -32,13 +41,17 @@ impl Lent {
         Ok(())
     }
 
+    // `AT BYTE`: a byte is put at a place.
+    pub fn put_placed(&mut self, text: &str) -> Result<()> {
+        let (at, value) = place(text)?;
+        self.put(at, value)
+    }
+
     pub fn get(&self) -> &[u8] {
-        let size = self.size.min(self.bytes.len());
-        &self.bytes[..size]
+        &self.bytes[..self.size]
     }
 
     pub fn get_mut(&mut self) -> &mut [u8] {
-        let size = self.size.min(self.bytes.len());
-        &mut self.bytes[..size]
+        &mut self.bytes[..self.size]
     }
 }

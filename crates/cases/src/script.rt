@@ -1,16 +1,34 @@
 // A script: the lines of standard input, and the numbers in a line.
 use anyhow::{Context, Result, ensure};
+use std::alloc::Global;
 use std::io::{BufRead, BufReader, Input};
 
-// Carries out each line, without its line end, up to the first that fails.
-pub fn each_line<R: Input + AllocGlobal, F: FnMut(&str) -> Result<()>>(
-    rt: &R,
-    mut carry_out: F,
-) -> Result<()>
-    requires { F.IsAlwaysCallable carry_out }
-{
+// A line of a script that is not empty: all of it, and what stands after its first character.
+#[derive(Clone, Copy)]
+pub struct Line<'a> {
+    pub whole: &'a str,
+    pub rest: &'a str,
+}
+
+// What the lines of a script work on.
+pub trait Bench: Drop {
+    fn new(alloc: Global) -> Result<Self>;
+
+    // Carries out a line that begins with this character.
+    fn carry_out(&mut self, rt: &(impl Print + AllocGlobal), sign: char, line: Line) -> Result<()>;
+}
+
+// Carries out each line that is not empty, without its line end, up to the first that fails.
+pub fn carry_out<B: Bench>(rt: &(impl Input + Print + AllocGlobal)) -> Result<()> {
+    let mut bench = B::new(rt.alloc())?;
     for line in BufReader::new(rt.alloc(), rt.reader())?.lines(rt.alloc()) {
-        carry_out(line?.as_str())?;
+        let line = line?;
+        let whole = line.as_str();
+        let mut rest = whole.chars();
+        if let Some(sign) = rest.next() {
+            let rest = rest.as_str();
+            bench.carry_out(rt, sign, Line { whole, rest })?;
+        }
     }
     Ok(())
 }

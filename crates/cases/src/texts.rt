@@ -19,6 +19,7 @@ pub fn split_name(line: &str) -> Result<(&str, &str)> {
 pub fn expand(alloc: Global, line: &str) -> Result<Vec<u8>> {
     let mut text = Vec::new(alloc);
     let mut rest = line;
+    // No iterator is plainer: how far a turn goes is known once its piece is read, which may fail.
     while let Some((first, tail)) = rest.split_at_checked(1) {
         rest = match first {
             "\\" => escape(&mut text, tail)?,

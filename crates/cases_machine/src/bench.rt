@@ -4,7 +4,7 @@
 use anyhow::{Context, Result, bail, ensure};
 use cases::answers::{Answer, Number};
 use cases::lent::Lent;
-use cases::script::{byte, number, numbers, split_word};
+use cases::script::{self, Line, byte, number, numbers, split_word};
 use cases::texts::{expand, split_name};
 use machine::build;
 use machine::layout::AUTOMATON_SIZE;
@@ -29,27 +29,27 @@ pub struct Bench {
     out: Lent,
 }
 
-impl Bench {
-    pub fn new(alloc: Global) -> Result<Self> {
+impl script::Bench for Bench {
+    fn new(alloc: Global) -> Result<Self> {
         let automaton = Lent::new(alloc, 7, AUTOMATON_SIZE + 1, AUTOMATON_SIZE)?;
         let out = Lent::new(alloc, b'.', MAX_SET_BYTES, MAX_SET_BYTES)?;
         Ok(Bench { automaton, out })
     }
 
-    pub fn carry_out(&mut self, rt: &(impl Print + AllocGlobal), line: &str) -> Result<()> {
-        let mut rest = line.chars();
-        match rest.next() {
-            None => Ok(()),
-            Some(';') => Ok(println!(rt; "{}", rest.as_str())?),
-            Some('>') => self.write_back(rt, rest.as_str()),
-            Some('^') => self.build_again(rt, rest.as_str()),
-            Some('!') => self.damage(rt, rest.as_str()),
-            Some('?') => self.ask(rt, rest.as_str()),
-            Some('=') => self.put(rest.as_str()),
-            Some(_) => self.build_text(rt, line),
+    fn carry_out(&mut self, rt: &(impl Print + AllocGlobal), sign: char, line: Line) -> Result<()> {
+        match sign {
+            ';' => Ok(println!(rt; "{}", line.rest)?),
+            '>' => self.write_back(rt, line.rest),
+            '^' => self.build_again(rt, line.rest),
+            '!' => self.damage(rt, line.rest),
+            '?' => self.ask(rt, line.rest),
+            '=' => self.put(line.rest),
+            _ => self.build_text(rt, line.whole),
         }
     }
+}
 
+impl Bench {
     fn build_text(&mut self, rt: &(impl Print + AllocGlobal), line: &str) -> Result<()> {
         let (name, text) = split_name(line)?;
         let set = expand(rt.alloc(), text)?;

@@ -5,9 +5,8 @@ mod bench;
 
 use anyhow::Result;
 use bench::Bench;
-use cases::script::each_line;
+use cases::script::carry_out;
 
 fn main(rt: HostRuntime) -> Result<()> {
-    let mut bench = Bench::new(rt.alloc())?;
-    each_line(&rt, |line| bench.carry_out(&rt, line))
+    carry_out::<Bench>(&rt)
 }

@@ -5,7 +5,7 @@ use crate::stored;
 use anyhow::{Context, Result, bail};
 use cases::answers::{Number, YesNo};
 use cases::lent::Lent;
-use cases::script::{byte, number, split_word};
+use cases::script::{self, Line, byte, number, split_word};
 use cases::texts::{expand, split_name};
 use notation::layout::SET_SIZE;
 use notation::read::read_set;
@@ -19,24 +19,25 @@ pub struct Bench {
     part: Lent,
 }
 
-impl Bench {
-    pub fn new(alloc: Global) -> Result<Self> {
+impl script::Bench for Bench {
+    fn new(alloc: Global) -> Result<Self> {
         let part = Lent::new(alloc, 0, SET_SIZE + 1, SET_SIZE)?;
         Ok(Bench { part })
     }
 
-    pub fn carry_out(&mut self, rt: &(impl Print + AllocGlobal), line: &str) -> Result<()> {
-        let mut rest = line.chars();
-        match rest.next() {
-            None | Some(';') => Ok(()),
-            Some('#') => Ok(println!(rt; "{}", rest.as_str())?),
-            Some('>') => self.write_back(rt, rest.as_str()),
-            Some('?') => self.ask(rt, rest.as_str()),
-            Some('=') => self.put(rest.as_str()),
-            Some(_) => self.read(rt, line),
+    fn carry_out(&mut self, rt: &(impl Print + AllocGlobal), sign: char, line: Line) -> Result<()> {
+        match sign {
+            ';' => Ok(()),
+            '#' => Ok(println!(rt; "{}", line.rest)?),
+            '>' => self.write_back(rt, line.rest),
+            '?' => self.ask(rt, line.rest),
+            '=' => self.put(line.rest),
+            _ => self.read(rt, line.whole),
         }
     }
+}
 
+impl Bench {
     fn read(&mut self, rt: &(impl Print + AllocGlobal), line: &str) -> Result<()> {
         let (name, text) = split_name(line)?;
         let set = expand(rt.alloc(), text)?;

@@ -6,9 +6,8 @@ mod stored;
 
 use anyhow::Result;
 use bench::Bench;
-use cases::script::each_line;
+use cases::script::carry_out;
 
 fn main(rt: HostRuntime) -> Result<()> {
-    let mut bench = Bench::new(rt.alloc())?;
-    each_line(&rt, |line| bench.carry_out(&rt, line))
+    carry_out::<Bench>(&rt)
 }

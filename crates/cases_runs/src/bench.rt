@@ -3,7 +3,7 @@
 use anyhow::{Result, bail, ensure};
 use cases::answers::{Answer, Shown, YesNo};
 use cases::lent::Lent;
-use cases::script::{number, numbers, place, split_word};
+use cases::script::{self, Line, number, numbers, split_word};
 use cases::texts::expand;
 use machine::build;
 use machine::layout::AUTOMATON_SIZE;
@@ -21,8 +21,8 @@ pub struct Bench {
     counters: Counters,
 }
 
-impl Bench {
-    pub fn new(alloc: Global) -> Result<Self> {
+impl script::Bench for Bench {
+    fn new(alloc: Global) -> Result<Self> {
         let automaton = Lent::new(alloc, 7, AUTOMATON_SIZE + 1, AUTOMATON_SIZE)?;
         let run = Lent::new(alloc, 7, RUN_SIZE + 1, RUN_SIZE)?;
         Ok(Bench {
@@ -32,19 +32,20 @@ impl Bench {
         })
     }
 
-    pub fn carry_out(&mut self, rt: &(impl Print + AllocGlobal), line: &str) -> Result<()> {
-        let (word, rest) = split_word(line);
-        match line.chars().next() {
-            None | Some(';') => {}
-            Some('#') => println!(rt; "{rest}")?,
-            Some('(') => self.build(rt.alloc(), line)?,
-            Some('?') => self.ask(rt, word, rest)?,
-            Some('=') => self.put(word, rest)?,
-            Some(_) => self.call(rt, word, rest)?,
+    fn carry_out(&mut self, rt: &(impl Print + AllocGlobal), sign: char, line: Line) -> Result<()> {
+        let (word, rest) = split_word(line.whole);
+        match sign {
+            ';' => Ok(()),
+            '#' => Ok(println!(rt; "{rest}")?),
+            '(' => self.build(rt.alloc(), line.whole),
+            '?' => self.ask(rt, word, rest),
+            '=' => self.put(word, rest),
+            _ => self.call(rt, word, rest),
         }
-        Ok(())
     }
+}
 
+impl Bench {
     fn build(&mut self, alloc: Global, line: &str) -> Result<()> {
         let set = expand(alloc, line)?;
         let built = build::build(set.as_slice(), self.automaton.get_mut());
@@ -142,14 +143,8 @@ impl Bench {
     // `=automaton AT BYTE`, `=run AT BYTE`, `=sizes AUTOMATON RUN`, `=counters OPENS CLOSES MOVES`.
     fn put(&mut self, word: &str, rest: &str) -> Result<()> {
         match word {
-            "=automaton" => {
-                let (at, value) = place(rest)?;
-                self.automaton.put(at, value)?;
-            }
-            "=run" => {
-                let (at, value) = place(rest)?;
-                self.run.put(at, value)?;
-            }
+            "=automaton" => self.automaton.put_placed(rest)?,
+            "=run" => self.run.put_placed(rest)?,
             "=sizes" => {
                 let [automaton, run] = numbers::<2>(rest)?;
                 self.automaton.lend(automaton)?;

@@ -3,7 +3,7 @@
 use anyhow::{Result, bail};
 use cases::answers::{Answer, Number};
 use cases::lent::Lent;
-use cases::script::{byte, numbers, place, split_word};
+use cases::script::{self, Line, byte, numbers, split_word};
 use cases::texts::expand;
 use filing::report::file_report;
 use machine::build;
@@ -23,8 +23,8 @@ pub struct Bench {
     filler: u8,
 }
 
-impl Bench {
-    pub fn new(alloc: Global) -> Result<Self> {
+impl script::Bench for Bench {
+    fn new(alloc: Global) -> Result<Self> {
         let automaton = Lent::new(alloc, 7, AUTOMATON_SIZE + 1, AUTOMATON_SIZE)?;
         let run = Lent::new(alloc, 7, RUN_SIZE + 1, RUN_SIZE)?;
         let out = Lent::new(alloc, 7, SHEET_SIZE + 1000, SHEET_SIZE)?;
@@ -36,18 +36,18 @@ impl Bench {
         })
     }
 
-    pub fn carry_out(&mut self, rt: &(impl Print + AllocGlobal), line: &str) -> Result<()> {
-        let mut rest = line.chars();
-        match rest.next() {
-            None => Ok(()),
-            Some(';') => Ok(println!(rt; "{}", rest.as_str())?),
-            Some('(') => self.build(rt, line),
-            Some('<') => self.file(rt, line),
-            Some('=') => self.put(rest.as_str()),
-            Some(_) => self.show(rt, line),
+    fn carry_out(&mut self, rt: &(impl Print + AllocGlobal), sign: char, line: Line) -> Result<()> {
+        match sign {
+            ';' => Ok(println!(rt; "{}", line.rest)?),
+            '(' => self.build(rt, line.whole),
+            '<' => self.file(rt, line.whole),
+            '=' => self.put(line.rest),
+            _ => self.show(rt, line.whole),
         }
     }
+}
 
+impl Bench {
     fn build(&mut self, rt: &(impl Print + AllocGlobal), line: &str) -> Result<()> {
         let set = expand(rt.alloc(), line)?;
         let answer = build::build(set.as_slice(), self.automaton.get_mut());
@@ -70,14 +70,8 @@ impl Bench {
     fn put(&mut self, line: &str) -> Result<()> {
         let (word, rest) = split_word(line);
         match word {
-            "automaton" => {
-                let (at, value) = place(rest)?;
-                self.automaton.put(at, value)?;
-            }
-            "run" => {
-                let (at, value) = place(rest)?;
-                self.run.put(at, value)?;
-            }
+            "automaton" => self.automaton.put_placed(rest)?,
+            "run" => self.run.put_placed(rest)?,
             "sizes" => {
                 let [automaton, run, out] = numbers::<3>(rest)?;
                 self.automaton.lend(automaton)?;

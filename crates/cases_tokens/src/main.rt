@@ -115,18 +115,16 @@ fn letter(kind: Kind) -> &'static str {
     }
 }
 
-// The loop is that of `is_run`: a type of the tokens with its own `Iterator` is longer.
-#[tactic(auto, using(reports::proofs::Laws::Read::RunAt::runs))]
+// No iterator of tokens is plainer: where the last one ends is asked after the loop.
 fn print_tokens(rt: &impl Print, bytes: &[u8]) -> Result<()> {
     let mut at = 0;
-    while at < bytes.len() {
-        let Some(token) = token_at(bytes, at) else {
-            print!(rt; " -")?;
-            break;
-        };
+    while let Some(token) = token_at(bytes, at) {
         let name = Shown(tag_name(bytes, at));
         print!(rt; " {}{name}", letter(token.kind))?;
         at = token.end;
+    }
+    if at < bytes.len() {
+        print!(rt; " -")?;
     }
     Ok(())
 }

@@ -1,4 +1,5 @@
-// Answers and counters as numbers, some behind a pointer: the C interface needs them so.
+// Answers and counters as numbers, some behind a pointer: the C interface needs them so. No `From` of the counters: neither type is of this crate,
+// and crate stored, whose counters they are, knows of no caller in C.
 ghost use Rattle.std.specs.Prelude.{◌≡◌};
 ghost use Rattle.text.specs.Answers.{says, refusal_in};
 ghost use Rattle.exports.specs.Told.{counters_in, Told, MatchTold};

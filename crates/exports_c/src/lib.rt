@@ -1,4 +1,5 @@
-// The symbols of the calls for programs in C and Rust: each is the call of that name of crate exports, with its contract.
+// The symbols of the calls for programs in C and Rust: each is the call of that name of crate exports, with its contract. A static library exports
+// only functions of its own, and no other crate can use it: so each call stands here and there.
 #![tactic(auto)]
 
 ghost use Rattle.stored.specs.Build.{Built};

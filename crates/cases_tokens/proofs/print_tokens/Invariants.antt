@@ -3,5 +3,5 @@ use Prim.Native.Nat.{◌-◌}
 use lib.ListN.{length}
 use Rattle.cases_tokens.proofs.print_tokens.Given as goal
 
-abbrev pub decreases-loop-at : goal.decreases-loop-at
-decreases-loop-at g l = length l.bytes - l.at
+abbrev pub decreases-loop-token : goal.decreases-loop-token
+decreases-loop-token g l = length l.bytes - l.at
