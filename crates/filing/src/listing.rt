@@ -26,11 +26,11 @@ fn put_path<S: Sink>(a: &[u8], place: usize, to: &mut S)
     to.put(b")");
 }
 
-// The matched ones of the paths at these places. The loop counts places itself: over the range it would be told by what was given so far.
+// The matched ones of the paths at these places.
 fn put_paths<S: Sink>(a: &[u8], run: &[u8], places: Range<usize>, to: &mut S)
     ensures { Adds S.puts to.old (paths_listed a.now run.now (count_from places.start (places.end - places.start))) to.new }
 {
-    for place in places.start..places.end {
+    for place in places {
         if matches::place_matched(a, run, PathPlace(place)) {
             put_path(a, place, to);
         }
@@ -46,8 +46,7 @@ fn put_folder<S: Sink>(a: &[u8], run: &[u8], i: usize, to: &mut S)
     }
     if let Some(folder) = set::folder_at(a, i) {
         put_numbered(to, b"(folder ", folder.number.0);
-        let first = folder.first.0;
-        put_paths(a, run, first..first + folder.paths, to);
+        put_paths(a, run, folder.places(), to);
         to.put(b")\n");
     }
 }

@@ -1,9 +1,10 @@
 -- `listing::put_folder`: the line of the folder that is stored, or nothing.
 use native.Mathlib.Omega.{arith}
-use Prim.Native.Nat.{◌+◌, ◌-◌}
+use Prim.Native.Nat.{◌+◌, ◌-◌, ◌^◌, min}
 use mathlib.Core.Path.{◌≡◌, sym, ◌∙◌, ap}
 use Rattle.model.specs.Folders.{count_from}
 use Rattle.notation.specs.Print.{footer, folder_word}
+use Rattle.stored.specs.HeldSet.{top_held}
 use Rattle.text.specs.Output.{no_pieces}
 use Rattle.text.proofs.Laws.Output.{one, and_then, same_bytes}
 use Rattle.filing.specs.Listed.{line_at}
@@ -18,8 +19,8 @@ unfolding footer folder_word
 returns-in-Some g c =
     let a = c.args in
     let f = c.in-Some.folder in
-    let many : f.first.0 + f.paths - f.first.0 ≡ f.paths = omega arith in
-    let line = and_then c.put_numbered.ensures (and_then (rw many at c.put_paths.ensures) (one c.put.ensures)) in
+    let many : min (f.first.0 + f.paths) (2 ^ 64 - 1) - f.first.0 ≡ f.paths = omega (arith, ap top_held c.in-Some.is, c.folder_at.ensures.1) in
+    let line = and_then c.put_numbered.ensures (and_then (rw (c.places.ensures, many) at c.put_paths.ensures) (one c.put.ensures)) in
     let at = ap (line_at a.a.now a.run.now) (sym c.in-Some.is ∙ c.folder_at.ensures.0) in
     same_bytes line (line-joined a.a.now a.run.now f.number.0 (count_from f.first.0 f.paths) ∙ at ∙ folder-yes a.a.now a.run.now a.i (sym c.folder_paths_matched.ensures ∙ c.if-not-folder_paths_matched.false))
 
