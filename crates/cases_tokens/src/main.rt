@@ -115,6 +115,7 @@ fn letter(kind: Kind) -> &'static str {
     }
 }
 
+// The loop is that of `is_run`: a type of the tokens with its own `Iterator` is longer.
 #[tactic(auto, using(reports::proofs::Laws::Read::RunAt::runs))]
 fn print_tokens(rt: &impl Print, bytes: &[u8]) -> Result<()> {
     let mut at = 0;

@@ -1,4 +1,4 @@
-// The tokens of a report, found in its bytes (paper 01: pieces).
+// The tokens of a report, found in its bytes.
 #![tactic(auto)]
 
 mod attributes;

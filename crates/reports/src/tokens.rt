@@ -52,7 +52,7 @@ pub struct Found {
     pub end: usize,
 }
 
-// Whether every byte of a report is listed; without that, refusal 8. It goes over all bytes, so that many are tested at once.
+// Whether every byte of a report is listed; without that, `InvalidByte`. It goes over all bytes, so that many are tested at once.
 pub fn all_listed(s: &[u8]) -> bool
     ensures { result ≡ every listed_byte s.now }
 {
@@ -155,10 +155,10 @@ fn text(s: &[u8], at: usize) -> Option<Found>
     ensures { result ≡ found_of (length s.now) at (read_text (drop at s.now)) }
 {
     let i = blanks_end(s, at);
-    if s.len() <= i || s[i] == b'<' {
-        return text_found(at, i, Kind::Blank);
+    match s.get(i) {
+        Some(b'<') | None => text_found(at, i, Kind::Blank),
+        Some(_) => text_from(s, at, i),
     }
-    text_from(s, at, i)
 }
 
 // The rest, from an offset on, of a text that is not blank, up to the next `<` or the end; it has no `]]>`. Small letters first: most bytes are
@@ -253,7 +253,7 @@ pub fn tag_name(s: &[u8], at: usize) -> &[u8]
     }
 }
 
-// Whether a report is a run of tokens; without that, refusal 9. A type of the tokens with its own `Iterator` and the relation of its steps is three
+// Whether a report is a run of tokens; without that, `SyntaxError`. A type of the tokens with its own `Iterator` and the relation of its steps is three
 // times as long as this loop.
 #[tactic(auto, using(crate::proofs::Laws::Read::RunAt::runs))]
 pub fn is_run(s: &[u8]) -> bool

@@ -83,8 +83,8 @@ pub fn in_name(b: u8) -> bool
     b.is_ascii_lowercase() || class_of(b).in_name()
 }
 
-// Where the name bytes that begin at an offset end. By a range of offsets it takes 3 % more instructions to file a report of 64 kB: the loop then
-// counts several numbers along.
+// Where the name bytes that begin at an offset end. By a range of offsets it takes 2 % more instructions to file a report of 64 kB, and 9 % more to file tags
+// of 17 attributes: the loop then counts several numbers along.
 #[tactic(auto, using(crate::proofs::Laws::Scans::spans))]
 pub fn name_end(s: &[u8], at: usize) -> usize
     ensures { result ≡ at + length (front in_name (drop at s.now)) }

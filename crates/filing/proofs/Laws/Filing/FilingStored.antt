@@ -1,19 +1,15 @@
 -- Filing on what is stored of the shared machine is filing on the shared machine.
-use Prim.Native.Nat.{ℕ, suc}
+use Prim.Native.Nat.{ℕ}
 use mathlib.Core.Path.{◌≡◌, refl, sym, ap, ◌∙◌, subst}
-use mathlib.Core.Bool.{not}
 use mathlib.Core.Option.{Option, none, some}
-use mathlib.Core.List.{List, [], ◌∷◌}
+use mathlib.Core.List.{List, []}
 use lib.Dec.{eqb}
-use lib.ListN.{length, drop}
-use borrow.Author.Tests.{ne_eqb}
-use native.Mathlib.Omega.{arith}
+use lib.ListN.{drop}
 use Rattle.text.specs.Names.{Name}
-use Rattle.text.specs.Lists.{non_empty}
 use Rattle.notation.specs.Sets.{FolderSet}
 use Rattle.text.specs.declared.refusals.Refusal.{Refusal}
 use Rattle.text.specs.Order.{first, number_in, given}
-use Rattle.model.specs.Calls.{as_left, open_call, close_call, Level, State, opened, closed, nothing_open, open_order, close_order, fresh, refusal, step}
+use Rattle.model.specs.Calls.{as_left, open_call, close_call, State, opened, closed, nothing_open, open_order, close_order, fresh, refusal, step}
 use Rattle.model.proofs.Laws.Machine.Moves.{Few, fresh-few}
 use Rattle.text.proofs.Laws.Order.{number-some, number-zero}
 use Rattle.model.proofs.Laws.Machine.Steps.{open-accepted-is, close-accepted-is, step-accepted}

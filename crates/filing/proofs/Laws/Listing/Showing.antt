@@ -3,19 +3,16 @@ use Rattle.std.specs.Prelude.{Result, Ok, Err}
 use Prim.Native.Nat.{ℕ, ◌≤◌}
 use mathlib.Core.Path.{◌≡◌, refl, sym, ap, ◌∙◌, subst}
 use mathlib.Core.Bool.{Bool, true, false, ◌||◌, true≢false}
-use mathlib.Core.List.{List, [], ◌++◌}
+use mathlib.Core.List.{List, []}
 use lib.Dec.{ltb}
 use lib.ListN.{length, drop}
-use lib.Seq.{sets-eq}
 use borrow.Author.Tests.{ltb-false}
-use native.Mathlib.Nat.{zero-add}
 use native.Mathlib.Omega.{arith}
 use Rattle.text.specs.declared.refusals.Refusal.{Refusal}
 use Rattle.text.specs.declared.refusals.Refusal.TheVariants.{ShortBuffer}
 use Rattle.text.specs.Refusals.{number_of}
 use Rattle.text.specs.Order.{Condition, given}
-use Rattle.text.specs.Answers.{said}
-use Rattle.text.specs.Written.{written_into, TextWritten}
+use Rattle.text.specs.Written.{TextWritten}
 use Rattle.text.proofs.Laws.Numbers.{number-within, some_number}
 use Rattle.text.proofs.Laws.Order.{given-none}
 use Rattle.text.proofs.Laws.Tests.{cases, clash}

@@ -2,8 +2,8 @@
 use Prim.Native.Nat.{ℕ, ◌-◌, ◌^◌, ◌≤◌, ◌<◌, max, min}
 use native.Mathlib.Nat.{zero-add}
 use native.Mathlib.Omega.{arith}
-use mathlib.Core.Path.{◌≡◌, refl, sym, ◌∙◌}
-use mathlib.Core.Bool.{Bool, true, false, not, ◌||◌, cond, or-true}
+use mathlib.Core.Path.{◌≡◌, sym, ◌∙◌}
+use mathlib.Core.Bool.{true, false, not, ◌||◌, cond, or-true}
 use mathlib.Core.List.{List}
 use lib.Dec.{leb, ltb}
 use lib.ListN.{length, length-append}
@@ -15,7 +15,7 @@ use Rattle.text.specs.Refusals.{number_of}
 use Rattle.text.specs.Order.{first, given}
 use Rattle.stored.specs.RunCalls.{shaped, too_short, lent_conditions}
 use Rattle.stored.specs.declared.counters.Counters.{Counters}
-use Rattle.text.proofs.Laws.Tests.{cases, clash, or_right}
+use Rattle.text.proofs.Laws.Tests.{cases, or_right}
 use Rattle.text.proofs.Laws.Order.{not-given}
 use Rattle.text.specs.declared.output.Length.{Length}
 use Rattle.text.proofs.Laws.Order.{given-none}

@@ -146,8 +146,6 @@ module _ (a run numbers : List ℕ) (n : Numbered a (folders_held a) numbers) wh
   unfolding table_rows rows_in
   rows_are = rows_same 0 max_paths (omega arith)
 
-pub ruleset places = (place-added, place-left)
-
 pub ruleset lines = (table-row, table_none)
 
 pub ruleset tables = (in_tables, rows_are)

@@ -1,10 +1,9 @@
 -- `rows::folder_numbers`: after so many turns the numbers are those among so many folders.
 use native.Mathlib.Omega.{arith}
 use Prim.Native.Nat.{◌-◌}
-use mathlib.Core.Path.{◌≡◌, refl, sym, ◌∙◌}
+use mathlib.Core.Path.{refl, sym, ◌∙◌}
 use lib.ListN.{drop, length-take, length-drop}
 use Rattle.notation.specs.Limits.{max_paths}
-use Rattle.stored.specs.HeldSet.{folders_held}
 use Rattle.sheets.proofs.Laws.Stored.Tables.{numbered-none, numbered_some, numbered_same}
 use Rattle.sheets.proofs.rows.folder_numbers.Goals as goal
 use Rattle.sheets.proofs.rows.folder_numbers.Goals.{in-Some, in_default}
@@ -23,8 +22,3 @@ loop-i-preserved c =
           (w.fill.ensures.after (λ y e. e)) (omega (arith, length-take (128 - w.min-from.result) (drop w.min-from.result l.numbers), length-drop w.min-from.result l.numbers)))
       | in_default w ↦ rw w.numbers-is (numbered_same a l.i l.numbers l.invariant (sym c.folder_at.ensures.0 ∙ w.in_default.is))
     ]
-
-pub returns : goal.returns
-returns c =
-    let all : c.loop-i.i ≡ folders_held c.args.a.now = omega (arith, c.folders-i-end.ensures.0) in
-    rw all at c.loop-i.invariant

@@ -6,6 +6,8 @@ use mathlib.Core.List.{List, [], ◌∷◌, ◌++◌}
 use Prim.Native.Nat.{ℕ}
 use Rattle.text.specs.Bytes.{joined}
 use Rattle.notation.specs.Limits.{max_paths}
+use Rattle.model.specs.Folders.{count_from}
+use Rattle.sheets.proofs.Laws.Stored.Tables.{place-added, place-left}
 use Rattle.sheets.proofs.rows.matched_places.Goals as goal
 use Rattle.sheets.proofs.rows.matched_places.Goals.{then-place_matched, else-place_matched}
 

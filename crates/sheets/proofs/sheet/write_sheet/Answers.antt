@@ -3,15 +3,11 @@ use native.Mathlib.Omega.{arith}
 use Prim.Native.Nat.{◌≤◌}
 use mathlib.Core.Path.{sym}
 use lib.ListN.{length}
-use Rattle.text.proofs.Laws.Output.{refused-as, same-buffer, written_as}
+use Rattle.text.proofs.Laws.Output.{same-buffer, written_as}
 use Rattle.sheets.specs.SheetIn.{sheet_in, sheet_conditions}
 use Rattle.sheets.proofs.Laws.Stored.Refused.{shaped-then, room-then}
 use Rattle.sheets.proofs.Laws.Stored.Shaped.{sheet-fits}
 use Rattle.sheets.proofs.sheet.write_sheet.Goals as goal
-
-pub returns-in_err-check : goal.returns-in_err-check
-returns-in_err-check c = let a = c.args in
-    refused-as (sheet_conditions a.a.now a.run.now a.out.now) (sheet_in a.a.now a.run.now) a.out.now _ _ c.from_residual.ensures.1 c.in_err-check.ensures
 
 pub returns : goal.returns
 returns c = let a = c.args in

@@ -26,7 +26,7 @@ use Rattle.stored.proofs.Laws.Bytes.Tabulate.{tabulate-length}
 use Rattle.stored.proofs.Laws.Tables.Chained.{no_chain, chain_at, chain-at, chains-length}
 use Rattle.stored.proofs.Laws.Tables.Assembled.{with_group, no_group, no_link, Sized, next-read, far-read, bits-read, group-put}
 use Rattle.stored.proofs.Laws.Tables.Links.{marks-count, as-groups}
-use Rattle.stored.proofs.Laws.Tables.Marked.{no_mark, names, group_at, groups-at, groups-length, marks-rise, rising-next, marks-names, label-mark}
+use Rattle.stored.proofs.Laws.Tables.Marked.{no_mark, names, group_at, groups-at, marks-rise, rising-next, marks-names, label-mark}
 use Rattle.stored.proofs.Laws.Tables.Searched.{Behind, behind-within, next-behind}
 use Rattle.stored.proofs.Laws.Tables.SetReads.{label-owner}
 use Rattle.stored.proofs.Laws.Building.Chains.{chain_links, chain-count, chain_link}

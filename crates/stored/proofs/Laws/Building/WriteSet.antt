@@ -1,16 +1,15 @@
 -- Writing a built automaton's set back: the bytes are those of the set's text, and a build of them gives the same automaton.
-use Prim.Native.Nat.{ℕ, ◌+◌, ◌≤◌}
-use native.Mathlib.Nat.{zero-add}
+use Prim.Native.Nat.{ℕ, ◌≤◌}
 use native.Mathlib.Omega.{arith}
-use mathlib.Core.Path.{◌≡◌, refl, ap, ap₂, ◌∙◌, subst}
+use mathlib.Core.Path.{◌≡◌, refl, ◌∙◌, subst}
 use mathlib.Core.List.{List, ◌++◌}
 use lib.ListN.{length, take, drop}
-use lib.Seq.{sets-eq, take_at, drop_at}
+use lib.Seq.{take_at, drop_at}
 use borrow.Author.Tests.{le-ltb}
 use Rattle.notation.specs.Limits.{max_set_bytes}
 use Rattle.notation.specs.Sets.{FolderSet}
 use Rattle.std.specs.Prelude.{Result}
-use Rattle.text.specs.Answers.{value, said, says}
+use Rattle.text.specs.Answers.{value, says}
 use Rattle.notation.specs.Accepted.{Accepted}
 use Rattle.notation.specs.Judged.{accepts}
 use Rattle.notation.specs.Reads.{text_of}

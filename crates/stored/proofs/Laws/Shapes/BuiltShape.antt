@@ -9,7 +9,7 @@ use native.Mathlib.Omega.{arith}
 use lib.ListN.{length, get_or, length-append}
 use borrow.Author.Tests.{ltb-false}
 use Rattle.notation.specs.Limits.{max_set_bytes, max_paths, max_steps}
-use Rattle.notation.specs.Sets.{child, descendant, label, star, step, Path, FolderSet}
+use Rattle.notation.specs.Sets.{FolderSet}
 use Rattle.text.specs.Lists.{any}
 use Rattle.notation.specs.Form.{formed, paths_of, path_long, paths_long, names_long}
 use Rattle.notation.specs.Accepted.{Accepted}
@@ -18,7 +18,7 @@ use Rattle.notation.specs.Reads.{text_len, folder_count, path_count, step_count,
 use Rattle.notation.proofs.Laws.Refused.Fitting.{Fitting}
 use Rattle.notation.proofs.Laws.Refused.AcceptedSet.{accepted-fits}
 use Rattle.notation.proofs.Laws.Stored.Reads.{text-len, folders-read, paths-read, steps-read}
-use Rattle.model.specs.Words.{name, Word, before, label_words, begins, document}
+use Rattle.model.specs.Words.{before, begins, document}
 use Rattle.model.specs.Walk.{followed_by}
 use Rattle.stored.specs.Automaton.{masks_from, masks, all_labels, heads, links, start_state, automaton_of, all_masks, Link}
 use Rattle.stored.specs.Tables.{far_at}

@@ -1,12 +1,12 @@
 -- The refusals of the calls on a run, condition by condition, and what an accepted call may rely on.
 use Prim.Native.Nat.{ℕ, suc, ◌+◌, ◌≤◌, ◌<◌}
-use mathlib.Core.Path.{◌≡◌, refl, ◌∙◌, ap}
+use mathlib.Core.Path.{◌≡◌, ◌∙◌}
 use mathlib.Core.Bool.{Bool, true, false, not, ◌&&◌}
-use mathlib.Core.List.{List, [], ◌∷◌, ◌++◌}
+use mathlib.Core.List.{List, ◌++◌}
 use native.Mathlib.Omega.{arith}
 use lib.Dec.{leb, ltb, eqb}
-use lib.ListN.{length, drop, set, replicate, length-set, length-replicate}
-use lib.Seq.{sets, set-append_left}
+use lib.ListN.{length, drop, replicate, length-replicate}
+use lib.Seq.{sets}
 use borrow.Author.Tests.{le-ltb, ltb-false, not-false, leb-false}
 use Rattle.text.specs.Names.{Name, name_form, too_long, max_name}
 use Rattle.text.specs.Bytes.{le16}

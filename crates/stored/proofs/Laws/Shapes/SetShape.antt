@@ -13,7 +13,7 @@ use Rattle.text.specs.Names.{within, too_long, max_name}
 use Rattle.notation.specs.Limits.{max_number, max_paths, max_steps, max_labels}
 use Rattle.notation.specs.Sets.{child, descendant, label, star, Step, step, Path, Folder, folder, FolderSet, folder_number, folder_paths}
 use Rattle.notation.specs.Print.{print}
-use Rattle.text.specs.Lists.{any, every, non_empty}
+use Rattle.text.specs.Lists.{any, every}
 use Rattle.notation.specs.Form.{formed_path, formed_folder, formed, paths_of, path_long, paths_long, names_long}
 use Rattle.notation.specs.Layout.{steps_at, step_entry, tables_of, set_part, step_kinds}
 use Rattle.notation.specs.Reads.{folder_count, path_count, step_count, label_count, stored_number, stored_first, folder_at, path_at, label_at}
