@@ -85,7 +85,7 @@ fn put_refused<S: Sink>(n: u8, to: &mut S)
     to.put(b")\n");
 }
 
-// 1 and 14. The listing is measured, since what is stored may have more than there is room for.
+// `ShortBuffer` and `BadShape`. The listing is measured, since what is stored may have more than there is room for.
 fn check(a: &[u8], run: &[u8], c: Counters, out: &[u8]) -> Result<(), Refusal>
     ensures { refusal_in result ≡ listing_refusal a.now run.now c out.now }
 {
@@ -122,8 +122,8 @@ pub(crate) fn write_line(n: u8, out: &mut [u8]) -> Result<usize, Refusal>
     front.written()
 }
 
-// Writes the line of a refusal, by its number, and answers its length; 1 for a buffer that is short for a listing. The number may be any byte, as
-// this interface always had it: a `Refusal` would ask more of a caller.
+// Writes the line of a refusal, by its number, and answers its length; refused is a buffer that is short for a listing. The number may be any byte,
+// as this interface always had it: a `Refusal` would ask more of a caller.
 #[tactic(auto, using(crate::proofs::Laws::Listing::Written::refused_lines), unfolding(crate::specs::Limits::listing_size, notation::specs::Limits::max_set_bytes, crate::specs::Limits::max_moves_line))]
 pub fn write_refused(n: u8, out: &mut [u8]) -> Result<usize, Refusal>
     ensures { RefusedWritten n out.old result out.new }

@@ -31,8 +31,8 @@ impl Show for Listing {
     ghost line = { line-within };
 }
 
-// Writes what the filing program prints of a set's text and a report to the first bytes of `out` and answers its length, or 1 where a buffer
-// is short. Bytes past it stay. The automaton and the run are left as built and filed.
+// Writes what the filing program prints of a set's text and a report to the first bytes of `out` and answers its length; a short buffer is
+// refused. Bytes past it stay. The automaton and the run are left as built and filed.
 #[tactic(auto, using(crate::proofs::Laws::Listing::Showing::prints_by, crate::proofs::Laws::Listing::Faithful::listing_faithful))]
 pub fn print_filing(
     text: &[u8],

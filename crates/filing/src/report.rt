@@ -93,7 +93,8 @@ fn take_next(
     take(session, s, kind)
 }
 
-// The tokens in order. The first refusal of a token is kept, and the rest is only read, for 9 and 15, which come before it; nothing comes before 9.
+// The tokens in order. The first refusal of a token is kept, and the rest is only read, for `SyntaxError` and `RepeatedAttribute`, which come
+// before it; nothing comes before `SyntaxError`. The loop is that of `reports::tokens::is_run`: a type of the tokens with its own `Iterator` is longer.
 fn take_tokens(session: &mut Session, s: &[u8]) -> Result<(), Refusal>
     requires { length s.now ≤ max_report_bytes }
     ensures { Takes session.old (run_from session.old.a.now (filed (left_in session.old)) (read_report s.now)) (refusal_in result) session.new }
@@ -124,7 +125,7 @@ fn take_report(session: &mut Session, s: &[u8]) -> Result<(), Refusal>
     Ok(())
 }
 
-// On a run that was started. 2 and 8 come before the tokens.
+// On a run that was started. `TooLarge` and `InvalidByte` come before the tokens.
 fn file_started(session: &mut Session, s: &[u8]) -> Result<(), Refusal>
     ensures { Takes session.old (file_report (stored_machine session.old.a.now) (left_in session.old) [] s.now) (refusal_in result) session.new }
 {
@@ -137,7 +138,7 @@ fn file_started(session: &mut Session, s: &[u8]) -> Result<(), Refusal>
     take_report(session, s)
 }
 
-// Files a report. 1 and 14, which are of what is lent, leave all as it was; any other refusal leaves a fresh run.
+// Files a report. `ShortBuffer` and `BadShape`, which are of what is lent, leave all as it was; any other refusal leaves a fresh run.
 pub fn file_report(
     a: &[u8],
     run: &mut [u8],

@@ -60,8 +60,8 @@ fn file_text(
     Ok(counters)
 }
 
-// Writes what is shown of a set's text and a report to the first bytes of `out` and answers its length, or 1 where a buffer is short. Bytes past
-// it stay. The automaton and the run are left as built and filed.
+// Writes what is shown of a set's text and a report to the first bytes of `out` and answers its length; a short buffer is refused. Bytes past it
+// stay. The automaton and the run are left as built and filed.
 #[tactic(auto, using(crate::proofs::Laws::Listing::Showing::out_room))]
 pub fn print_shown<S: Show>(
     text: &[u8],

@@ -7,8 +7,8 @@ use notation::limits::MAX_SET_BYTES;
 use notation::write::write_text;
 use text::refusals::Refusal;
 
-// Writes the text of an automaton's set and answers its length, or the number of the refusal: 1 for a short automaton or buffer, 14 for
-// bytes that are no automaton. Bytes past the text stay.
+// Writes the text of an automaton's set and answers its length; refused are a short automaton or buffer (`ShortBuffer`), and then bytes that
+// are no automaton (`BadShape`). Bytes past the text stay.
 #[tactic(auto, using(notation::proofs::Laws::Refused::WriteBack::written_back), unfolding(text::specs::Order::given, text::specs::Order::first, stored::specs::Automaton::automaton_size, notation::specs::Limits::max_set_bytes))]
 pub fn write_set(automaton: &[u8], out: &mut [u8]) -> Result<usize, Refusal>
     ensures { SetWritten automaton.now out.old result out.new }

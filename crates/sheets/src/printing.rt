@@ -31,8 +31,8 @@ impl Show for Sheet {
     ghost line = { line-within };
 }
 
-// Writes the class sheet of a set's text and a report, or the line of a refusal, to the first bytes of `out` and answers its length, or 1
-// where a buffer is short. Bytes past it stay. The automaton and the run are left as built and filed.
+// Writes the class sheet of a set's text and a report, or the line of a refusal, to the first bytes of `out` and answers its length; a short
+// buffer is refused. Bytes past it stay. The automaton and the run are left as built and filed.
 #[tactic(auto, using(filing::proofs::Laws::Listing::Showing::prints_by, crate::proofs::Laws::Filed::Faithful::sheet_faithful))]
 pub fn print_sheet(
     text: &[u8],

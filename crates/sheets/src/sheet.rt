@@ -102,7 +102,7 @@ fn put_sheet<S: Sink>(a: &[u8], run: &[u8], to: &mut S)
     rows.put_pages(to);
 }
 
-// 1 (automaton, run or sheet), 14 (automaton and run).
+// `ShortBuffer` (automaton, run or sheet), `BadShape` (automaton and run).
 #[tactic(auto, using(crate::proofs::Laws::Stored::Refused::refusals), unfolding(crate::specs::Limits::sheet_size, crate::specs::Limits::max_pages, crate::specs::Limits::page_size, crate::specs::Limits::body_lines, crate::specs::Limits::line_width, crate::specs::Limits::number_width, crate::specs::Limits::path_width))]
 fn check(a: &[u8], run: &[u8], out: &[u8]) -> Result<(), Refusal>
     ensures { refusal_in result ≡ given (sheet_conditions a.now run.now out.now) }

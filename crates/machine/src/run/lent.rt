@@ -21,7 +21,7 @@ pub fn too_short(a: &[u8], run: &[u8]) -> bool
     a.len() < AUTOMATON_SIZE || run.len() < RUN_SIZE
 }
 
-// 1, 14 of automaton and run, with which the calls begin that read a run and take no counters.
+// `ShortBuffer` and `BadShape` of automaton and run, with which the calls begin that read a run and take no counters.
 pub fn pair_refusal(a: &[u8], run: &[u8]) -> Result<(), Refusal>
     ensures { refusal_in result ≡ ask_refusal a.now run.now true }
 {

@@ -1,4 +1,5 @@
-// The refusals of an open and of a close, each in its order.
+// The refusals of an open and of a close, each in its order. What inner functions know of bytes (`Ready` of an automaton and a run, the name form of
+// a name) stands in their clauses: a type of it would be taken apart at once, as each uses another part.
 #![tactic(auto, unfolding(text::specs::Order::given, text::specs::Order::first, model::specs::Limits::max_depth, model::specs::Limits::max_opens))]
 
 ghost use Rattle.std.specs.Prelude.{◌≡◌, true, ◌≤◌};
@@ -26,7 +27,7 @@ pub fn stored_name<'a, 'r>(a: &'a [u8], run: &'r [u8], d: usize) -> &'r [u8]
     &run[from..to]
 }
 
-// 5, which is next of a name of name form.
+// `NameTooLong`, which is next of a name of name form.
 fn length_refusal(e: &[u8]) -> Result<(), Refusal>
     requires { name_form e.now ≡ true }
     ensures { refusal_in result ≡ given (name_conditions e.now) }
@@ -44,7 +45,7 @@ fn root_closed(run: &Run, c: Counters) -> bool
     c.opens != 0 && run.depth() == 0
 }
 
-// An open's others, of a name of name form: 5, 10, 11, 7.
+// An open's others, of a name of name form: the name's length, the root, the depth, the count of opens.
 pub fn open_others(run: &Run, c: Counters, e: &[u8]) -> Result<(), Refusal>
     requires { name_form e.now ≡ true }
     ensures { refusal_in result ≡ given (open_others run.now c e.now) }
@@ -62,7 +63,7 @@ pub fn open_others(run: &Run, c: Counters, e: &[u8]) -> Result<(), Refusal>
     Ok(())
 }
 
-// A close's others, of a name of name form: 5, 10, 12.
+// A close's others, of a name of name form: the name's length, that an element is open, its name.
 #[tactic(auto, using(text::proofs::Laws::Bytes::SameName::same_name_equal), unfolding(text::specs::Order::given, text::specs::Order::first))]
 pub fn close_others(a: &[u8], run: &[u8], e: &[u8]) -> Result<(), Refusal>
     requires { (Ready a.now run.now) × (name_form e.now ≡ true) }

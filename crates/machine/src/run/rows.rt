@@ -11,7 +11,8 @@ use crate::words::word;
 use notation::reads;
 use std::marker::Model;
 
-// Where the row of a depth stands.
+// Where the row of a depth stands. A depth is a number with its bound in each contract: a type for it would be made of a stored number or a count
+// and taken apart for each offset.
 pub fn row_at(d: usize) -> usize
     requires { d ≤ max_depth }
     ensures { (result ≡ row_at d) × (result + row_size ≤ run_size) }
@@ -35,7 +36,8 @@ pub fn state_at(run: &[u8], d: usize) -> usize
     reads::word_at(run, row_at(d) + STATE_IN)
 }
 
-// The bytes of a run, at least as many as it has: its numbers are read without a range test.
+// The bytes of a run, at least as many as it has: its numbers are read without a range test. Not one type with `Automaton` over the size: their
+// sizes are the same, so that it would not tell them apart.
 #[derive(Drop)]
 pub struct Run<'r> {
     pub bytes: &'r [u8],

@@ -1,4 +1,5 @@
-// The bits of an open, a block of sixteen bytes at a time, eight steps a byte: the active steps, the steps seen, and the matches.
+// The bits of an open, a block of sixteen bytes at a time, eight steps a byte: the active steps, the steps seen, and the matches. A block is told by
+// the offset of its first byte, with its bound in each contract: a type for it would be taken apart in each.
 #![tactic(auto, unfolding(model::specs::Limits::max_depth, notation::specs::Limits::max_paths, notation::specs::Limits::max_steps, stored::specs::Automaton::mask_size, stored::specs::Automaton::automaton_size, stored::specs::Automaton::masks_at, stored::specs::Run::row_size, stored::specs::Run::run_size))]
 
 ghost use Rattle.std.specs.Prelude.{◌≡◌, ◌&&◌, ◌||◌, suc, ◌+◌, ◌*◌, ◌≤◌, ◌<◌, eqb, length};
