@@ -10,4 +10,5 @@ pub mod Reads
 pub mod ReadSteps
 pub mod ReadFolders
 pub mod ReadPaths
+pub mod FolderOf
 pub mod Rising
