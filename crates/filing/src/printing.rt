@@ -33,6 +33,7 @@ impl Show for Listing {
 
 // Writes what the filing program prints of a set's text and a report to the first bytes of `out` and answers its length; a short buffer is
 // refused. Bytes past it stay. The automaton and the run are left as built and filed.
+// A call of its own, since its promise is by printing and XPath 1.0 alone, where `print_shown` promises what the show does.
 #[tactic(auto, using(crate::proofs::Laws::Listing::Showing::prints_by, crate::proofs::Laws::Listing::Faithful::listing_faithful))]
 pub fn print_filing(
     text: &[u8],
