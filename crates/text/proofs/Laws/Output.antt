@@ -64,14 +64,14 @@ measured-length {s} (a_piece {t = t} {piece = piece} {bytes} e r) h =
 
 -- a piece into the front of a buffer: once one had no room, with room, and the first that has none
 module _ (s : Front) (piece : List ℕ) where
-  put-late : s.end ≡ None → fronted s piece ≡ s
+  pub put-late : s.end ≡ None → fronted s piece ≡ s
   put-late e = rw e
 
   module _ (n : ℕ) (e : s.end ≡ Some n) where
-    put-in : n + length piece ≤ length s.out.now → fronted s piece ≡ record { out = record s.out { now = sets s.out.now n piece }; end = Some (n + length piece) }
+    pub put-in : n + length piece ≤ length s.out.now → fronted s piece ≡ record { out = record s.out { now = sets s.out.now n piece }; end = Some (n + length piece) }
     put-in h = rw (e, le-leb (n + length piece) (length s.out.now) h)
 
-    put-out : length s.out.now < n + length piece → fronted s piece ≡ record { out = s.out; end = None }
+    pub put-out : length s.out.now < n + length piece → fronted s piece ≡ record { out = s.out; end = None }
     put-out h = rw (e, lt-leb (n + length piece) (length s.out.now) h)
 
 -- a text after that changes nothing
