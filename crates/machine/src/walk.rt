@@ -33,6 +33,7 @@ impl<'a> Automaton<'a> {
         ensures state { IfSome result (λ to. (1 < to) × (to ≤ suc (label_count self.now))) }
     {
         let mut next = first;
+        // A `find` over `successors` asks that they end, and to the checker they do not; with a `take` between, the proof did not close.
         while let Some(label) = next {
             let l = label.number();
             if self.link(l, PARENT_IN) == q {
