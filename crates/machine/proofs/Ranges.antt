@@ -1,7 +1,7 @@
--- A chain of calls over the numbers below n.
+-- A chain of calls over the numbers below n, and the conjunction of several.
 use Prim.Native.Nat.{ℕ}
-use mathlib.Core.Path.{◌≡◌, refl, ap, ◌∙◌}
-use mathlib.Core.Bool.{Bool, true, false}
+use mathlib.Core.Path.{◌≡◌, refl, sym, ap, ◌∙◌}
+use mathlib.Core.Bool.{Bool, true, false, ◌&&◌}
 use mathlib.Core.List.{List}
 use native.Mathlib.Nat.{sub-zero}
 use denote.Param.Members.{Mut}
@@ -24,3 +24,14 @@ pub all_below-from_range : {F : Type 0} {g : Mut F (ℕ × Unit {0}) Bool} {n m 
 all_below-from_range {n = n} f e u k r ran test =
     all_from_yields_List f u k r ran (YieldsList-from_range 0 n n refl (sub-zero n)) test
     ∙ (all-listed n f ∙ ap (λ m. all_below m f) e)
+
+pub and-then : {x f r g : Bool} → x ≡ f → x ≡ true → r ≡ g → r ≡ (f && g)
+and-then e t d = rw (sym e ∙ t, d)
+
+pub and-else : {x f : Bool} (g : Bool) → x ≡ f → x ≡ false → x ≡ (f && g)
+and-else g e t = rw (sym e ∙ t, t)
+
+pub and-four : (f g h k : Bool) → (((f && g) && h) && k) ≡ (f && (g && (h && k)))
+and-four true true h k = refl
+and-four true false h k = refl
+and-four false g h k = refl

@@ -30,7 +30,8 @@ impl<'a> Model for Automaton<'a> {
     ghost invariant = { λ a. automaton_size ≤ length a.bytes.now };
 }
 
-// A label by its place, as a chain has it: 1 more than its number, since 0 is none.
+// A label by its place, as a chain has it: 1 more than its number, since 0 is none. That its number is below the
+// limit is no fact of its own: a link of any bytes may lead further, and where it does not is known by `Lookable` and the like.
 #[derive(Clone, Copy)]
 pub struct Label {
     pub place: usize,

@@ -44,6 +44,7 @@ impl<'a> Automaton<'a> {
         ensures within { place_of result ≤ label_count self.now }
     {
         let mut next = self.head(h);
+        // A `find` over `successors` asks that they end, and to the checker they do not; with a `take` between, the proof did not close.
         while let Some(label) = next {
             let l = label.number();
             if self.label_is(l, e) {

@@ -163,35 +163,14 @@ impl<'a> Tables<'a> {
         usize::from(most) <= self.labels
     }
 
-    fn folders_shaped(&self) -> bool
-        ensures { result ≡ all_below (folder_count self.now) (folder_shaped self.now) }
-    {
-        (0..self.folders).all(|i| self.folder_shaped(i))
-    }
-
-    fn paths_shaped(&self) -> bool
-        ensures { result ≡ all_below (path_count self.now) (path_shaped self.now) }
-    {
-        (0..self.paths).all(|i| self.path_shaped(i))
-    }
-
-    fn labels_shaped(&self) -> bool
-        ensures { result ≡ all_below (label_count self.now) (label_shaped self.now) }
-    {
-        (0..self.labels).all(|i| self.label_shaped(i))
-    }
-
-    fn links_shaped(&self) -> bool
-        ensures { result ≡ all_below (label_count self.now) (link_shaped self.now) }
-    {
-        (0..self.labels).all(|l| self.link_shaped(l))
-    }
-
     // The set's tables.
     fn set_shaped(&self) -> bool
         ensures { result ≡ set_shaped self.now }
     {
-        self.folders_shaped() && self.paths_shaped() && self.steps_shaped() && self.labels_shaped()
+        (0..self.folders).all(|i| self.folder_shaped(i))
+            && (0..self.paths).all(|i| self.path_shaped(i))
+            && self.steps_shaped()
+            && (0..self.labels).all(|i| self.label_shaped(i))
     }
 }
 
@@ -204,5 +183,7 @@ pub fn automaton_shaped(a: &[u8]) -> bool
     let Some(tables) = Tables::of(Automaton { bytes: a }) else {
         return false;
     };
-    tables.set_shaped() && tables.heads_shaped() && tables.links_shaped()
+    tables.set_shaped()
+        && tables.heads_shaped()
+        && (0..tables.labels).all(|l| tables.link_shaped(l))
 }

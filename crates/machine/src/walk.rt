@@ -1,4 +1,5 @@
-// The walk of an open over the automaton's tables.
+// The walk of an open over the automaton's tables. A state is a number, 0 for the empty word, 1 for `#`, 2 more than its number for a label's: so
+// it is stored in links and rows, read and compared as it is, and an enum would be made of it and made the same number again at each step.
 #![tactic(auto, unfolding(notation::specs::Limits::max_labels, stored::specs::Automaton::links_at, stored::specs::Automaton::link_size))]
 
 ghost use Rattle.std.specs.Prelude.{◌≡◌, suc, ◌≤◌, ◌<◌, unwrap_or, IfSome};
@@ -32,6 +33,7 @@ impl<'a> Automaton<'a> {
         ensures state { IfSome result (λ to. (1 < to) × (to ≤ suc (label_count self.now))) }
     {
         let mut next = first;
+        // A `find` over `successors` asks that they end, and to the checker they do not; with a `take` between, the proof did not close.
         while let Some(label) = next {
             let l = label.number();
             if self.link(l, PARENT_IN) == q {

@@ -15,6 +15,7 @@ use notation::layout::{LABEL_SIZE, LABEL_STEP_IN, LABELS_AT};
 use notation::reads::word_at;
 
 // What a label takes over: the place of the next label of its name in a later byte, and bits of steps in its own.
+// As it is stored, 0 for none: an `Option<Label>` would be made of a stored number and made the same number again.
 #[derive(Clone, Copy)]
 struct Taken {
     far: usize,

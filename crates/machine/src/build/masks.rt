@@ -24,7 +24,8 @@ fn flag(part: &mut Bytes, mask: Mask, i: usize)
     part[MASKS_AT + j / 8] |= 1 << (j % 8);
 }
 
-// The mask of a step's axis.
+// The mask of a step's axis. That the step is its path's first, and its last, stay two facts: a step of a path of one is both, so that an enum
+// would have four names, each made of the two and taken apart again.
 fn axis_mask(first: bool, deep: bool) -> Mask
     ensures { mask_number result ≡ axis_mask first deep }
 {

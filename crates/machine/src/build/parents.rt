@@ -23,6 +23,7 @@ fn starts_path(part: &[u8], p: usize, i: usize) -> bool
 }
 
 // Before a step's test: a path's first step starts from `#` or, by `//`, from nothing; `//` starts from nothing.
+// Of the masks' axes `Star` and `Last` would be cases without a meaning here.
 fn enter(at: Place, first: bool, deep: bool) -> Place
     requires { at.paths < 65536 }
     ensures { result ≡ entered first deep at }

@@ -18,8 +18,8 @@ impl<'a> Automaton<'a> {
         requires { l < max_labels }
         ensures { (i : ℕ) → bit_at out.new i ≡ (bit_at out.old i || has_bit self.now l i) }
     {
-        let bits = self.link(l, BITS_IN);
-        out[bits / 256] |= (bits % 256) as u8;
+        let [bits, byte] = (self.link(l, BITS_IN) as u16).to_le_bytes();
+        out[usize::from(byte)] |= bits;
     }
 
     // The bits of the labels of a name, joined in the same way. `first` is the first one.
@@ -29,6 +29,7 @@ impl<'a> Automaton<'a> {
         ensures { (i : ℕ) → bit_at out.new i ≡ (bit_at out.old i || marked_from max_labels self.now (place_of first) i) }
     {
         let mut next = first;
+        // A `for_each` over `successors` asks that they end, and to the checker they do not; with a `take` between, the proof did not close.
         while let Some(label) = next {
             let l = label.number();
             self.flag_label(l, out);

@@ -14,7 +14,7 @@ use notation::reads::StoredPath;
 use notation::{PathPlace, reads};
 
 // The match bit of a path's last step.
-pub fn last_matched(run: &[u8], path: StoredPath) -> bool
+pub(crate) fn last_matched(run: &[u8], path: StoredPath) -> bool
     requires { path_top (Some path) < 65536 }
     ensures { result ≡ last_matched run.now (Some path) }
 {

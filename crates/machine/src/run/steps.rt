@@ -91,7 +91,7 @@ impl<'a> Automaton<'a> {
         requires room { d < max_depth }
         ensures { run.new.bytes ≡ record run.old.bytes { now = stored_bits run.old.bytes.now d (taken_active self.now run.old.bytes.now taken.now d) (taken_seen self.now run.old.bytes.now taken.now d) (taken_matched self.now run.old.bytes.now taken.now d) (used_bytes self.now) } }
     {
-        let blocks = (self.word(STEP_COUNT_AT) + 127) / 128;
+        let blocks = self.word(STEP_COUNT_AT).div_ceil(128);
         for i in 0..blocks {
             self.store_block(run, taken, d, 16 * i);
         }
