@@ -1,4 +1,5 @@
-// Numbers as they are stored, read without a range test: for callers that know that they lie within the buffer.
+// Numbers as they are stored, read without a range test: for callers that know that they lie within the buffer. They are answered as `usize` with
+// their bound, since each caller counts on with them; what counts with them asks for bounds that it has from here.
 ghost use Rattle.std.specs.Prelude.{◌≡◌, ◌+◌, ◌≤◌, ◌<◌, length};
 ghost use Rattle.notation.specs.Layout.{word_size};
 ghost use Rattle.notation.specs.Reads.{word16};

@@ -97,7 +97,7 @@ fn tag_end(s: &[u8], name: Span, at: usize, twice: bool) -> Option<Found>
     None
 }
 
-// An end tag, whose `</` stands at the offset. Most end behind their name.
+// An end tag, whose `</` stands at the offset. Most end behind their name, as a start tag's does; after it an end has no attributes.
 #[tactic(auto, using(crate::proofs::Laws::Read::Tags::end_tags))]
 fn end_tag(s: &[u8], at: usize) -> Option<Found>
     requires { at + 2 ≤ length s.now }
