@@ -12,6 +12,7 @@ use std::alloc::{AllocError, Global};
 use std::io;
 
 // What a set and a report print.
+#[tactic(auto, using(filing::proofs::Laws::Listing::Faithful::listing_faithful))]
 fn filed(alloc: Global, set: &[u8], report: &[u8]) -> Result<Vec<u8>, AllocError>
     ensures { IfOk result (λ page. Shows PrintedFor set.now report.now page.items) }
 {

@@ -1,5 +1,5 @@
 // Building an automaton: a set is read into its first bytes, and a pass for each of its tables makes the others behind it. What a pass needs of
-// those before it stands in clauses (Linkable, Searchable, Growing), not in a type: the bytes have it from some pass on.
+// those before it stands in clauses (Linkable, Searchable, Growing): the bytes have it from some pass on, so that it would be a type for each pass.
 mod bytes;
 mod chains;
 mod fails;

@@ -67,7 +67,7 @@ fn next_part(s: &[u8], left: &[u16], right: &[u16]) -> Ordering
 #[derive(Clone, Copy, Debug, PartialEq, Eq)]
 pub struct Repeated;
 
-// Two sorted parts, merged, up to a name that both have.
+// Two sorted parts, merged, up to a name that both have. Each part goes on at its own pace, so that two places are counted.
 fn merge(s: &[u8], left: &[u16], right: &[u16], out: &mut [u16]) -> Result<(), Repeated>
     requires { length out.old ≡ length left.now + length right.now }
     ensures { MergesTo (names_at s.now left.now) (names_at s.now right.now) (is_err result) (names_at s.now out.new) }

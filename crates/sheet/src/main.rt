@@ -12,6 +12,7 @@ use std::alloc::{AllocError, Global};
 use std::io;
 
 // The class sheet of a set and a report, or the line of a refusal.
+#[tactic(auto, using(sheets::proofs::Laws::Filed::Faithful::sheet_faithful))]
 fn shown(alloc: Global, set: &[u8], report: &[u8]) -> Result<Vec<u8>, AllocError>
     ensures { IfOk result (λ page. Shows SheetFor set.now report.now page.items) }
 {

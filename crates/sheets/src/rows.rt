@@ -25,7 +25,8 @@ pub fn matched_places(a: &[u8], run: &[u8]) -> ArrayVec<u8, MAX_PATHS>
 }
 
 // The number of each place's folder. A folder's number stands from its first path on, until a later folder takes its place, so that no folder
-// is searched for each row; a fill is a few wide stores.
+// is searched for each row; a fill is a few wide stores. 0 where there is none, which no folder has: an `Option` in each place is twice as long to
+// fill, and says no more.
 pub fn folder_numbers(a: &[u8]) -> [u16; MAX_PATHS]
     ensures { Numbered a.now (folders_held a.now) result }
 {

@@ -1,5 +1,5 @@
 // The masks: for each step in set order a bit in each of them. And the initial state.
-#![tactic(auto, unfolding(stored::specs::Automaton::mask_size, stored::specs::Automaton::masks_at, stored::specs::Automaton::start_at))]
+#![tactic(auto, unfolding(stored::specs::Automaton::mask_size, stored::specs::Automaton::masks_at, stored::specs::Automaton::start_at, stored::specs::Code::Masks::rooted, stored::specs::Code::Masks::with_start, stored::specs::Code::Masks::flag_path))]
 
 ghost use Rattle.std.specs.Prelude.{◌≡◌, true, ◌+◌, ◌*◌, ◌<◌};
 ghost use Rattle.stored.specs.Automaton.{mask_size, bit};

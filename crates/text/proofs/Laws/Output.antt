@@ -13,8 +13,8 @@ use denote.Ref.{MutBor}
 use Rattle.text.specs.Answers.{said, says, value}
 use Rattle.text.specs.Order.{Condition, given}
 use Rattle.text.specs.Written.{written_into, TextWritten}
-use Rattle.std.specs.Prelude.{Result, Ok, Err, None, Some}
-use Rattle.std.specs.Option.{ok_or}
+use Rattle.std.specs.Prelude.{Option, Result, Ok, Err, None, Some}
+use Rattle.std.specs.Option.{ok_or, unwrap_or}
 use Rattle.std.specs.Result.{IsErrAnd}
 use Rattle.text.specs.declared.refusals.Refusal.{Refusal}
 use Rattle.text.specs.Refusals.{number_of}
@@ -104,8 +104,8 @@ ran_out {s} (a_piece {t = t} {u} {piece} {bytes} p r) n e i h =
     let room : m ≤ size = leb-true m size y in
     let k = p ∙ put-in s piece n e room in
     let same : length t.out.now ≡ size = ap (λ (x : Front). length x.out.now) k ∙ length-sets s.out.now n piece in
-    let (none, (front, later, are, out)) = ran_out r m (ap (λ (x : Front). x.end) k) (omega arith) (omega arith) in (
-      none,
+    let (ended, (front, later, are, out)) = ran_out r m (ap (λ (x : Front). x.end) k) (omega arith) (omega arith) in (
+      ended,
       (
         piece ++ front,
         later,
@@ -118,14 +118,30 @@ ran_out {s} (a_piece {t = t} {u} {piece} {bytes} p r) n e i h =
     let stays = late r (rw k) ∙ k in
     (ap (λ (x : Front). x.end) stays, ([], piece ++ bytes, refl, ap (λ (x : Front). x.out) stays)))
 
--- whatever the room, some first bytes were written
-pub front-written : {s t : Front} {text : List ℕ} → Adds fronted s text t → (n : ℕ) → s.end ≡ Some n → n ≤ length s.out.now
-    → (front later : List ℕ) × (front ++ later ≡ text) × (t.out ≡ record s.out { now = sets s.out.now n front })
-front-written {s} {text = text} x n e i =
-    let size = length s.out.now in
-    cases (leb (n + length text) size)
-    (λ y. (text, [], append-nil text, ap (λ (f : Front). f.out) (filled x n e (leb-true (n + length text) size y))))
-    (λ f. (ran_out x n e i (leb-false (n + length text) size f)).1)
+-- some first bytes of a text were written, at the end of a front
+abbrev pub FrontWritten : Front → List ℕ → Front → Type 0
+FrontWritten s text t = (front later : List ℕ) × (front ++ later ≡ text) × (t.out ≡ record s.out { now = sets s.out.now (unwrap_or s.end 0) front })
+
+-- so it is whatever the room; into a front that has no end, none were
+pub front-written : {s t : Front} {text : List ℕ} → Adds fronted s text t → FrontWritten s text t
+front-written no_pieces = ([], [], refl, refl)
+front-written {s} (a_piece {t = t} {u} {piece} {bytes} p r) = go s.end refl (front-written r)
+  where
+    go : (o : Option ℕ) → s.end ≡ o → FrontWritten t bytes u → FrontWritten s (piece ++ bytes) u
+    go None e w = ([], piece ++ bytes, refl, ap (λ (x : Front). x.out) (late (a_piece p r) e))
+    go (Some n) e (front, later, are, out) =
+        let size = length s.out.now in
+        cases (leb (n + length piece) size)
+        (λ y.
+        let k = p ∙ put-in s piece n e (leb-true (n + length piece) size y) in
+        let turn : u.out ≡ record s.out { now = sets s.out.now n (piece ++ front) }
+          = out
+          ∙ ap (λ (x : Front). record x.out { now = sets x.out.now (unwrap_or x.end 0) front }) k
+          ∙ ap (λ (b : List ℕ). record s.out { now = b }) (sym (sets-append s.out.now n piece front)) in
+        (piece ++ front, later, append_assoc piece front later ∙ ap (◌++◌ piece) are, rw e turn))
+        (λ f.
+        let k = p ∙ put-out s piece n e (leb-false (n + length piece) size f) in
+        ([], piece ++ bytes, refl, ap (λ (x : Front). x.out) (late r (rw k) ∙ k)))
 
 -- a refusal changes nothing
 pub into-kept : (n : ℕ) (text before : List ℕ) → (n ≡ 0 → ⊥) → written_into n text before ≡ before
