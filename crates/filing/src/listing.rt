@@ -1,4 +1,5 @@
-// Writing what the filing program prints: the listing of a run, or the line of a refusal.
+// Writing what the filing program prints: the listing of a run, or the line of a refusal. Automaton and run are passed on side by side: a struct of
+// both would be taken apart for each call of the machine.
 ghost use Rattle.std.specs.Prelude.{◌≡◌, ◌≤◌, ◌-◌, [], length};
 ghost use Rattle.model.specs.Folders.{count_from};
 ghost use Rattle.stored.specs.HeldSet.{folders_held};
