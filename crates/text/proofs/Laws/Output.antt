@@ -135,9 +135,9 @@ front-written {s} (a_piece {t = t} {u} {piece} {bytes} p r) = go s.end refl (fro
         (λ y.
         let k = p ∙ put-in s piece n e (leb-true (n + length piece) size y) in
         let turn : u.out ≡ record s.out { now = sets s.out.now n (piece ++ front) }
-          = out
-          ∙ ap (λ (x : Front). record x.out { now = sets x.out.now (unwrap_or x.end 0) front }) k
-          ∙ ap (λ (b : List ℕ). record s.out { now = b }) (sym (sets-append s.out.now n piece front)) in
+        = out
+        ∙ ap (λ (x : Front). record x.out { now = sets x.out.now (unwrap_or x.end 0) front }) k
+        ∙ ap (λ (b : List ℕ). record s.out { now = b }) (sym (sets-append s.out.now n piece front)) in
         (piece ++ front, later, append_assoc piece front later ∙ ap (◌++◌ piece) are, rw e turn))
         (λ f.
         let k = p ∙ put-out s piece n e (leb-false (n + length piece) size f) in
