@@ -20,7 +20,7 @@ fn name_byte(s: &[u8], at: usize) -> u8
 }
 
 // The names at two offsets, byte by byte; it ends with the shorter one. Two slices, whose ends are to be found first, take twice the instructions
-// to file many attributes, iterators half as many again, and `cmp` of the two bytes a twentieth.
+// to file many attributes, iterators half as many again. `cmp` is asked of two bytes that differ alone: of all it takes a twentieth more.
 #[tactic(auto, using(crate::proofs::Laws::Ordered::NameAt::comparings))]
 pub fn compare(s: &[u8], p: usize, q: usize) -> Ordering
     ensures { result ≡ order_of (name_at s.now p) (name_at s.now q) }
@@ -30,11 +30,8 @@ pub fn compare(s: &[u8], p: usize, q: usize) -> Ordering
     loop {
         let a = name_byte(s, i);
         let b = name_byte(s, j);
-        if a < b {
-            return Ordering::Less;
-        }
-        if b < a {
-            return Ordering::Greater;
+        if a != b {
+            return a.cmp(&b);
         }
         if a == 0 {
             return Ordering::Equal;

@@ -61,11 +61,9 @@ module _ (s : List ℕ) (p q : ℕ) {a b : ℕ} (one : a ≡ first_byte (name_at
   pub first-higher : b < a → order_of (name_at s p) (name_at s q) ≡ Greater
   first-higher h = higher (name_at s p) (name_at s q) (rw (one, other) at h)
 
-  module _ (low : b ≤ a) (high : a ≤ b) where
+  module _ (same : a ≡ b) where
     same_byte : first_byte (name_at s p) ≡ first_byte (name_at s q)
-    same_byte =
-        let e : a ≡ b = omega arith in
-        sym one ∙ e ∙ other
+    same_byte = sym one ∙ same ∙ other
 
     pub both_end : a ≡ 0 → order_of (name_at s p) (name_at s q) ≡ Equal
     unfolding order_of
