@@ -1,5 +1,5 @@
 // A text that is put together piece by piece: measured first, or written into a lent buffer.
-ghost use Rattle.std.specs.Prelude.{◌≡◌, [], ◌∷◌, ◌++◌, ◌+◌, ◌<◌, length, None, Some};
+ghost use Rattle.std.specs.Prelude.{◌≡◌, [], ◌∷◌, ◌++◌, ◌+◌, ◌<◌, length};
 ghost use Rattle.text.specs.Decimal.{decimal};
 ghost use Rattle.text.specs.Output.{Adds, put_at, written_to};
 
@@ -36,25 +36,25 @@ impl Sink for Length {
 #[derive(Drop)]
 pub struct Front<'a> {
     pub out: &'a mut [u8],
-    // After the last piece; none once one had no room.
-    pub end: Option<usize>,
+    // After the last piece; an error once one had no room, and then after the last that had.
+    pub end: Result<usize, usize>,
 }
 
 impl<'a> Front<'a> {
-    ghost use Rattle.std.specs.Option.{ok_or};
+    ghost use Rattle.std.specs.Result.{result_or};
     ghost use Rattle.text.specs.declared.refusals.Refusal.TheVariants.{ShortBuffer};
 
     pub fn new(out: &'a mut [u8]) -> Front<'a>
-        ensures { result ≡ record { out = out.entry; end = Some 0 } }
+        ensures { result ≡ record { out = out.entry; end = Ok 0 } }
     {
-        Front { out, end: Some(0) }
+        Front { out, end: Ok(0) }
     }
 
     // The bytes that all pieces take, if all had room.
     pub fn written(&self) -> Result<usize, Refusal>
-        ensures { result ≡ ok_or self.now.end ShortBuffer }
+        ensures { result ≡ result_or self.now.end (Err ShortBuffer) }
     {
-        self.end.ok_or(Refusal::ShortBuffer)
+        self.end.or(Err(Refusal::ShortBuffer))
     }
 }
 
@@ -64,24 +64,24 @@ impl Sink for Front<'_> {
     ghost puts = { fronted };
 
     fn put(&mut self, piece: &[u8]) {
-        if let Some(at) = self.end {
+        if let Ok(at) = self.end {
             self.end = put_piece(self.out, at, piece);
         }
     }
 }
 
-// A piece from an offset on, if it has room there, and where it ends.
+// A piece from an offset on, if it has room there, and where it ends; else that offset.
 #[tactic(auto, using(crate::proofs::Laws::Output::written_part))]
-fn put_piece(out: &mut [u8], at: usize, piece: &[u8]) -> Option<usize>
+fn put_piece(out: &mut [u8], at: usize, piece: &[u8]) -> Result<usize, usize>
     ensures end { result ≡ put_at (length out.old) at piece.now }
     ensures leaves { out.new ≡ written_to result out.old at piece.now }
 {
     let end = at.saturating_add(piece.len());
     if end > out.len() {
-        return None;
+        return Err(at);
     }
     out[at..end].copy_from_slice(piece);
-    Some(end)
+    Ok(end)
 }
 
 // A digit.

@@ -13,9 +13,8 @@ use denote.Ref.{MutBor}
 use Rattle.text.specs.Answers.{said, says, value}
 use Rattle.text.specs.Order.{Condition, given}
 use Rattle.text.specs.Written.{written_into, TextWritten}
-use Rattle.std.specs.Prelude.{Option, Result, Ok, Err, None, Some}
-use Rattle.std.specs.Option.{ok_or, unwrap_or}
-use Rattle.std.specs.Result.{IsErrAnd}
+use Rattle.std.specs.Prelude.{Result, Ok, Err}
+use Rattle.std.specs.Result.{IsErrAnd, result_or}
 use Rattle.text.specs.declared.refusals.Refusal.{Refusal}
 use Rattle.text.specs.Refusals.{number_of}
 use Rattle.text.proofs.Laws.Numbers.{some_number}
@@ -23,7 +22,7 @@ use Rattle.text.proofs.Laws.Results.{err_says, handed_on}
 use Rattle.text.proofs.Laws.Tests.{cases}
 use Rattle.text.specs.declared.output.Length.{Length}
 use Rattle.text.specs.declared.output.Front.{Front}
-use Rattle.text.specs.Output.{Adds, no_pieces, a_piece, measured, fronted}
+use Rattle.text.specs.Output.{Adds, no_pieces, a_piece, measured, reached, fronted}
 
 -- stored one after the other
 sets-append : (l : List ℕ) (i : ℕ) (x y : List ℕ) → sets l i (x ++ y) ≡ sets (sets l i x) (i + length x) y
@@ -64,24 +63,24 @@ measured-length {s} (a_piece {t = t} {piece = piece} {bytes} e r) h =
 
 -- a piece into the front of a buffer: once one had no room, with room, and the first that has none
 module _ (s : Front) (piece : List ℕ) where
-  pub put-late : s.end ≡ None → fronted s piece ≡ s
-  put-late e = rw e
+  pub put-late : (at : ℕ) → s.end ≡ Err at → fronted s piece ≡ s
+  put-late at e = rw e
 
-  module _ (n : ℕ) (e : s.end ≡ Some n) where
-    pub put-in : n + length piece ≤ length s.out.now → fronted s piece ≡ record { out = record s.out { now = sets s.out.now n piece }; end = Some (n + length piece) }
+  module _ (n : ℕ) (e : s.end ≡ Ok n) where
+    pub put-in : n + length piece ≤ length s.out.now → fronted s piece ≡ record { out = record s.out { now = sets s.out.now n piece }; end = Ok (n + length piece) }
     put-in h = rw (e, le-leb (n + length piece) (length s.out.now) h)
 
-    pub put-out : length s.out.now < n + length piece → fronted s piece ≡ record { out = s.out; end = None }
+    pub put-out : length s.out.now < n + length piece → fronted s piece ≡ record { out = s.out; end = Err n }
     put-out h = rw (e, lt-leb (n + length piece) (length s.out.now) h)
 
 -- a text after that changes nothing
-late : {s t : Front} {text : List ℕ} → Adds fronted s text t → s.end ≡ None → t ≡ s
-late no_pieces e = refl
-late {s} (a_piece {t = t} {piece = piece} p r) e = let k : t ≡ s = p ∙ put-late s piece e in late r (rw k e) ∙ k
+pub kept : {s t : Front} {text : List ℕ} → Adds fronted s text t → (at : ℕ) → s.end ≡ Err at → t ≡ s
+kept no_pieces at e = refl
+kept {s} (a_piece {t = t} {piece = piece} p r) at e = let k : t ≡ s = p ∙ put-late s piece at e in kept r at (rw k e) ∙ k
 
 -- a text that has room is written whole, and the front ends after it
-pub filled : {s t : Front} {text : List ℕ} → Adds fronted s text t → (n : ℕ) → s.end ≡ Some n → n + length text ≤ length s.out.now
-    → t ≡ record { out = record s.out { now = sets s.out.now n text }; end = Some (n + length text) }
+pub filled : {s t : Front} {text : List ℕ} → Adds fronted s text t → (n : ℕ) → s.end ≡ Ok n → n + length text ≤ length s.out.now
+    → t ≡ record { out = record s.out { now = sets s.out.now n text }; end = Ok (n + length text) }
 filled {s} no_pieces n e h = rw (add-zero n, ← e)
 filled {s} (a_piece {t = t} {u} {piece} {bytes} p r) n e h =
     let l : length (piece ++ bytes) ≡ length piece + length bytes = length-append piece bytes in
@@ -91,9 +90,9 @@ filled {s} (a_piece {t = t} {u} {piece} {bytes} p r) n e h =
     (rw (ap (λ (x : Front). length x.out.now) k, length-sets s.out.now n piece) (omega arith)) in
     rw (w, k, l, sum, sets-append s.out.now n piece bytes)
 
--- one that has none is written in part, and the front has no end
-pub ran_out : {s t : Front} {text : List ℕ} → Adds fronted s text t → (n : ℕ) → s.end ≡ Some n → n ≤ length s.out.now → length s.out.now < n + length text
-    → (t.end ≡ None) × ((front later : List ℕ) × (front ++ later ≡ text) × (t.out ≡ record s.out { now = sets s.out.now n front }))
+-- one that has none is written in part, and the front tells how far
+pub ran_out : {s t : Front} {text : List ℕ} → Adds fronted s text t → (n : ℕ) → s.end ≡ Ok n → n ≤ length s.out.now → length s.out.now < n + length text
+    → (front later : List ℕ) × (front ++ later ≡ text) × (t.out ≡ record s.out { now = sets s.out.now n front }) × (t.end ≡ Err (n + length front))
 ran_out no_pieces n e i h = absurd (omega arith)
 ran_out {s} (a_piece {t = t} {u} {piece} {bytes} p r) n e i h =
     let m = n + length piece in
@@ -104,44 +103,46 @@ ran_out {s} (a_piece {t = t} {u} {piece} {bytes} p r) n e i h =
     let room : m ≤ size = leb-true m size y in
     let k = p ∙ put-in s piece n e room in
     let same : length t.out.now ≡ size = ap (λ (x : Front). length x.out.now) k ∙ length-sets s.out.now n piece in
-    let (ended, (front, later, are, out)) = ran_out r m (ap (λ (x : Front). x.end) k) (omega arith) (omega arith) in (
-      ended,
-      (
-        piece ++ front,
-        later,
-        append_assoc piece front later ∙ ap (◌++◌ piece) are,
-        out ∙ ap (λ (x : Front). record x.out { now = sets x.out.now m front }) k ∙ ap (λ (b : List ℕ). record s.out { now = b }) (sym (sets-append s.out.now n piece front)),
-      ),
+    let (front, later, are, out, end) = ran_out r m (ap (λ (x : Front). x.end) k) (omega arith) (omega arith) in (
+      piece ++ front,
+      later,
+      append_assoc piece front later ∙ ap (◌++◌ piece) are,
+      out ∙ ap (λ (x : Front). record x.out { now = sets x.out.now m front }) k ∙ ap (λ (b : List ℕ). record s.out { now = b }) (sym (sets-append s.out.now n piece front)),
+      end ∙ ap Err (omega (arith, length-append piece front)),
     ))
     (λ f.
     let k = p ∙ put-out s piece n e (leb-false m size f) in
-    let stays = late r (rw k) ∙ k in
-    (ap (λ (x : Front). x.end) stays, ([], piece ++ bytes, refl, ap (λ (x : Front). x.out) stays)))
+    let stays = kept r n (ap (λ (x : Front). x.end) k) ∙ k in
+    ([], piece ++ bytes, refl, ap (λ (x : Front). x.out) stays, ap (λ (x : Front). x.end) stays ∙ ap Err (sym (add-zero n))))
 
--- some first bytes of a text were written, at the end of a front
+-- some first bytes of a text were written, from the place of a front on, and its place is after them
 abbrev pub FrontWritten : Front → List ℕ → Front → Type 0
-FrontWritten s text t = (front later : List ℕ) × (front ++ later ≡ text) × (t.out ≡ record s.out { now = sets s.out.now (unwrap_or s.end 0) front })
+FrontWritten s text t = (front later : List ℕ) × (front ++ later ≡ text) × (t.out ≡ record s.out { now = sets s.out.now (reached s.end) front }) × (reached t.end ≡ reached s.end + length front)
 
--- so it is whatever the room; into a front that has no end, none were
+-- so it is whatever the room; once a piece had none, none are
 pub front-written : {s t : Front} {text : List ℕ} → Adds fronted s text t → FrontWritten s text t
-front-written no_pieces = ([], [], refl, refl)
+front-written {s} no_pieces = ([], [], refl, refl, sym (add-zero (reached s.end)))
 front-written {s} (a_piece {t = t} {u} {piece} {bytes} p r) = go s.end refl (front-written r)
   where
-    go : (o : Option ℕ) → s.end ≡ o → FrontWritten t bytes u → FrontWritten s (piece ++ bytes) u
-    go None e w = ([], piece ++ bytes, refl, ap (λ (x : Front). x.out) (late (a_piece p r) e))
-    go (Some n) e (front, later, are, out) =
+    go : (o : Result ℕ ℕ) → s.end ≡ o → FrontWritten t bytes u → FrontWritten s (piece ++ bytes) u
+    go (Err n) e w =
+        let stays = kept (a_piece p r) n e in
+        ([], piece ++ bytes, refl, ap (λ (x : Front). x.out) stays, ap (λ (x : Front). reached x.end) stays ∙ sym (add-zero (reached s.end)))
+    go (Ok n) e (front, later, are, out, end) =
         let size = length s.out.now in
         cases (leb (n + length piece) size)
         (λ y.
         let k = p ∙ put-in s piece n e (leb-true (n + length piece) size y) in
         let turn : u.out ≡ record s.out { now = sets s.out.now n (piece ++ front) }
         = out
-        ∙ ap (λ (x : Front). record x.out { now = sets x.out.now (unwrap_or x.end 0) front }) k
+        ∙ ap (λ (x : Front). record x.out { now = sets x.out.now (reached x.end) front }) k
         ∙ ap (λ (b : List ℕ). record s.out { now = b }) (sym (sets-append s.out.now n piece front)) in
-        (piece ++ front, later, append_assoc piece front later ∙ ap (◌++◌ piece) are, rw e turn))
+        let on : reached u.end ≡ n + length (piece ++ front) = end ∙ ap (λ (x : Front). reached x.end + length front) k ∙ omega (arith, length-append piece front) in
+        (piece ++ front, later, append_assoc piece front later ∙ ap (◌++◌ piece) are, rw e turn, rw e on))
         (λ f.
         let k = p ∙ put-out s piece n e (leb-false (n + length piece) size f) in
-        ([], piece ++ bytes, refl, ap (λ (x : Front). x.out) (late r (rw k) ∙ k)))
+        let stays = kept r n (ap (λ (x : Front). x.end) k) ∙ k in
+        ([], piece ++ bytes, refl, ap (λ (x : Front). x.out) stays, ap (λ (x : Front). reached x.end) stays ∙ rw (e, add-zero n)))
 
 -- a refusal changes nothing
 pub into-kept : (n : ℕ) (text before : List ℕ) → (n ≡ 0 → ⊥) → written_into n text before ≡ before
@@ -177,9 +178,9 @@ module _ (order : List Condition) (text out : List ℕ) where
 
 -- into the front of a buffer, which at the end is `after`: what the front left of it, as long as it is the same reference
 module _ (order : List Condition) (text : List ℕ) (out : MutBor (List ℕ)) (z : given order ≡ 0) (l : length text ≤ length out.now) {t : Front}
-    (x : Adds fronted (record { out = out; end = Some 0 }) text t) where
+    (x : Adds fronted (record { out = out; end = Ok 0 }) text t) where
   pub same-buffer : out.ghost_name ≡ t.out.ghost_name
   same-buffer = sym (ap (λ (f : Front). f.out.ghost_name) (filled x 0 refl (omega arith)))
 
-  pub written_as : (answer : Result ℕ Refusal) (after : List ℕ) (r : Refusal) → answer ≡ ok_or t.end r → after ≡ t.out.now → TextWritten order text out.now answer after
+  pub written_as : (answer : Result ℕ Refusal) (after : List ℕ) (r : Refusal) → answer ≡ result_or t.end (Err r) → after ≡ t.out.now → TextWritten order text out.now answer after
   written_as answer after r e a = let w = filled x 0 refl (omega arith) in record { answers = rw (e, w, z, zero-add (length text)); leaves = rw (a, w, z) }
