@@ -45,7 +45,7 @@ fn fill(text: &[u8], part: &mut [u8])
     requires { (set_size ≤ length part.old) × (length text.now ≤ max_set_bytes) }
     ensures { (s : FolderSet) → Accepted text.now s → part.new ≡ set_part s ++ drop set_size part.old }
 {
-    part[..SET_SIZE].fill(0);
+    store::clear(part, SET_SIZE);
     part[TEXT_AT..TEXT_AT + text.len()].copy_from_slice(text);
     if let Some(tally) = take_set(text, part) {
         put_counts(part, text.len(), tally);

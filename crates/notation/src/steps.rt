@@ -52,7 +52,7 @@ fn test_at(text: &[u8], from: usize, descendant: bool) -> Option<StepFound>
     })
 }
 
-#[tactic(auto, using(crate::proofs::Laws::Taking::Ahead::tail_word, crate::proofs::Laws::Taking::Found::steps))]
+#[tactic(auto, using(text::proofs::Laws::Words::tail_word, crate::proofs::Laws::Taking::Found::steps))]
 pub fn step_at(text: &[u8], at: usize) -> Option<StepFound>
     ensures { result ≡ step_found at (read_step (drop at text.now)) }
 {

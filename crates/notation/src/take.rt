@@ -8,6 +8,7 @@ use crate::reads::{StoredLabel, StoredPath};
 use crate::steps::{StepFound, step_at};
 use crate::tally::Tally;
 use text::numbers::number_at;
+use text::words::word_at;
 
 // The entry of a step, and of its label.
 fn put_found(part: &mut [u8], t: Tally, found: StepFound)
@@ -42,11 +43,10 @@ impl<'a> Reading<'a> {
     ghost use Rattle.notation.specs.Code.Readings.{ahead, Takes, Moves, At, Ran};
 
     // The word stands next.
-    #[tactic(auto, using(crate::proofs::Laws::Taking::Ahead::tail_word))]
     fn begins(&self, word: &[u8]) -> bool
         ensures { result ≡ starts_with word.now (ahead self.now) }
     {
-        self.text[self.tally.at..].starts_with(word)
+        word_at(self.text, self.tally.at, word)
     }
 
     #[tactic(auto, using(crate::proofs::Laws::Taking::Ahead::words), unfolding(crate::specs::Code::Taking::moved))]

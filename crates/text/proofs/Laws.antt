@@ -8,6 +8,7 @@ pub mod Bytes
 pub mod Decimal
 pub mod Fronts
 pub mod Scans
+pub mod Words
 pub mod Reads
 pub mod ReadNumber
 pub mod NumberScan

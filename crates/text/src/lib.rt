@@ -6,3 +6,4 @@ pub mod numbers;
 pub mod output;
 pub mod refusals;
 pub mod store;
+pub mod words;

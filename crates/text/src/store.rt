@@ -1,8 +1,16 @@
 // Plain writes into a lent buffer. Any place is answered: what would lie past the buffer's end is not written. A slice has no method for that:
 // its own ask that there be room.
-ghost use Rattle.std.specs.Prelude.{◌≡◌, ◌++◌};
+ghost use Rattle.std.specs.Prelude.{◌≡◌, ◌++◌, min, length, drop, replicate};
 ghost use Rattle.std.proofs.lemmas.List.Edits.{sets};
 ghost use Rattle.text.specs.Bytes.{le16};
+
+// Zeros in the first `n` bytes.
+pub fn clear(part: &mut [u8], n: usize)
+    ensures { part.new ≡ replicate (min n (length part.old)) 0 ++ drop n part.old }
+{
+    let end = n.min(part.len());
+    part[..end].fill(0);
+}
 
 // The bytes of a slice, from `at` on.
 #[tactic(auto, using(crate::proofs::Laws::Bytes::Cut::copies))]

@@ -1,12 +1,12 @@
 -- What taking a whole text comes to: its refusal, and, of an accepted one, the bytes of its set.
-use Prim.Native.Nat.{ℕ, ◌+◌, ◌-◌, ◌≤◌}
+use Prim.Native.Nat.{ℕ, ◌+◌, ◌-◌, ◌≤◌, min}
 use native.Mathlib.Omega.{arith}
 use native.Mathlib.Nat.{zero-add}
 use mathlib.Core.Path.{◌≡◌, sym, ap, ◌∙◌}
 use mathlib.Core.List.{List, [], ◌++◌, append_assoc}
 use borrow.Author.Tests.{ltb-false}
-use lib.ListN.{length, take, drop, replicate, length-append, length-replicate}
-use lib.Seq.{sets, sets-eq, length-take-le, drop-drop}
+use lib.ListN.{length, drop, replicate, length-append, length-replicate}
+use lib.Seq.{sets, sets-eq, drop-drop}
 use borrow.Rule.Slice.PartMut.{put_mid}
 use Rattle.std.specs.Prelude.{Result, Ok, Err}
 use Rattle.text.specs.declared.refusals.Refusal.{Refusal}
@@ -48,16 +48,15 @@ short_text text z = cases (over_bytes text) (λ t. absurd (none-err (rw t at z))
     none-err e = let n : ◌≡◌ {A = ℕ} 0 1 = cc in omega arith
 
 -- a buffer that has room is cleared, and the text copied into it
-pub cleared-copied : (text part zeros copied : List ℕ) → set_size ≤ length part → length text ≤ max_set_bytes
-    → zeros ≡ replicate (length (take set_size part)) 0 → copied ≡ text
-    → put_mid text_at (text_at + length text - text_at) (zeros ++ drop set_size part) copied ≡ sets (replicate set_size 0 ++ drop set_size part) text_at text
+pub cleared-copied : (text part copied : List ℕ) → set_size ≤ length part → length text ≤ max_set_bytes → copied ≡ text
+    → put_mid text_at (text_at + length text - text_at) (replicate (min set_size (length part)) 0 ++ drop set_size part) copied ≡ sets (replicate set_size 0 ++ drop set_size part) text_at text
 unfolding set_size max_set_bytes text_at
-cleared-copied text part zeros copied room few z same =
-    let all : length (take set_size part) ≡ set_size = length-take-le set_size part room in
+cleared-copied text part copied room few same =
+    let all : min set_size (length part) ≡ set_size = omega arith in
     let size : text_at + length text - text_at ≡ length text = omega arith in
     let whole : List ℕ = replicate set_size 0 ++ drop set_size part in
     let fits : text_at + length text ≤ length whole = omega (arith, length-append (replicate set_size 0) (drop set_size part), length-replicate {A = ℕ} set_size 0) in
-    rw (z, all, size, same, drop-drop (length text) text_at whole, sets-eq text whole text_at fits, append_assoc)
+    rw (all, size, same, drop-drop (length text) text_at whole, sets-eq text whole text_at fits, append_assoc)
 
 -- and is laid out
 module _ (text rest : List ℕ) (s : FolderSet) (a : Accepted text s) where
@@ -83,4 +82,4 @@ module _ (text rest : List ℕ) (s : FolderSet) (a : Accepted text s) where
       read_one : {q : FolderSet} {r : List ℕ} → got q r ≡ got s [] → q ≡ s
       read_one e = cc
 
-pub ruleset filled = (cleared-copied, unread, laid_out)
+pub ruleset filled = (cleared-copied, unread)
