@@ -31,9 +31,9 @@ pub const LABEL_STEP_IN: usize = LABEL_LENGTH_IN + WORD_SIZE;
 pub const LABEL_SIZE: usize = LABEL_STEP_IN + WORD_SIZE;
 
 // A step: 1 for `//`, and 2 more for `*`, so four kinds.
-pub const STAR_KIND: u8 = 2;
+pub const STAR_KIND: usize = 2;
 
-pub const STEP_KINDS: usize = 2 * STAR_KIND as usize;
+pub const STEP_KINDS: usize = 2 * STAR_KIND;
 
 // The counts.
 pub const TEXT_LEN_AT: usize = 0;

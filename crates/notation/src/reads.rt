@@ -59,7 +59,7 @@ impl StoredStep {
     pub fn kind(self) -> u8
         ensures { result ≡ kind_of self }
     {
-        u8::from(self.descendant) + STAR_KIND * u8::from(self.star)
+        u8::from(self.descendant) + STAR_KIND as u8 * u8::from(self.star)
     }
 
     pub fn of_kind(kind: u8) -> StoredStep
@@ -67,7 +67,7 @@ impl StoredStep {
     {
         StoredStep {
             descendant: kind % 2 == 1,
-            star: kind / STAR_KIND % 2 == 1,
+            star: kind / STAR_KIND as u8 % 2 == 1,
         }
     }
 }

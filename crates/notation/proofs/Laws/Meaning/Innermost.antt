@@ -123,3 +123,6 @@ module _ (p : Path) (s : ℕ) where
 -- there is no step 0
 pub active-zero : (p : Path) (names : List Name) → active p zero names ≡ false
 active-zero p names = (never p zero (reverse names) (zeroth p)).0
+
+pub seen-zero : (p : Path) (names : List Name) → seen p zero names ≡ false
+seen-zero p names = (never p zero (reverse names) (zeroth p)).1

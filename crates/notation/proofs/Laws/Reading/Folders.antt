@@ -42,20 +42,6 @@ unfolding print_folders print_many
 folders-many [] = refl
 folders-many (f ∷ fs) = rw (folders-many fs) (sym (append_assoc (print_folder f) (print_many print_folder fs) footer))
 
-pub set-sound : (l : List ℕ) → WhenRead (λ s r. (formed s ≡ true) × (r ≡ []) × (print s ≡ l)) (read_set l)
-unfolding read_set formed print
-set-sound l =
-    then-holds (word_sound header l) (λ w r first.
-    then-holds (many-sound folder-good r) (λ fs r₂ folders.
-    then-holds (word_sound footer r₂) (λ u r₃ last.
-    when-holds (not (non_empty r₃)) (λ none.
-    let whole : footer ≡ r₂ = rw (ended r₃ none, append-nil footer) at last in
-    gotten (folders.0, ended r₃ none, rw (folders-many fs, whole, folders.1) first)))))
-  where
-    ended : (r : List ℕ) → not (non_empty r) ≡ true → r ≡ []
-    ended [] t = refl
-    ended (b ∷ r) t = absurd (false≢true t)
-
 -- after a number comes no digit
 number-ends : (ps : List Path) (r : List ℕ) → stops digit (print_paths ps ++ (footer ++ r)) ≡ true
 unfolding digit print_paths footer
@@ -90,6 +76,20 @@ unfolding read_set formed print starts_with footer
 set_back s h =
     let one : Back read_folder print_folder formed_folder (λ k. true) = record { back = λ f k g t. folder-back f k g; next = λ f k g. refl } in
     rw (word_back header (print_folders s), folders-many s, many-back folder-begins one s footer h refl refl, word_back footer [])
+
+pub set-sound : (l : List ℕ) → WhenRead (λ s r. (formed s ≡ true) × (r ≡ []) × (print s ≡ l)) (read_set l)
+unfolding read_set formed print
+set-sound l =
+    then-holds (word_sound header l) (λ w r first.
+    then-holds (many-sound folder-good r) (λ fs r₂ folders.
+    then-holds (word_sound footer r₂) (λ u r₃ last.
+    when-holds (not (non_empty r₃)) (λ none.
+    let whole : footer ≡ r₂ = rw (ended r₃ none, append-nil footer) at last in
+    gotten (folders.0, ended r₃ none, rw (folders-many fs, whole, folders.1) first)))))
+  where
+    ended : (r : List ℕ) → not (non_empty r) ≡ true → r ≡ []
+    ended [] t = refl
+    ended (b ∷ r) t = absurd (false≢true t)
 
 pub print-same : (s t : FolderSet) → formed s ≡ true → formed t ≡ true → print s ≡ print t → s ≡ t
 print-same s t hs ht e =

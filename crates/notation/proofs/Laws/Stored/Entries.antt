@@ -1,7 +1,7 @@
 -- A table is its entries, all of one width, one after the other: entry i of a table that stands at a place stands i widths further on.
 use Prim.Native.Nat.{ℕ, zero, suc, ◌+◌, ◌*◌, ◌<◌}
 use mathlib.Core.Path.{◌≡◌, refl, sym}
-use mathlib.Core.List.{List, [], ◌∷◌, map}
+use mathlib.Core.List.{List, [], ◌∷◌, ◌++◌, map}
 use native.Mathlib.Nat.{add-zero, mul-zero, mul-suc, not-suc-le-zero, le_of_suc-le-suc}
 use native.Mathlib.Omega.{arith}
 use lib.ListN.{length, get_or, length-append}
@@ -11,6 +11,10 @@ use Rattle.notation.proofs.Laws.Stored.Stands.{Stands, left, right}
 pub data OfWidth (w : ℕ) : List (List ℕ) → Type 0 where
   none : OfWidth w []
   more : {e : List ℕ} {es : List (List ℕ)} → length e ≡ w → OfWidth w es → OfWidth w (e ∷ es)
+
+pub width-append : {w : ℕ} {es fs : List (List ℕ)} → OfWidth w es → OfWidth w fs → OfWidth w (es ++ fs)
+width-append none g = g
+width-append (more h o) g = more h (width-append o g)
 
 -- entries made by one function
 module _ {A : Type 0} (g : A → List ℕ) where

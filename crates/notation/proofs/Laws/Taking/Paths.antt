@@ -1,17 +1,18 @@
 -- A path, taken as it is read: its word, its steps, its entry, its bracket.
-use Prim.Native.Nat.{ℕ, ◌+◌, ◌-◌, ◌*◌, ◌<◌}
+use Prim.Native.Nat.{ℕ, ◌+◌, ◌-◌, ◌*◌, ◌≤◌, ◌<◌}
 use native.Mathlib.Omega.{arith}
 use mathlib.Core.Path.{◌≡◌, refl, ap, ap₂, ◌∙◌}
 use mathlib.Core.Bool.{true}
 use mathlib.Core.List.{[], ◌∷◌}
-use lib.ListN.{length}
+use lib.ListN.{length, length-append}
 use lib.Seq.{sets}
 use Rattle.std.specs.Prelude.{Option, Some, None, MatchOption}
 use Rattle.std.specs.Borrow.{MutBor}
 use Rattle.text.specs.Lists.{non_empty}
 use Rattle.text.specs.Read.{fail, got, then_read, when, read_word}
-use Rattle.notation.specs.Sets.{Step, Path}
-use Rattle.notation.specs.Print.{print_path}
+use Rattle.notation.specs.Sets.{label, star, Step, step, Path, test_of}
+use Rattle.notation.specs.Print.{print_step, print_path}
+use Rattle.notation.specs.Form.{labels_of, label_of}
 use Rattle.notation.specs.Layout.{path_size, paths_at, path_entry}
 use Rattle.notation.specs.Code.Reader.{read_steps, read_path}
 use Rattle.notation.specs.Code.Taking.{path_first, path_ended, path_counted, State, state, moved, take_step, take_all, take_path, Small}
@@ -20,6 +21,21 @@ use Rattle.notation.specs.declared.tally.Tally.{Tally}
 use Rattle.notation.specs.declared.take.Reading.{Reading}
 use Rattle.notation.proofs.Laws.Taking.Grown.{steps-grown, path-grown, step-grown}
 use Rattle.notation.proofs.Laws.Taking.Steps.{some_byte}
+
+-- the steps of a path are no more than its bytes, and its labels, at most one a step, no more than its steps
+pub many-bytes : (p : Path) → length p ≤ length (print_path p)
+unfolding print_path
+many-bytes [] = omega arith
+many-bytes (x ∷ p) = omega (arith, many-bytes p, some_byte x, length-append (print_step x) (print_path p))
+
+few-labels : (x : Step) → length (label_of (test_of x)) ≤ 1
+few-labels (step a (label n)) = omega arith
+few-labels (step a star) = omega arith
+
+pub many-labels : (p : Path) → length (labels_of p) ≤ length p
+unfolding labels_of
+many-labels [] = omega arith
+many-labels (x ∷ p) = omega (arith, many-labels p, few-labels x, length-append (label_of (test_of x)) (labels_of p))
 
 pub step-moves : (x : Step) (s : State) → s.tally.at < (take_step x s).tally.at
 step-moves x s = omega (arith, (step-grown x s).at, some_byte x)
