@@ -1,6 +1,6 @@
 // How answers print.
-use std::fmt;
 use std::fmt::Write;
+use std::{fmt, io};
 use text::refusals::Refusal;
 
 // Bytes as text; one that does not print stands as `?`.
@@ -51,4 +51,20 @@ impl fmt::Display for Number {
         let number = self.0.map_or_else(Refusal::number, |()| 0);
         write!(f, "{number}")
     }
+}
+
+// Bytes as they are, which may be no text, and a line end.
+pub fn print_line(rt: &impl Print, bytes: &[u8]) -> io::Result<()> {
+    rt.write_all(bytes)?;
+    println!(rt; "")
+}
+
+// A name as it is, and what was answered.
+pub fn print_named<D: fmt::Display + Drop>(
+    rt: &impl Print,
+    name: &[u8],
+    answer: D,
+) -> io::Result<()> {
+    rt.write_all(name)?;
+    println!(rt; ": {answer}")
 }
