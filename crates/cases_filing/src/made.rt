@@ -1,52 +1,57 @@
 // Reports made of repeated pieces.
 use crate::bench::file;
-use anyhow::Result;
+use cases::texts::Text;
 use std::fmt::Write;
+use std::io;
 
-fn file_named(rt: &(impl Print + AllocGlobal), name: &str, report: &str) -> Result<()> {
+// Bytes of a report at most: one more than filing takes.
+const ROOM: usize = 65537;
+
+fn file_named(rt: &impl Print, name: &str, report: &[u8]) -> io::Result<()> {
     let set = "(folders\n(folder 1 (//a))\n)\n";
-    file(rt, name.as_bytes(), set, report.as_bytes())
+    file(rt, name.as_bytes(), set, report)
 }
 
 // Elements in one another, other text, and as many end tags.
 pub fn nested(
-    rt: &(impl Print + AllocGlobal),
+    rt: &impl Print,
     name: &str,
     count: usize,
     middle: &str,
     closes: usize,
-) -> Result<()> {
-    let mut report = "<a>".repeat(rt.alloc(), count)?;
-    report.push_str(middle)?;
-    report.push_str("</a>".repeat(rt.alloc(), closes)?.as_str())?;
-    file_named(rt, name, report.as_str())
+) -> io::Result<()> {
+    let mut report = Text::<ROOM>::new();
+    report.times(b"<a>", count);
+    report.add(middle.as_bytes());
+    report.times(b"</a>", closes);
+    file_named(rt, name, report.as_slice())
 }
 
 // An element with text of so many bytes.
-pub fn sized(rt: &(impl Print + AllocGlobal), name: &str, count: usize) -> Result<()> {
-    let text = "x".repeat(rt.alloc(), count)?;
-    let report = format!(in rt.alloc(); "<a>{text}</a>")?;
-    file_named(rt, name, report.as_str())
+pub fn sized(rt: &impl Print, name: &str, count: usize) -> io::Result<()> {
+    let mut report = Text::<ROOM>::new();
+    report.add(b"<a>");
+    report.times(b"x", count);
+    report.add(b"</a>");
+    file_named(rt, name, report.as_slice())
 }
 
 // A tag with so many attributes of different names, n0000, n0001 and so on, and one more of this name.
-pub fn attributes(
-    rt: &(impl Print + AllocGlobal),
-    name: &str,
-    count: usize,
-    last: &str,
-) -> Result<()> {
-    let mut report = String::from_str(rt.alloc(), "<a")?;
+pub fn attributes(rt: &impl Print, name: &str, count: usize, last: &str) -> io::Result<()> {
+    let mut report = Text::<ROOM>::new();
+    report.add(b"<a");
     for i in 0..count {
-        write!(report, " n{i:04}=''")?;
+        let _ = write!(report, " n{i:04}=''");
     }
-    write!(report, " {last}=''/>")?;
-    file_named(rt, name, report.as_str())
+    let _ = write!(report, " {last}=''/>");
+    file_named(rt, name, report.as_slice())
 }
 
 // A tag with so many attributes of one name.
-pub fn alike(rt: &(impl Print + AllocGlobal), name: &str, count: usize) -> Result<()> {
-    let inside = " b=''".repeat(rt.alloc(), count)?;
-    let report = format!(in rt.alloc(); "<a{inside}/>")?;
-    file_named(rt, name, report.as_str())
+pub fn alike(rt: &impl Print, name: &str, count: usize) -> io::Result<()> {
+    let mut report = Text::<ROOM>::new();
+    report.add(b"<a");
+    report.times(b" b=''", count);
+    report.add(b"/>");
+    file_named(rt, name, report.as_slice())
 }

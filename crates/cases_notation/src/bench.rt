@@ -2,99 +2,112 @@
 // N bytes of the buffer from here on. `=fill N`: every byte of the part is N. `>N NAME`: the set is written to N bytes. `#`: printed as it is.
 // `;`: a remark.
 use crate::stored;
-use anyhow::{Context, Result, bail};
-use cases::answers::{Number, YesNo};
+use cases::answers::{Number, YesNo, print_named};
 use cases::lent::Lent;
-use cases::script::{self, Line, byte, number, split_word};
-use cases::texts::{expand, split_name};
+use cases::script::{self, Line, byte, number, split_word, trimmed};
+use cases::texts::{MAX_TEXT, Text, expand, split_name};
 use notation::layout::SET_SIZE;
 use notation::read::read_set;
 use notation::write::write_text;
-use std::alloc::Global;
+use std::io;
 use text::names;
 
-// The part that a set is read into, with a byte after it.
+// With a byte after it.
+const PART_ROOM: usize = SET_SIZE + 1;
+
+// The part that a set is read into.
 #[derive(Drop)]
 pub struct Bench {
-    part: Lent,
+    part: Lent<PART_ROOM>,
 }
 
 impl script::Bench for Bench {
-    fn new(alloc: Global) -> Result<Self> {
-        let part = Lent::new(alloc, 0, SET_SIZE + 1, SET_SIZE)?;
-        Ok(Bench { part })
+    fn new() -> Self {
+        Bench {
+            part: Lent::new(0, SET_SIZE),
+        }
     }
 
-    fn carry_out(&mut self, rt: &(impl Print + AllocGlobal), sign: char, line: Line) -> Result<()> {
+    fn carry_out(&mut self, rt: &impl Print, sign: u8, line: Line) -> io::Result<()> {
+        // After a size past the buffer every line is passed over.
+        if !self.part.fits() {
+            return Ok(());
+        }
         match sign {
-            ';' => Ok(()),
-            '#' => Ok(println!(rt; "{}", line.rest)?),
-            '>' => self.write_back(rt, line.rest),
-            '?' => self.ask(rt, line.rest),
-            '=' => self.put(line.rest),
-            _ => self.read(rt, line.whole),
+            b';' => Ok(()),
+            b'#' => rt.write_all(line.rest),
+            b'>' => self.write_back(rt, line.rest),
+            b'?' => self.ask(rt, line.rest),
+            b'=' => {
+                self.put(line.rest);
+                Ok(())
+            }
+            _ => self.read(rt, trimmed(line.whole)),
         }
     }
 }
 
 impl Bench {
-    fn read(&mut self, rt: &(impl Print + AllocGlobal), line: &str) -> Result<()> {
-        let (name, text) = split_name(line)?;
-        let set = expand(rt.alloc(), text)?;
+    fn read(&mut self, rt: &impl Print, line: &[u8]) -> io::Result<()> {
+        let (name, text) = split_name(line);
+        let mut set = Text::<MAX_TEXT>::new();
+        expand(&mut set, text);
         let answer = read_set(set.as_slice(), self.part.get_mut());
-        Ok(println!(rt; "{name}: {}", Number(answer))?)
+        print_named(rt, name, Number(answer))
     }
 
     // Into so many of 78 bytes, each a point before.
-    fn write_back(&self, rt: &impl Print, rest: &str) -> Result<()> {
+    fn write_back(&self, rt: &impl Print, rest: &[u8]) -> io::Result<()> {
         let (size, name) = split_word(rest);
         let mut page = [b'.'; 78];
-        let out = page.get_mut(..number(size)?).context("past the page")?;
+        let Some(out) = page.get_mut(..number(size)) else {
+            return Ok(());
+        };
         match write_text(self.part.get(), out) {
-            Ok(length) => println!(rt; "{name}: {length}")?,
-            Err(_) => println!(rt; "{name}: short")?,
+            Ok(length) => print_named(rt, trimmed(name), length)?,
+            Err(_) => print_named(rt, trimmed(name), "short")?,
         }
-        Ok(rt.write_all(out)?)
+        rt.write_all(out)
     }
 
-    // `name NAME`, `byte BYTE`, and of the part: `counts`, `edges`, `folder AT`, `of NUMBER`, `path PLACE`, `step AT`, `label AT`.
-    fn ask(&self, rt: &impl Print, question: &str) -> Result<()> {
-        let (word, rest) = split_word(question);
+    // `name NAME`, `byte BYTE`, and of the part: `counts`, `edges`, `folder AT`, `of NUMBER`, `path PLACE`, `step AT`, `label AT`. The first
+    // byte tells them apart.
+    fn ask(&self, rt: &impl Print, question: &[u8]) -> io::Result<()> {
+        let (_, rest) = split_word(question);
         let part = self.part.get();
-        match word {
-            "name" => ask_name(rt, rest),
-            "byte" => ask_byte(rt, byte(rest)?),
-            "counts" => stored::counts(rt, part),
-            "edges" => stored::edges(rt, part),
-            "folder" => stored::folder(rt, part, number(rest)?),
-            "of" => stored::numbered(rt, part, number(rest)?),
-            "path" => stored::path(rt, part, number(rest)?),
-            "step" => stored::step(rt, part, number(rest)?),
-            "label" => stored::label(rt, part, number(rest)?),
-            _ => bail!("no such question: {word}"),
+        match question {
+            [b'n', ..] => ask_name(rt, trimmed(rest)),
+            [b'b', ..] => ask_byte(rt, byte(rest)),
+            [b'c', ..] => stored::counts(rt, part),
+            [b'e', ..] => stored::edges(rt, part),
+            [b'f', ..] => stored::folder(rt, part, number(rest)),
+            [b'o', ..] => stored::numbered(rt, part, number(rest)),
+            [b'p', ..] => stored::path(rt, part, number(rest)),
+            [b's', ..] => stored::step(rt, part, number(rest)),
+            _ => stored::label(rt, part, number(rest)),
         }
     }
 
-    fn put(&mut self, line: &str) -> Result<()> {
-        let (word, rest) = split_word(line);
-        match word {
-            "size" => self.part.lend(number(rest)?)?,
-            "fill" => self.part.get_mut().fill(byte(rest)?),
-            _ => bail!("nothing to put: {word}"),
+    // `size N`, `fill N`. The first byte tells them apart.
+    fn put(&mut self, line: &[u8]) {
+        let (_, rest) = split_word(line);
+        match line {
+            [b's', ..] => self.part.lend(number(rest)),
+            _ => self.part.get_mut().fill(byte(rest)),
         }
-        Ok(())
     }
 }
 
-fn ask_name(rt: &impl Print, name: &str) -> Result<()> {
-    let form = YesNo(names::name_form(name.as_bytes()));
-    let long = YesNo(names::too_long(name.as_bytes()));
-    Ok(println!(rt; "name {name}: form {form}, too long {long}")?)
+fn ask_name(rt: &impl Print, name: &[u8]) -> io::Result<()> {
+    let form = YesNo(names::name_form(name));
+    let long = YesNo(names::too_long(name));
+    print!(rt; "name ")?;
+    print_named(rt, name, format_args!("form {form}, too long {long}"))
 }
 
-fn ask_byte(rt: &impl Print, byte: u8) -> Result<()> {
+fn ask_byte(rt: &impl Print, byte: u8) -> io::Result<()> {
     let class = names::class_of(byte) as u8;
     let begins = YesNo(names::begins_name(byte));
     let inside = YesNo(names::in_name(byte));
-    Ok(println!(rt; "byte {byte}: class {class}, begins {begins}, inside {inside}")?)
+    println!(rt; "byte {byte}: class {class}, begins {begins}, inside {inside}")
 }

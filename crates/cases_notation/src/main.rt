@@ -4,10 +4,9 @@
 mod bench;
 mod stored;
 
-use anyhow::Result;
 use bench::Bench;
 use cases::script::carry_out;
 
-fn main(rt: HostRuntime) -> Result<()> {
-    carry_out::<Bench>(&rt)
+fn main(rt: HostRuntime) {
+    carry_out::<Bench>(&rt);
 }

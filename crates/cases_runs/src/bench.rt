@@ -1,165 +1,199 @@
 // A line of the script is carried out. `# TITLE`. `(`: a set, built. `?`: something asked. `=`: something put in place. `;`: a remark.
 // Any other line is a call that changes the run.
-use anyhow::{Result, bail, ensure};
-use cases::answers::{Answer, Shown, YesNo};
-use cases::lent::Lent;
-use cases::script::{self, Line, number, numbers, split_word};
-use cases::texts::expand;
+use cases::answers::{Answer, YesNo};
+use cases::lent::{Lent, put};
+use cases::script::{self, Line, number, numbers, split_word, trimmed};
+use cases::texts::{Text, expand};
 use machine::build;
 use machine::layout::AUTOMATON_SIZE;
 use machine::run::layout::RUN_SIZE;
 use machine::run::{asking, close, open, start};
 use notation::{FolderNumber, PathPlace, reads};
-use std::alloc::Global;
+use std::fmt::Display;
+use std::io;
 use stored::counters::Counters;
 
-// What the calls are lent, each buffer with a byte after it.
+// Bytes of a set at most.
+const MAX_SET: usize = 200;
+
+// Each with a byte after it.
+const AUTOMATON_ROOM: usize = AUTOMATON_SIZE + 1;
+
+const RUN_ROOM: usize = RUN_SIZE + 1;
+
+// What the calls are lent.
 #[derive(Drop)]
 pub struct Bench {
-    automaton: Lent,
-    run: Lent,
+    automaton: Lent<AUTOMATON_ROOM>,
+    run: Lent<RUN_ROOM>,
     counters: Counters,
 }
 
 impl script::Bench for Bench {
-    fn new(alloc: Global) -> Result<Self> {
-        let automaton = Lent::new(alloc, 7, AUTOMATON_SIZE + 1, AUTOMATON_SIZE)?;
-        let run = Lent::new(alloc, 7, RUN_SIZE + 1, RUN_SIZE)?;
-        Ok(Bench {
-            automaton,
-            run,
+    fn new() -> Self {
+        Bench {
+            automaton: Lent::new(7, AUTOMATON_SIZE),
+            run: Lent::new(7, RUN_SIZE),
             counters: Counters::none(),
-        })
+        }
     }
 
-    fn carry_out(&mut self, rt: &(impl Print + AllocGlobal), sign: char, line: Line) -> Result<()> {
-        let (word, rest) = split_word(line.whole);
+    fn carry_out(&mut self, rt: &impl Print, sign: u8, line: Line) -> io::Result<()> {
+        // After a size past its buffer every line is passed over.
+        if !self.automaton.fits() || !self.run.fits() {
+            return Ok(());
+        }
+        let (_, rest) = split_word(line.whole);
         match sign {
-            ';' => Ok(()),
-            '#' => Ok(println!(rt; "{rest}")?),
-            '(' => self.build(rt.alloc(), line.whole),
-            '?' => self.ask(rt, word, rest),
-            '=' => self.put(word, rest),
-            _ => self.call(rt, word, rest),
+            b'#' => rt.write_all(rest),
+            b'(' => {
+                self.build(trimmed(line.whole));
+                Ok(())
+            }
+            b'?' => self.ask(rt, line.rest, rest),
+            b'=' => {
+                self.put(line.rest, rest);
+                Ok(())
+            }
+            _ => self.call(rt, sign, rest),
         }
     }
 }
 
 impl Bench {
-    fn build(&mut self, alloc: Global, line: &str) -> Result<()> {
-        let set = expand(alloc, line)?;
-        let built = build::build(set.as_slice(), self.automaton.get_mut());
-        ensure!(built.is_ok(), "a set that is refused");
-        Ok(())
+    // A set that is refused is passed over.
+    fn build(&mut self, line: &[u8]) {
+        let mut set = Text::<MAX_SET>::new();
+        expand(&mut set, line);
+        let _ = build::build(set.as_slice(), self.automaton.get_mut());
     }
 
-    // `start`, `open NAME`, `close NAME`, and `deepen N`: so many opens of `a` that are not printed.
-    fn call(&mut self, rt: &impl Print, word: &str, rest: &str) -> Result<()> {
+    // `start`, `open NAME`, `close NAME`, and `deepen N`: so many opens of `a` that are not printed. The first byte tells them apart.
+    fn call(&mut self, rt: &impl Print, sign: u8, rest: &[u8]) -> io::Result<()> {
         let a = self.automaton.get();
         let run = self.run.get_mut();
         let counters = &mut self.counters;
-        let name = rest.as_bytes();
-        match word {
-            "start" => {
+        let name = trimmed(rest);
+        match sign {
+            b's' => {
                 let answer = start::start(a, run, counters).map(|()| "accepted");
-                println!(rt; "  start {}", Answer("", answer))?;
+                println!(rt; "  start {}", Answer("", answer))
             }
-            "open" => {
+            b'o' => {
                 let answer = open::open(a, run, counters, name);
-                println!(rt; "  open {rest} {}", Answer("accepted ", answer))?;
+                print_called(rt, "open", name, Answer("accepted ", answer))
             }
-            "close" => {
+            b'c' => {
                 let answer = close::close(a, run, counters, name).map(|()| "accepted");
-                println!(rt; "  close {rest} {}", Answer("", answer))?;
+                print_called(rt, "close", name, Answer("", answer))
             }
-            "deepen" => {
-                for _ in 0..number(rest)? {
+            b'd' => {
+                for _ in 0..number(rest) {
                     let _ = open::open(a, run, counters, b"a");
                 }
+                Ok(())
             }
-            _ => bail!("no such call: {word}"),
+            _ => Ok(()),
         }
-        Ok(())
     }
 
-    // `?path PLACE`, `?step PLACE STEP`, `?folder NUMBER`, `?length` of the prefix, `?name DEPTH`, `?counters`, and the `?bytes` at the ends.
-    fn ask(&self, rt: &impl Print, word: &str, rest: &str) -> Result<()> {
+    // `?path PLACE`, `?step PLACE STEP`, `?folder NUMBER`, `?length` of the prefix, `?name DEPTH`, `?bytes` at the ends, and `?counters`. The
+    // first byte tells them apart.
+    fn ask(&self, rt: &impl Print, question: &[u8], rest: &[u8]) -> io::Result<()> {
         let a = self.automaton.get();
         let run = self.run.get();
-        match word {
-            "?path" => {
-                let path = number(rest)?;
-                let answer = asking::path_matched(a, run, PathPlace(path)).map(YesNo);
-                println!(rt; "  path {path} {}", Answer("", answer))?;
+        let [n, step] = numbers::<2>(rest);
+        match question {
+            [b'p', ..] => {
+                let answer = asking::path_matched(a, run, PathPlace(n)).map(YesNo);
+                println!(rt; "  path {n} {}", Answer("", answer))
             }
-            "?step" => {
-                let [path, step] = numbers::<2>(rest)?;
-                let answer = asking::step_active(a, run, PathPlace(path), step).map(YesNo);
-                println!(rt; "  path {path} step {step} {}", Answer("", answer))?;
+            [b's', ..] => {
+                let answer = asking::step_active(a, run, PathPlace(n), step).map(YesNo);
+                println!(rt; "  path {n} step {step} {}", Answer("", answer))
             }
-            "?folder" => {
-                let number = number(rest)?;
-                let answer = asking::folder_matched(a, run, FolderNumber(number)).map(YesNo);
-                println!(rt; "  folder {number} {}", Answer("", answer))?;
+            [b'f', ..] => {
+                let answer = asking::folder_matched(a, run, FolderNumber(n)).map(YesNo);
+                println!(rt; "  folder {n} {}", Answer("", answer))
             }
-            "?length" => {
+            [b'l', ..] => {
                 let answer = asking::prefix_length(a, run);
-                println!(rt; "  prefix {}", Answer("", answer))?;
+                println!(rt; "  prefix {}", Answer("", answer))
             }
-            "?name" => self.ask_name(rt, number(rest)?)?,
-            "?counters" => {
-                let Counters {
-                    opens,
-                    closes,
-                    moves,
-                } = self.counters;
-                println!(rt; "  counters {opens} {closes} {moves}")?;
-            }
-            "?bytes" => self.print_ends(rt)?,
-            _ => bail!("no such question: {word}"),
+            [b'n', ..] => self.ask_name(rt, n),
+            [b'b', ..] => self.print_ends(rt),
+            _ => self.print_counters(rt),
         }
-        Ok(())
     }
 
     // The name between brackets, and the refusal beside it.
-    fn ask_name(&self, rt: &impl Print, depth: usize) -> Result<()> {
+    fn ask_name(&self, rt: &impl Print, depth: usize) -> io::Result<()> {
         let a = self.automaton.get();
         let run = self.run.get();
         let answer = asking::name_refusal(a, run, depth).map(|()| "accepted");
-        let name = Shown(asking::open_name(a, run, depth));
-        Ok(println!(rt; "  name {depth} ({name}) {}", Answer("", answer))?)
+        print!(rt; "  name {depth} (")?;
+        rt.write_all(asking::open_name(a, run, depth))?;
+        println!(rt; ") {}", Answer("", answer))
     }
 
     // The last byte that is lent of each buffer, and the byte after it.
-    fn print_ends(&self, rt: &impl Print) -> Result<()> {
-        for (buffer, size) in [(&self.automaton, AUTOMATON_SIZE), (&self.run, RUN_SIZE)] {
+    fn print_ends(&self, rt: &impl Print) -> io::Result<()> {
+        for (buffer, size) in [
+            (self.automaton.get(), AUTOMATON_SIZE),
+            (self.run.get(), RUN_SIZE),
+        ] {
             for at in [size - 1, size] {
-                println!(rt; "  byte {at} {}", reads::byte_at(buffer.get(), at))?;
+                println!(rt; "  byte {at} {}", reads::byte_at(buffer, at))?;
             }
         }
         Ok(())
     }
 
-    // `=automaton AT BYTE`, `=run AT BYTE`, `=sizes AUTOMATON RUN`, `=counters OPENS CLOSES MOVES`.
-    fn put(&mut self, word: &str, rest: &str) -> Result<()> {
-        match word {
-            "=automaton" => self.automaton.put_placed(rest)?,
-            "=run" => self.run.put_placed(rest)?,
-            "=sizes" => {
-                let [automaton, run] = numbers::<2>(rest)?;
-                self.automaton.lend(automaton)?;
-                self.run.lend(run)?;
-            }
-            "=counters" => {
-                let [opens, closes, moves] = numbers::<3>(rest)?;
-                self.counters = Counters {
-                    opens,
-                    closes,
-                    moves,
-                };
-            }
-            _ => bail!("nothing to put: {word}"),
-        }
-        Ok(())
+    fn print_counters(&self, rt: &impl Print) -> io::Result<()> {
+        let Counters {
+            opens,
+            closes,
+            moves,
+        } = self.counters;
+        println!(rt; "  counters {opens} {closes} {moves}")
     }
+
+    // `=automaton AT BYTE`, `=run AT BYTE`, `=sizes AUTOMATON RUN`, `=counters OPENS CLOSES MOVES`. The first byte tells them apart.
+    fn put(&mut self, line: &[u8], rest: &[u8]) {
+        let [n, m, moves] = numbers::<3>(rest);
+        match line {
+            [b'a', ..] => put_byte(self.automaton.get_mut(), n, m),
+            [b'r', ..] => put_byte(self.run.get_mut(), n, m),
+            [b's', ..] => {
+                self.automaton.lend(n);
+                self.run.lend(m);
+            }
+            _ => {
+                self.counters = Counters {
+                    opens: n,
+                    closes: m,
+                    moves,
+                }
+            }
+        }
+    }
+}
+
+// A number that is no byte is not put.
+fn put_byte(part: &mut [u8], at: usize, value: usize) {
+    if let Ok(value) = u8::try_from(value) {
+        put(part, at, value);
+    }
+}
+
+// A call of a name, and what it answered.
+fn print_called<D: Display + Drop>(
+    rt: &impl Print,
+    call: &str,
+    name: &[u8],
+    answer: D,
+) -> io::Result<()> {
+    print!(rt; "  {call} ")?;
+    rt.write_all(name)?;
+    println!(rt; " {answer}")
 }

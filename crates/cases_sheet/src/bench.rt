@@ -1,98 +1,109 @@
 // A line of the script is carried out. `(`: a set, built. `<`: a report, filed. `=`: something put in place. `;`: a remark, shown. Any other
 // line names a case: the sheet is written and shown.
-use anyhow::{Result, bail};
-use cases::answers::{Answer, Number};
-use cases::lent::Lent;
-use cases::script::{self, Line, byte, numbers, split_word};
-use cases::texts::expand;
+use cases::answers::{Answer, Number, print_named};
+use cases::lent::{Lent, put};
+use cases::script::{self, Line, byte, numbers, place, split_word, trimmed};
+use cases::texts::{MAX_TEXT, Text, expand};
 use filing::report::file_report;
 use machine::build;
 use machine::layout::AUTOMATON_SIZE;
 use machine::run::layout::RUN_SIZE;
 use sheets::limits::SHEET_SIZE;
 use sheets::sheet::write_sheet;
-use std::alloc::Global;
+use std::io;
 use stored::counters::Counters;
 
-// What the calls are lent, each buffer with bytes after it; and the byte that fills the last before a sheet is written into it.
+// Each with bytes after it.
+const AUTOMATON_ROOM: usize = AUTOMATON_SIZE + 1;
+
+const RUN_ROOM: usize = RUN_SIZE + 1;
+
+const SHEET_ROOM: usize = SHEET_SIZE + 1000;
+
+// What writing a sheet is lent; and the byte that fills the last before a sheet is written into it. A set is built in the whole of the first,
+// a report filed in the whole of both.
 #[derive(Drop)]
 pub struct Bench {
-    automaton: Lent,
-    run: Lent,
-    out: Lent,
+    automaton: Lent<AUTOMATON_ROOM>,
+    run: Lent<RUN_ROOM>,
+    out: Lent<SHEET_ROOM>,
     filler: u8,
 }
 
 impl script::Bench for Bench {
-    fn new(alloc: Global) -> Result<Self> {
-        let automaton = Lent::new(alloc, 7, AUTOMATON_SIZE + 1, AUTOMATON_SIZE)?;
-        let run = Lent::new(alloc, 7, RUN_SIZE + 1, RUN_SIZE)?;
-        let out = Lent::new(alloc, 7, SHEET_SIZE + 1000, SHEET_SIZE)?;
-        Ok(Bench {
-            automaton,
-            run,
-            out,
+    fn new() -> Self {
+        Bench {
+            automaton: Lent::new(7, AUTOMATON_SIZE),
+            run: Lent::new(7, RUN_SIZE),
+            out: Lent::new(7, SHEET_SIZE),
             filler: b'.',
-        })
+        }
     }
 
-    fn carry_out(&mut self, rt: &(impl Print + AllocGlobal), sign: char, line: Line) -> Result<()> {
+    fn carry_out(&mut self, rt: &impl Print, sign: u8, line: Line) -> io::Result<()> {
         match sign {
-            ';' => Ok(println!(rt; "{}", line.rest)?),
-            '(' => self.build(rt, line.whole),
-            '<' => self.file(rt, line.whole),
-            '=' => self.put(line.rest),
-            _ => self.show(rt, line.whole),
+            b';' => rt.write_all(line.rest),
+            b'(' => self.build(rt, trimmed(line.whole)),
+            b'<' => self.file(rt, trimmed(line.whole)),
+            b'=' => {
+                self.put(line.rest);
+                Ok(())
+            }
+            _ => self.show(rt, trimmed(line.whole)),
         }
     }
 }
 
 impl Bench {
-    fn build(&mut self, rt: &(impl Print + AllocGlobal), line: &str) -> Result<()> {
-        let set = expand(rt.alloc(), line)?;
-        let answer = build::build(set.as_slice(), self.automaton.get_mut());
-        Ok(println!(rt; "built: {}", Number(answer))?)
+    fn build(&mut self, rt: &impl Print, line: &[u8]) -> io::Result<()> {
+        let mut set = Text::<MAX_TEXT>::new();
+        expand(&mut set, line);
+        let answer = build::build(set.as_slice(), self.automaton.whole_mut());
+        println!(rt; "built: {}", Number(answer))
     }
 
     // A report stands as it is: its tags would be taken for folders.
-    fn file(&mut self, rt: &impl Print, line: &str) -> Result<()> {
+    fn file(&mut self, rt: &impl Print, line: &[u8]) -> io::Result<()> {
         let mut counters = Counters::none();
         let answer = file_report(
-            self.automaton.get(),
-            self.run.get_mut(),
+            self.automaton.whole(),
+            self.run.whole_mut(),
             &mut counters,
-            line.as_bytes(),
+            line,
         );
-        Ok(println!(rt; "filed: {}", Number(answer))?)
+        println!(rt; "filed: {}", Number(answer))
     }
 
-    // `automaton AT BYTE`, `run AT BYTE`, `sizes AUTOMATON RUN SHEET`, `filler BYTE`.
-    fn put(&mut self, line: &str) -> Result<()> {
-        let (word, rest) = split_word(line);
-        match word {
-            "automaton" => self.automaton.put_placed(rest)?,
-            "run" => self.run.put_placed(rest)?,
-            "sizes" => {
-                let [automaton, run, out] = numbers::<3>(rest)?;
-                self.automaton.lend(automaton)?;
-                self.run.lend(run)?;
-                self.out.lend(out)?;
+    // `automaton AT BYTE`, `run AT BYTE`, `sizes AUTOMATON RUN SHEET`, `filler BYTE`. The first byte tells them apart.
+    fn put(&mut self, line: &[u8]) {
+        let (_, rest) = split_word(line);
+        let (at, value) = place(rest);
+        match line {
+            [b'a', ..] => put(self.automaton.whole_mut(), at, value),
+            [b'r', ..] => put(self.run.whole_mut(), at, value),
+            [b's', ..] => {
+                let [automaton, run, out] = numbers::<3>(rest);
+                self.automaton.lend(automaton);
+                self.run.lend(run);
+                self.out.lend(out);
             }
-            "filler" => self.filler = byte(rest)?,
-            _ => bail!("nothing to put: {word}"),
+            _ => self.filler = byte(rest),
         }
-        Ok(())
     }
 
-    // The sheet, and how many bytes after it were not written to, up to the first that was.
-    fn show(&mut self, rt: &impl Print, name: &str) -> Result<()> {
+    // The sheet, and how many bytes after it were not written to, up to the first that was; the name alone where the sheet's size is past
+    // its buffer.
+    fn show(&mut self, rt: &impl Print, name: &[u8]) -> io::Result<()> {
+        if !self.out.fits() {
+            return rt.write_all(name);
+        }
         let out = self.out.get_mut();
         out.fill(self.filler);
         let answer = write_sheet(self.automaton.get(), self.run.get(), out);
-        println!(rt; "{name}: {}", Answer("bytes ", answer))?;
+        print_named(rt, name, Answer("bytes ", answer))?;
         let (sheet, rest) = out.split_at(answer.unwrap_or(0).min(out.len()));
         rt.write_all(sheet)?;
         let stayed = rest.iter().take_while(|byte| **byte == self.filler).count();
-        Ok(println!(rt; "stayed {stayed} of {}", rest.len())?)
+        println!(rt; "stayed {stayed} of {}", rest.len())
     }
 }

@@ -3,10 +3,9 @@
 
 mod bench;
 
-use anyhow::Result;
 use bench::Bench;
 use cases::script::carry_out;
 
-fn main(rt: HostRuntime) -> Result<()> {
-    carry_out::<Bench>(&rt)
+fn main(rt: HostRuntime) {
+    carry_out::<Bench>(&rt);
 }

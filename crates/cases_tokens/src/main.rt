@@ -3,9 +3,9 @@
 // x: empty-element tag, ss and xx: one that repeats the name of an attribute, e: end tag, t: text, b: blank text.
 #![tactic(auto)]
 
-use anyhow::Result;
 use cases::answers::Shown;
 use reports::tokens::{Kind, is_run, tag_name, tag_span, token_at};
+use std::io;
 
 const CASES: [&[u8]; 71] = [
     // Declarations.
@@ -116,7 +116,7 @@ fn letter(kind: Kind) -> &'static str {
 }
 
 // No iterator of tokens is plainer: where the last one ends is asked after the loop.
-fn print_tokens(rt: &impl Print, bytes: &[u8]) -> Result<()> {
+fn print_tokens(rt: &impl Print, bytes: &[u8]) -> io::Result<()> {
     let mut at = 0;
     while let Some(token) = token_at(bytes, at) {
         let name = Shown(tag_name(bytes, at));
@@ -129,24 +129,29 @@ fn print_tokens(rt: &impl Print, bytes: &[u8]) -> Result<()> {
     Ok(())
 }
 
-fn print_case(rt: &impl Print, bytes: &[u8]) -> Result<()> {
+fn print_case(rt: &impl Print, bytes: &[u8]) -> io::Result<()> {
     print!(rt; "{} |", Shown(bytes))?;
     print_tokens(rt, bytes)?;
-    Ok(println!(rt; " {}", if is_run(bytes) { "run" } else { "torn" })?)
+    println!(rt; " {}", if is_run(bytes) { "run" } else { "torn" })
 }
 
-fn print_span(rt: &impl Print, bytes: &[u8], at: usize) -> Result<()> {
+fn print_span(rt: &impl Print, bytes: &[u8], at: usize) -> io::Result<()> {
     let (from, to) = tag_span(bytes, at).map_or((0, 0), |span| (span.from, span.to));
     let name = Shown(tag_name(bytes, at));
-    Ok(println!(rt; "{} | at {at} from {from} to {to} {name}", Shown(bytes))?)
+    println!(rt; "{} | at {at} from {from} to {to} {name}", Shown(bytes))
 }
 
-fn main(rt: HostRuntime) -> Result<()> {
+fn print_cases(rt: &impl Print) -> io::Result<()> {
     for bytes in CASES {
-        print_case(&rt, bytes)?;
+        print_case(rt, bytes)?;
     }
     for (bytes, at) in SPANS {
-        print_span(&rt, bytes, at)?;
+        print_span(rt, bytes, at)?;
     }
     Ok(())
+}
+
+// A write that fails ends the printing alone: it is no error of the program.
+fn main(rt: HostRuntime) {
+    let _ = print_cases(&rt);
 }
