@@ -46,7 +46,7 @@ fn fill(text: &[u8], part: &mut [u8])
     ensures { (s : FolderSet) → Accepted text.now s → part.new ≡ set_part s ++ drop set_size part.old }
 {
     store::clear(part, SET_SIZE);
-    part[TEXT_AT..TEXT_AT + text.len()].copy_from_slice(text);
+    store::copy_all(&mut part[TEXT_AT..TEXT_AT + text.len()], text);
     if let Some(tally) = take_set(text, part) {
         put_counts(part, text.len(), tally);
     }

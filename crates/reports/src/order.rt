@@ -6,6 +6,7 @@ ghost use Rattle.reports.specs.Code.Ordered.{name_at, names_at, first_byte, orde
 
 use std::cmp::Ordering;
 use text::names::in_name;
+use text::store::copy_all;
 
 // The first byte of the name at an offset, 0 if there is none: no name has that byte. An `Option` takes a third more instructions to file many attributes.
 #[tactic(auto, using(crate::proofs::Laws::Ordered::NameAt::name_bytes))]
@@ -120,6 +121,6 @@ pub fn sort(s: &[u8], places: &mut [u16], spare: &mut [u16]) -> Result<(), Repea
     sort(s, &mut places[half..], &mut spare[half..])?;
     let sorted = &places[..];
     merge(s, &sorted[..half], &sorted[half..], spare)?;
-    places.copy_from_slice(spare);
+    copy_all(places, spare);
     Ok(())
 }

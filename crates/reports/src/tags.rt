@@ -8,29 +8,23 @@ ghost use Rattle.reports.specs.Code.Seen.{has_byte};
 
 use crate::scan::{blanks_end, in_text};
 use text::names;
+use text::words::word_at;
 
-// One of the five references, after its `&`. There are few, and no loop has room for this test. `find` over an array of them takes twice the
-// instructions to file a report of references.
-#[cold]
-#[tactic(auto, using(crate::proofs::Laws::Read::Words::told, crate::proofs::Laws::Read::Reaches::references))]
+// One of the five references, after its `&`. A call, since no loop has room for this test. `find` over an array of them takes twice the instructions
+// to file a report of references.
+#[inline(never)]
+#[tactic(auto, using(crate::proofs::Laws::Read::Reaches::references))]
 pub fn reference_end(s: &[u8], at: usize) -> Option<usize>
     requires { at ≤ length s.now }
     ensures { result ≡ reach read_reference s.now at }
 {
-    let rest = &s[at..];
-    if rest.starts_with(b"amp;") {
+    if word_at(s, at, b"amp;") {
         return Some(at + 4);
     }
-    if rest.starts_with(b"lt;") {
+    if word_at(s, at, b"lt;") || word_at(s, at, b"gt;") {
         return Some(at + 3);
     }
-    if rest.starts_with(b"gt;") {
-        return Some(at + 3);
-    }
-    if rest.starts_with(b"quot;") {
-        return Some(at + 5);
-    }
-    if rest.starts_with(b"apos;") {
+    if word_at(s, at, b"quot;") || word_at(s, at, b"apos;") {
         return Some(at + 5);
     }
     None

@@ -4,6 +4,7 @@ ghost use Rattle.text.specs.Decimal.{decimal};
 ghost use Rattle.text.specs.Output.{Adds, put_at, written_to};
 
 use crate::refusals::Refusal;
+use crate::store::copy;
 
 // Where the pieces of a text go, one after the other.
 pub trait Sink {
@@ -80,7 +81,7 @@ fn put_piece(out: &mut [u8], at: usize, piece: &[u8]) -> Result<usize, usize>
     if end > out.len() {
         return Err(at);
     }
-    out[at..end].copy_from_slice(piece);
+    copy(out, at, piece);
     Ok(end)
 }
 

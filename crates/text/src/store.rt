@@ -12,6 +12,16 @@ pub fn clear(part: &mut [u8], n: usize)
     part[..end].fill(0);
 }
 
+// All of a slice into one that is as long. By a loop: `copy_from_slice` has an archive for C ask for `memmove`.
+pub fn copy_all<T: Copy>(to: &mut [T], from: &[T])
+    requires { length to.old ≡ length from.now }
+    ensures { to.new ≡ from.now }
+{
+    for i in 0..from.len() {
+        to[i] = from[i];
+    }
+}
+
 // The bytes of a slice, from `at` on.
 #[tactic(auto, using(crate::proofs::Laws::Bytes::Cut::copies))]
 pub fn copy(part: &mut [u8], at: usize, bytes: &[u8])
@@ -21,7 +31,7 @@ pub fn copy(part: &mut [u8], at: usize, bytes: &[u8])
         return;
     }
     let n = (part.len() - at).min(bytes.len());
-    part[at..at + n].copy_from_slice(&bytes[..n]);
+    copy_all(&mut part[at..at + n], &bytes[..n]);
 }
 
 // The lower two bytes of a number, the lower first.

@@ -41,6 +41,22 @@ module _ (ok : ℕ → Bool) (s : List ℕ) (i : ℕ) where
   pub span-end : length s ≤ i → i + length (front ok (drop i s)) ≡ i
   span-end h = omega (arith, front-end h)
 
+-- a word and bytes, gone through side by side
+module _ (w s : List ℕ) (i k : ℕ) where
+  pub begins-no : i < length w → k < length s → (get_or s k 0 ≡ get_or w i 0 → ⊥) → starts_with (drop i w) (drop k s) ≡ false
+  unfolding starts_with
+  begins-no h l n = rw (drop-cons w i 0 h, drop-cons s k 0 l, ne_eqb (get_or w i 0) (get_or s k 0) (λ e. n (sym e)))
+
+  pub begins-yes : i < length w → k < length s → get_or s k 0 ≡ get_or w i 0 → starts_with (drop i w) (drop k s) ≡ starts_with (drop (suc i) w) (drop (suc k) s)
+  unfolding starts_with
+  begins-yes h l e =
+      ap (λ (v : List ℕ). starts_with v (drop k s)) (drop-cons w i 0 h) ∙ ap (starts_with (get_or w i 0 ∷ drop (suc i) w)) (drop-cons s k 0 l)
+      ∙ ap (λ (t : Bool). t && starts_with (drop (suc i) w) (drop (suc k) s)) (eq-eqb (get_or w i 0) (get_or s k 0) (sym e))
+
+  pub begins-end : length w ≤ i → starts_with (drop i w) (drop k s) ≡ true
+  unfolding starts_with
+  begins-end h = ap (λ (v : List ℕ). starts_with v (drop k s)) (drop_of_length-le w h)
+
 module _ (b : ℕ) (w s : List ℕ) (k : ℕ) where
   pub begins-other : k < length s → (get_or s k 0 ≡ b → ⊥) → starts_with (b ∷ w) (drop k s) ≡ false
   unfolding starts_with

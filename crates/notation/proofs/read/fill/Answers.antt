@@ -9,5 +9,5 @@ pub returns-in-Some : goal.returns-in-Some
 unfolding set_size text_at
 returns-in-Some c = λ s ok.
     let a = c.args in
-    let begun = cleared-copied a.text.now a.part.now c.copy_from_slice.new.self c.requires.0 c.requires.1 c.copy_from_slice.ensures.after in
+    let begun = cleared-copied a.text.now a.part.now c.copy_all.new.to c.requires.0 c.requires.1 c.copy_all.ensures in
     c.put_counts.ensures ∙ laid_out a.text.now (drop set_size a.part.now) s ok c.in-Some.tally _ (rw (c.clear.ensures, begun) at c.in-Some.ensures)

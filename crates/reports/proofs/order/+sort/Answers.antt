@@ -33,4 +33,4 @@ pub returns : goal.returns
 returns t c =
     let merged = halves-joined c.args.places.now c.sort.new.places _ (omega arith) c.sort.auto.places c.sort-2.new.places c.sort-2.auto.places c.args.s.now
     c.sort.ensures c.sort-2.ensures (ap is_err c.in_ok-sort.was) (ap is_err c.in_ok-sort-2.was) c.merge.new.out c.merge.ensures in
-    rw c.copy_from_slice.ensures.after (rw (ap is_err c.in_ok-merge.was) at merged)
+    rw c.copy_all.ensures (rw (ap is_err c.in_ok-merge.was) at merged)
