@@ -10,6 +10,6 @@ mod refusals;
 mod row;
 mod rows;
 pub mod session;
-mod shape;
+pub mod shape;
 pub mod start;
 mod steps;

@@ -12,7 +12,7 @@ use stored::counters::Counters;
 use text::names::MAX_NAME;
 
 // The count of open elements.
-fn depth(run: &[u8]) -> usize
+pub fn depth(run: &[u8]) -> usize
     ensures { (result ≡ depth_of run.now) × (result < 65536) }
 {
     reads::word_at(run, DEPTH_AT)

@@ -1,8 +1,9 @@
 // A start: a fresh run, whatever the run held.
 #![tactic(auto, unfolding(text::specs::Order::given, text::specs::Order::first, stored::specs::Automaton::automaton_size, stored::specs::Run::run_size, stored::specs::RunCalls::start_refusal))]
 
-ghost use Rattle.std.specs.Prelude.{◌≡◌};
+ghost use Rattle.std.specs.Prelude.{◌≡◌, ◌≤◌, length};
 ghost use Rattle.text.specs.Answers.{refusal_in};
+ghost use Rattle.stored.specs.Run.{run_size};
 ghost use Rattle.stored.specs.RunCalls.{start_run, start_refusal};
 ghost use Rattle.stored.specs.RunContracts.{Starts};
 
@@ -10,18 +11,17 @@ use crate::layout::START_AT;
 use crate::run::layout::{ROWS_AT, RUN_SIZE, STATE_IN};
 use crate::run::lent::too_short;
 use crate::run::row::put_word;
-use crate::run::rows::RunMut;
 use crate::run::session::Session;
 use crate::shape::automaton_shaped;
 use notation::reads;
 use stored::counters::Counters;
 use text::refusals::Refusal;
 
-// A fresh run.
-fn start_on(a: &[u8], run: &mut RunMut)
-    ensures { run.new.bytes ≡ record run.old.bytes { now = start_run a.now run.old.bytes.now } }
+// A fresh run, on any bytes of an automaton.
+pub fn start_on(a: &[u8], run: &mut [u8])
+    requires { run_size ≤ length run.old }
+    ensures { run.new ≡ start_run a.now run.old }
 {
-    let run = &mut *run.bytes;
     run[..RUN_SIZE].fill(0);
     put_word(run, ROWS_AT + STATE_IN, reads::word_at(a, START_AT));
 }
@@ -43,7 +43,7 @@ pub fn start(a: &[u8], run: &mut [u8], counters: &mut Counters) -> Result<(), Re
     ensures { Starts a.now run.old counters.old (refusal_in result) run.new counters.new }
 {
     start_refusal(a, run)?;
-    start_on(a, &mut RunMut { bytes: run });
+    start_on(a, run);
     *counters = Counters::none();
     Ok(())
 }
@@ -60,7 +60,7 @@ impl<'a> Session<'a> {
     {
         let run = &mut *self.run;
         let counters = &mut *self.counters;
-        start_on(self.a, &mut RunMut { bytes: run });
+        start_on(self.a, run);
         *counters = Counters::none();
     }
 }

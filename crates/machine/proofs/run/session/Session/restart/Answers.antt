@@ -15,8 +15,8 @@ may-start : (a run : List ℕ) (c : Counters) → Usable a run c → start_refus
 unfolding start_refusal given first
 may-start a run c u = rw (le-ltb (length a) automaton_size u.ready.size, le-ltb (length run) run_size u.ready.run_length, u.ready.shaped)
 
-pub invariant_of-start_on : goal.invariant_of-start_on
-invariant_of-start_on c = record { sized = c.args.self.now.usable.ready.run_length }
+pub start_on-requires : goal.start_on-requires
+start_on-requires c = c.args.self.now.usable.ready.run_length
 
 pub invariant_of-self : goal.invariant_of-self
 invariant_of-self c =
