@@ -79,7 +79,7 @@ fn put_listing<S: Sink>(a: &[u8], run: &[u8], c: Counters, to: &mut S)
     to.put(b")\n");
 }
 
-fn put_refused<S: Sink>(n: u8, to: &mut S)
+pub fn put_refused<S: Sink>(n: u8, to: &mut S)
     ensures { Adds S.puts to.old (refused_line n) to.new }
 {
     put_numbered(to, b"(refused ", usize::from(n));

@@ -7,7 +7,6 @@ ghost use Rattle.documents.specs.Reading.{read_report};
 ghost use Rattle.documents.specs.Limits.{max_report_bytes};
 ghost use Rattle.filing.specs.Filing.{Outcome, filed, and_then};
 ghost use Rattle.filing.specs.ReportRefusals.{stored_machine, Files};
-ghost use Rattle.filing.specs.Code.Filing.{file_report};
 ghost use Rattle.filing.specs.Code.Taking.{Answered, Takes, left_in, NamedIn, name_bytes, late_declaration, repeats, file_open, file_found, step_found, file_last, run_from};
 
 use machine::run::session::Session;
@@ -125,20 +124,8 @@ fn take_report(session: &mut Session, s: &[u8]) -> Result<(), Refusal>
     Ok(())
 }
 
-// On a run that was started. `TooLarge` and `InvalidByte` come before the tokens.
-fn file_started(session: &mut Session, s: &[u8]) -> Result<(), Refusal>
-    ensures { Takes session.old (file_report (stored_machine session.old.a.now) (left_in session.old) [] s.now) (refusal_in result) session.new }
-{
-    if s.len() > MAX_REPORT {
-        return Err(Refusal::TooLarge);
-    }
-    if !all_listed(s) {
-        return Err(Refusal::InvalidByte);
-    }
-    take_report(session, s)
-}
-
-// Files a report. `ShortBuffer` and `BadShape`, which are of what is lent, leave all as it was; any other refusal leaves a fresh run.
+// Files a report. `ShortBuffer` and `BadShape`, which are of what is lent, leave all as it was; any other refusal leaves a fresh run. `TooLarge` and
+// `InvalidByte` come before the tokens, when the run is fresh still.
 pub fn file_report(
     a: &[u8],
     run: &mut [u8],
@@ -148,8 +135,14 @@ pub fn file_report(
     ensures { Files a.now run.old counters.old report.now (refusal_in result) run.new counters.new }
 {
     start(a, run, counters)?;
+    if report.len() > MAX_REPORT {
+        return Err(Refusal::TooLarge);
+    }
+    if !all_listed(report) {
+        return Err(Refusal::InvalidByte);
+    }
     let mut session = Session { a, run, counters };
-    let filed = file_started(&mut session, report);
+    let filed = take_report(&mut session, report);
     if filed.is_err() {
         session.restart();
     }

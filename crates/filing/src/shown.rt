@@ -38,7 +38,7 @@ pub trait Show {
 
 // An automaton, a run or bytes to be printed, of which there are to be `size`, are too short.
 #[tactic(auto, unfolding(crate::specs::Shown::too_small))]
-fn too_small(a: &[u8], run: &[u8], out: &[u8], size: usize) -> bool
+pub fn too_small(a: &[u8], run: &[u8], out: &[u8], size: usize) -> bool
     ensures { result ≡ too_small size a.now run.now out.now }
 {
     lent::too_short(a, run) || out.len() < size
@@ -46,7 +46,7 @@ fn too_small(a: &[u8], run: &[u8], out: &[u8], size: usize) -> bool
 
 // Builds a set and files a report with it: the refusal is the set's, or the report's.
 #[tactic(auto, using(text::proofs::Laws::Results::handed_on, crate::specs::Shown::set_refused, crate::specs::Shown::report_refused, crate::specs::Shown::report_filed))]
-fn file_text(
+pub fn file_text(
     text: &[u8],
     report: &[u8],
     automaton: &mut [u8],

@@ -284,6 +284,10 @@ module _ (a : List ℕ) (t : Left) (s : List ℕ) where
       go fail = refl
       go (got ts r) = unless-repeat (repeats_in ts) (λ t. file_events (stored_machine a) t (events_of ts))
 
+  pub report-taken : {run run' : List ℕ} {n : ℕ} {c' : Counters} → length s ≤ max_report_bytes → every listed s ≡ true → Taking a run (and_then (run_from a (filed t) (read_report s)) file_last) n run' c'
+      → Taking a run (file_report (stored_machine a) t [] s) n run' c'
+  report-taken h k x = rw (report-run h k) x
+
 -- the start, and then the report
 module _ (a run : List ℕ) (c : Counters) (n₁ : ℕ) (run₁ : List ℕ) (c₁ : Counters) (s : Starts a run c n₁ run₁ c₁) where
   pub filed-refused : (report : List ℕ) → (n₁ ≡ 0 → ⊥) → Files a run c report n₁ run₁ c₁
@@ -356,6 +360,11 @@ module _ (a run : List ℕ) (c : Counters) (n₁ : ℕ) (run₁ : List ℕ) (c�
             run_after = p ∙ t.restarts ∙ rw fresh (start-restart a run) ∙ sym (ap (λ (x : Left). x.bytes) left);
             counters_after = q ∙ sym (ap (λ (x : Left). x.counters) left);
           }
+
+    -- a report that is refused before its tokens leaves the run as it was started
+    pub filed-early : (report : List ℕ) (r : Refusal) → file_report (stored_machine a) (record { bytes = run₁; counters = c₁ }) [] report ≡ refused r → Files a run c report (number_of r) run₁ c₁
+    filed-early report r e =
+        filed-fresh report (number_of r) run₁ c₁ (rw e (taken_here a run₁ (refused r) (number_of r) c₁ refl)) (some_number r) run₁ c₁ (rw fresh (sym (start-restart a run))) counted
 
 -- a turn of the loop: what was taken has an outcome, of which the tokens from here make the outcome of all
 pub record Turn (a s : List ℕ) (i n : ℕ) (run : List ℕ) (c : Counters) (all : Outcome Left) : Type 0 where

@@ -21,7 +21,7 @@ Total For = (s : FolderSet) (report : List ℕ) (m : State) → FiledWith s repo
 
 module _ (For : FolderSet → List ℕ → List ℕ → Type 0) where
   module _ (once : Unique For) (report : List ℕ) where
-    of-report-once : (s : FolderSet) (x y : List ℕ) → ShownOf For s report x → ShownOf For s report y → x ≡ y
+    pub of-report-once : (s : FolderSet) (x y : List ℕ) → ShownOf For s report x → ShownOf For s report y → x ≡ y
     of-report-once s x y (its_number r h) (its_number q g) =
         let e = filing-only s report (refused r) (refused q) h g in
         let same : r ≡ q = cc in
@@ -43,7 +43,7 @@ module _ (For : FolderSet → List ℕ → List ℕ → Type 0) where
         of-report-once t x y (subst (λ (z : FolderSet). ShownOf For z report x) same p) q
 
   module _ (shows : Total For) (text report : List ℕ) where
-    of-report : (s : FolderSet) (o : Outcome State) → file_with s report ≡ o → (bytes : List ℕ) × ShownOf For s report bytes
+    pub of-report : (s : FolderSet) (o : Outcome State) → file_with s report ≡ o → (bytes : List ℕ) × ShownOf For s report bytes
     of-report s (refused r) e = (refused_line (number_of r), its_number r ((filing-is s report (refused r)).1 e))
     of-report s (filed m) e = let f = (filing-is s report (filed m)).1 e in let (bytes, x) = shows s report m f in (bytes, its_text m f x)
 
