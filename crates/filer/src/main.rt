@@ -2,21 +2,28 @@
 // that is there and cannot be read it tells on standard error, and prints nothing. A failed write ends it with an error.
 #![tactic(auto)]
 
-ghost use Rattle.std.specs.Prelude.{IfOk};
+ghost use Rattle.std.specs.Result.{result_unwrap_or};
 ghost use Rattle.filing.specs.Printed.{PrintedFor};
 ghost use Rattle.programs.specs.Shows.{Shows};
 
-use filing::printing::Listing;
-use programs::output::{page, print_page};
-use std::alloc::{AllocError, Global};
+use filing::printing::print_filing;
+use machine::layout::AUTOMATON_SIZE;
+use machine::run::layout::RUN_SIZE;
+use programs::output::{MAX_PAGE, print_page};
 use std::io;
+use text::refusals::Refusal;
 
-// What a set and a report print.
-#[tactic(auto, using(filing::proofs::Laws::Listing::Faithful::listing_faithful))]
-fn filed(alloc: Global, set: &[u8], report: &[u8]) -> Result<Vec<u8>, AllocError>
-    ensures { IfOk result (λ page. Shows PrintedFor set.now report.now page.items) }
+// What a set and a report print, at the start of `out`; its length. In buffers of their sizes nothing is refused.
+fn filed(
+    set: &[u8],
+    report: &[u8],
+    automaton: &mut [u8; AUTOMATON_SIZE],
+    run: &mut [u8; RUN_SIZE],
+    out: &mut [u8; MAX_PAGE],
+) -> Result<usize, Refusal>
+    ensures { Shows PrintedFor set.now report.now (result_unwrap_or result 0) out.new }
 {
-    page::<Listing>(alloc, set, report)
+    print_filing(set, report, automaton, run, out)
 }
 
 fn main(rt: HostRuntime) -> io::Result<()> {

@@ -1,17 +1,19 @@
 // What a program prints.
-ghost use Rattle.std.specs.Prelude.{◌≡◌, take, IfOk};
+ghost use Rattle.std.specs.Prelude.{◌≡◌, take};
 ghost use Rattle.std.specs.Result.{result_unwrap_or};
-ghost use Rattle.filing.specs.Shown.{Faithful};
-ghost use Rattle.programs.specs.Shows.{Shows};
 
 use crate::files::read_both;
-use filing::shown::{Show, print_shown};
+use filing::limits::LISTING_SIZE;
 use machine::layout::AUTOMATON_SIZE;
 use machine::run::layout::RUN_SIZE;
-use std::alloc::{AllocError, Global};
+use notation::limits::MAX_SET_BYTES;
+use reports::limits::MAX_REPORT;
 use std::io;
 use std::rt::Files;
 use text::refusals::Refusal;
+
+// Room for a page of either program: a listing takes more than a sheet.
+pub const MAX_PAGE: usize = LISTING_SIZE;
 
 // What was written at the start of a buffer. In buffers of their sizes nothing is refused.
 pub fn written(answer: Result<usize, Refusal>, buffer: &[u8]) -> &[u8]
@@ -21,30 +23,39 @@ pub fn written(answer: Result<usize, Refusal>, buffer: &[u8]) -> &[u8]
     &buffer[..size]
 }
 
-// What a set and a report print, where what is shown of a filed report is right.
-pub fn page<S: Show>(alloc: Global, set: &[u8], report: &[u8]) -> Result<Vec<u8>, AllocError>
-    requires { Faithful S.SIZE S.For S.shows }
-    ensures { IfOk result (λ page. Shows S.For set.now report.now page.items) }
-{
-    let mut automaton = [0; AUTOMATON_SIZE];
-    let mut run = [0; RUN_SIZE];
-    let mut room = vec![in alloc; 0; S::SIZE]?;
-    let out = room.as_mut_slice();
-    let answer = print_shown::<S>(set, report, &mut automaton, &mut run, out);
-    Vec::from_slice(alloc, written(answer, out))
+// Writes to standard output.
+pub fn print(rt: &impl Print, text: &[u8]) -> io::Result<()> {
+    rt.write_all(text)
 }
 
-// Reads the two files, and prints the page that is made of them. Where one cannot be read nothing is printed. No clause can speak of what files
-// hold and standard output takes; of the page `page` does.
-pub fn print_page<F: FnOnce(Global, &[u8], &[u8]) -> Result<Vec<u8>, AllocError>>(
-    rt: &(impl Files + Eprint + Print + AllocGlobal),
-    make: F,
-) -> io::Result<()>
+// Reads the two files, one byte more than each limit, so that a longer file is refused and never cut, and prints what `make` writes of them into
+// the last of its buffers. Where a file cannot be read nothing is printed. No clause can speak of what files hold and standard output takes; of
+// what is printed the clauses of `make` do.
+pub fn print_page<
+    F: FnOnce(
+        &[u8],
+        &[u8],
+        &mut [u8; AUTOMATON_SIZE],
+        &mut [u8; RUN_SIZE],
+        &mut [u8; MAX_PAGE],
+    ) -> Result<usize, Refusal>,
+>(rt: &(impl Files + Eprint + Print), make: F) -> io::Result<()>
     requires { F.IsAlwaysCallable make }
 {
-    let Some(inputs) = read_both(rt) else {
+    let mut set = [0; MAX_SET_BYTES + 1];
+    let mut report = [0; MAX_REPORT + 1];
+    let Some(inputs) = read_both(rt, &mut set, &mut report) else {
         return Ok(());
     };
-    let page = make(rt.alloc(), inputs.set.as_slice(), inputs.report.as_slice())?;
-    rt.write_all(page.as_slice())
+    let mut automaton = [0; AUTOMATON_SIZE];
+    let mut run = [0; RUN_SIZE];
+    let mut out = [0; MAX_PAGE];
+    let answer = make(
+        &set[..inputs.set],
+        &report[..inputs.report],
+        &mut automaton,
+        &mut run,
+        &mut out,
+    );
+    print(rt, written(answer, &out))
 }

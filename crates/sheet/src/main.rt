@@ -2,21 +2,28 @@
 // file that is there and cannot be read it tells on standard error, and prints nothing. A failed write ends it with an error.
 #![tactic(auto)]
 
-ghost use Rattle.std.specs.Prelude.{IfOk};
+ghost use Rattle.std.specs.Result.{result_unwrap_or};
 ghost use Rattle.sheets.specs.SheetOf.{SheetFor};
 ghost use Rattle.programs.specs.Shows.{Shows};
 
-use programs::output::{page, print_page};
-use sheets::printing::Sheet;
-use std::alloc::{AllocError, Global};
+use machine::layout::AUTOMATON_SIZE;
+use machine::run::layout::RUN_SIZE;
+use programs::output::{MAX_PAGE, print_page};
+use sheets::printing::print_sheet;
 use std::io;
+use text::refusals::Refusal;
 
-// The class sheet of a set and a report, or the line of a refusal.
-#[tactic(auto, using(sheets::proofs::Laws::Filed::Faithful::sheet_faithful))]
-fn shown(alloc: Global, set: &[u8], report: &[u8]) -> Result<Vec<u8>, AllocError>
-    ensures { IfOk result (λ page. Shows SheetFor set.now report.now page.items) }
+// The class sheet of a set and a report, or the line of a refusal, at the start of `out`; its length. In buffers of their sizes nothing is refused.
+fn shown(
+    set: &[u8],
+    report: &[u8],
+    automaton: &mut [u8; AUTOMATON_SIZE],
+    run: &mut [u8; RUN_SIZE],
+    out: &mut [u8; MAX_PAGE],
+) -> Result<usize, Refusal>
+    ensures { Shows SheetFor set.now report.now (result_unwrap_or result 0) out.new }
 {
-    page::<Sheet>(alloc, set, report)
+    print_sheet(set, report, automaton, run, out)
 }
 
 fn main(rt: HostRuntime) -> io::Result<()> {

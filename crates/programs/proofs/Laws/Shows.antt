@@ -1,9 +1,10 @@
--- From what a program's one call answers and leaves to what was written at its buffer's start.
+-- From what a program's one call answers and leaves to what its buffer shows.
 use Prim.Native.Nat.{ℕ, ◌≤◌}
+use native.Mathlib.Omega.{arith}
 use mathlib.Core.Path.{◌≡◌, ap, ◌∙◌}
 use mathlib.Core.Bool.{false}
 use mathlib.Core.List.{List}
-use lib.ListN.{length, take, drop}
+use lib.ListN.{length, take, drop, length-append}
 use lib.Seq.{take-append_seam}
 use borrow.Author.Tests.{le-ltb}
 use Rattle.std.specs.Prelude.{Result, Ok, Err}
@@ -14,6 +15,8 @@ use Rattle.text.specs.declared.refusals.Refusal.{Refusal}
 use Rattle.text.specs.Answers.{value, says}
 use Rattle.notation.specs.Sets.{FolderSet}
 use Rattle.filing.specs.Shown.{too_small, PrintsText, PrintsBy}
+use Rattle.filing.proofs.Laws.Listing.Shown.{Total}
+use Rattle.filing.proofs.Laws.Listing.Showing.{some-printed}
 use Rattle.programs.specs.Shows.{Shows}
 
 size-said : (answer : Result ℕ Refusal) (n : ℕ) → says answer ≡ value n → result_unwrap_or answer 0 ≡ n
@@ -21,15 +24,17 @@ size-said (Ok k) n e = cc
 size-said (Err r) n e = cc
 
 -- a text whose length is answered and that stands first is all of that length
-text-first : (size : ℕ) (text before : List ℕ) (answer : Result ℕ Refusal) (after : List ℕ) → PrintsText size text before answer after
-    → take (result_unwrap_or answer 0) after ≡ text
-text-first size text before answer after p =
-    rw (size-said answer (length text) p.answers) (ap (take (length text)) p.leaves ∙ take-append_seam text (drop (length text) before))
+in-front : {size : ℕ} {text before after : List ℕ} {answer : Result ℕ Refusal} → PrintsText size text before answer after
+    → (result_unwrap_or answer 0 ≤ length after) × (take (result_unwrap_or answer 0) after ≡ text)
+in-front {text = text} {before} {after} {answer} p =
+    let within : length text ≤ length after = omega (arith, length-append text (drop (length text) before), ap length p.leaves) in
+    rw (size-said answer (length text) p.answers) (within, ap (take (length text)) p.leaves ∙ take-append_seam text (drop (length text) before))
 
-module _ (size : ℕ) (For : FolderSet → List ℕ → List ℕ → Type 0) (set report a run out : List ℕ) (answer : Result ℕ Refusal) (a' run' out' : List ℕ) where
+module _ (size : ℕ) (For : FolderSet → List ℕ → List ℕ → Type 0) (total : Total For) (set report a run out : List ℕ) (answer : Result ℕ Refusal) (a' run' out' : List ℕ) where
   pub shows : automaton_size ≤ length a → run_size ≤ length run → size ≤ length out → PrintsBy size For set report a run out answer a' run' out'
-      → Shows For set report (take (result_unwrap_or answer 0) out')
+      → Shows For set report (result_unwrap_or answer 0) out'
   unfolding too_small
-  shows h k l p bytes t =
+  shows h k l p =
       let enough : too_small size a run out ≡ false = rw (le-ltb (length a) automaton_size h, le-ltb (length run) run_size k, le-ltb (length out) size l) in
-      text-first size bytes out answer out' (p.printed enough bytes t)
+      let (text, x) = some-printed size For set report a run out answer a' run' out' p enough total in
+      record { counts = (in-front x).0; shown = λ bytes t. (in-front (p.printed enough bytes t)).1 }
