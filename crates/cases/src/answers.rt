@@ -59,7 +59,8 @@ pub fn print_line(rt: &impl Print, bytes: &[u8]) -> io::Result<()> {
     println!(rt; "")
 }
 
-// A name as it is, and what was answered.
+// A name as it is, and what was answered. Never inlined: the frame with the buffers of a bench stays free of what printing takes.
+#[inline(never)]
 pub fn print_named<D: fmt::Display + Drop>(
     rt: &impl Print,
     name: &[u8],

@@ -6,9 +6,9 @@ use std::marker::Model;
 #[derive(Drop)]
 pub struct Lent<const ROOM: usize> {
     bytes: [u8; ROOM],
-    size: usize,
-    // Whether there were as many as were to be lent.
+    // Whether there were as many as were to be lent. Beside the bytes: where padding follows them, a new buffer is copied into its bench.
     fits: bool,
+    size: usize,
 }
 
 impl<const ROOM: usize> Model for Lent<ROOM> {

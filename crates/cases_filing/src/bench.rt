@@ -1,5 +1,5 @@
 // Files a report with a set and prints what the program prints. The buffers of a case are arrays of its function: in a struct with a
-// constructor they are copied.
+// constructor they are copied. It is never inlined: buffers of several cases would stand in one frame.
 use cases::answers::{Number, Shown};
 use cases::lent::put;
 use cases::script::front;
@@ -47,6 +47,7 @@ fn print_answer(rt: &impl Print, answer: Result<(), Refusal>) -> io::Result<()> 
 }
 
 // The set and the name of a case, and what filing prints.
+#[inline(never)]
 pub fn file(rt: &impl Print, name: &[u8], set: &str, report: &[u8]) -> io::Result<()> {
     let mut automaton = [0; AUTOMATON_SIZE];
     let mut run = [0; RUN_SIZE];
@@ -64,6 +65,7 @@ pub fn judge(rt: &impl Print, report: &[u8]) -> io::Result<()> {
 }
 
 // A report after another on the same run: the number answered, and what is left.
+#[inline(never)]
 pub fn left(rt: &impl Print, report: &[u8]) -> io::Result<()> {
     let set = "(folders\n(folder 1 (//a))\n(folder 2 (//b))\n)\n";
     let mut automaton = [0; AUTOMATON_SIZE];
@@ -77,6 +79,7 @@ pub fn left(rt: &impl Print, report: &[u8]) -> io::Result<()> {
 }
 
 // An automaton that fails the shape test: its count of folders is out of range.
+#[inline(never)]
 pub fn strange(rt: &impl Print, report: &[u8]) -> io::Result<()> {
     let mut automaton = [0; AUTOMATON_SIZE];
     let mut run = [0; RUN_SIZE];
@@ -87,6 +90,7 @@ pub fn strange(rt: &impl Print, report: &[u8]) -> io::Result<()> {
 }
 
 // A run that is too short: 1 comes before all else.
+#[inline(never)]
 pub fn short(rt: &impl Print, report: &[u8]) -> io::Result<()> {
     let mut automaton = [0; AUTOMATON_SIZE];
     let mut run = [0; RUN_SIZE - 1];
@@ -97,6 +101,7 @@ pub fn short(rt: &impl Print, report: &[u8]) -> io::Result<()> {
 
 // An automaton of the right shape whose listing is longer than any built set's: text and both paths are said to be 63 * 256 bytes longer, so
 // that the paths overlap. The listing has 7 + (8 + 1 + 2 * (2 + 16131 + 1) + 2) + 12 + 2 bytes, 32300.
+#[inline(never)]
 pub fn long(rt: &impl Print, report: &[u8]) -> io::Result<()> {
     let mut automaton = [0; AUTOMATON_SIZE];
     let mut run = [0; RUN_SIZE];

@@ -1,4 +1,4 @@
-// Reports made of repeated pieces.
+// Reports made of repeated pieces. What holds an array is never inlined: arrays of several cases would stand in one frame.
 use crate::bench::file;
 use cases::texts::Text;
 use std::fmt::Write;
@@ -13,6 +13,7 @@ fn file_named(rt: &impl Print, name: &str, report: &[u8]) -> io::Result<()> {
 }
 
 // Elements in one another, other text, and as many end tags.
+#[inline(never)]
 pub fn nested(
     rt: &impl Print,
     name: &str,
@@ -28,6 +29,7 @@ pub fn nested(
 }
 
 // An element with text of so many bytes.
+#[inline(never)]
 pub fn sized(rt: &impl Print, name: &str, count: usize) -> io::Result<()> {
     let mut report = Text::<ROOM>::new();
     report.add(b"<a>");
@@ -37,6 +39,7 @@ pub fn sized(rt: &impl Print, name: &str, count: usize) -> io::Result<()> {
 }
 
 // A tag with so many attributes of different names, n0000, n0001 and so on, and one more of this name.
+#[inline(never)]
 pub fn attributes(rt: &impl Print, name: &str, count: usize, last: &str) -> io::Result<()> {
     let mut report = Text::<ROOM>::new();
     report.add(b"<a");
@@ -48,6 +51,7 @@ pub fn attributes(rt: &impl Print, name: &str, count: usize, last: &str) -> io::
 }
 
 // A tag with so many attributes of one name.
+#[inline(never)]
 pub fn alike(rt: &impl Print, name: &str, count: usize) -> io::Result<()> {
     let mut report = Text::<ROOM>::new();
     report.add(b"<a");

@@ -57,12 +57,19 @@ impl script::Bench for Bench {
 impl Bench {
     fn build_text(&mut self, rt: &impl Print, line: &[u8]) -> io::Result<()> {
         let (name, text) = split_name(line);
-        let mut set = Text::<MAX_TEXT>::new();
-        expand(&mut set, text);
-        let answer = build::build(set.as_slice(), self.automaton.get_mut());
-        print_named(rt, name, Number(answer))
+        let answer = self.expand_and_build(text);
+        print_named(rt, name, answer)
     }
 
+    // Never inlined: the text's array is gone when the answer is printed.
+    #[inline(never)]
+    fn expand_and_build(&mut self, text: &[u8]) -> Number {
+        let mut set = Text::<MAX_TEXT>::new();
+        expand(&mut set, text);
+        Number(build::build(set.as_slice(), self.automaton.get_mut()))
+    }
+
+    #[inline(never)]
     fn build_again(&mut self, rt: &impl Print, rest: &[u8]) -> io::Result<()> {
         let (size, name) = split_word(rest);
         let text = front(self.out.get(), number(size));
@@ -75,6 +82,7 @@ impl Bench {
         print_named(rt, name, Answer("bytes ", answer))
     }
 
+    #[inline(never)]
     fn damage(&mut self, rt: &impl Print, rest: &[u8]) -> io::Result<()> {
         let (at, rest) = split_word(rest);
         let (value, name) = split_word(rest);
@@ -84,6 +92,7 @@ impl Bench {
     }
 
     // `four AT`, `word AT`, `byte AT` of the automaton, and `text N`: the first bytes of what was written. The first byte tells them apart.
+    #[inline(never)]
     fn ask(&self, rt: &impl Print, question: &[u8]) -> io::Result<()> {
         let (_, rest) = split_word(question);
         let at = number(rest);

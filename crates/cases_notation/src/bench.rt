@@ -50,13 +50,20 @@ impl script::Bench for Bench {
 impl Bench {
     fn read(&mut self, rt: &impl Print, line: &[u8]) -> io::Result<()> {
         let (name, text) = split_name(line);
+        let answer = self.expand_and_read(text);
+        print_named(rt, name, answer)
+    }
+
+    // Never inlined: the text's array is gone when the answer is printed.
+    #[inline(never)]
+    fn expand_and_read(&mut self, text: &[u8]) -> Number {
         let mut set = Text::<MAX_TEXT>::new();
         expand(&mut set, text);
-        let answer = read_set(set.as_slice(), self.part.get_mut());
-        print_named(rt, name, Number(answer))
+        Number(read_set(set.as_slice(), self.part.get_mut()))
     }
 
     // Into so many of 78 bytes, each a point before.
+    #[inline(never)]
     fn write_back(&self, rt: &impl Print, rest: &[u8]) -> io::Result<()> {
         let (size, name) = split_word(rest);
         let mut page = [b'.'; 78];
@@ -72,6 +79,7 @@ impl Bench {
 
     // `name NAME`, `byte BYTE`, and of the part: `counts`, `edges`, `folder AT`, `of NUMBER`, `path PLACE`, `step AT`, `label AT`. The first
     // byte tells them apart.
+    #[inline(never)]
     fn ask(&self, rt: &impl Print, question: &[u8]) -> io::Result<()> {
         let (_, rest) = split_word(question);
         let part = self.part.get();

@@ -9,12 +9,15 @@ use machine::layout::AUTOMATON_SIZE;
 use machine::run::layout::RUN_SIZE;
 use machine::run::{asking, close, open, start};
 use notation::{FolderNumber, PathPlace, reads};
-use std::fmt::Display;
+use std::fmt::{Display, Write};
 use std::io;
 use stored::counters::Counters;
 
 // Bytes of a set at most.
 const MAX_SET: usize = 200;
+
+// Bytes of an answer at most, but for a name: three numbers of 20 digits, and their words, take less.
+const MAX_SHORT: usize = 80;
 
 // Each with a byte after it.
 const AUTOMATON_ROOM: usize = AUTOMATON_SIZE + 1;
@@ -77,7 +80,7 @@ impl Bench {
         match sign {
             b's' => {
                 let answer = start::start(a, run, counters).map(|()| "accepted");
-                println!(rt; "  start {}", Answer("", answer))
+                print_started(rt, Answer("", answer))
             }
             b'o' => {
                 let answer = open::open(a, run, counters, name);
@@ -106,24 +109,31 @@ impl Bench {
         match question {
             [b'p', ..] => {
                 let answer = asking::path_matched(a, run, PathPlace(n)).map(YesNo);
-                println!(rt; "  path {n} {}", Answer("", answer))
+                print_asked(rt, "path", n, Answer("", answer))
             }
-            [b's', ..] => {
-                let answer = asking::step_active(a, run, PathPlace(n), step).map(YesNo);
-                println!(rt; "  path {n} step {step} {}", Answer("", answer))
-            }
+            [b's', ..] => self.ask_step(rt, n, step),
             [b'f', ..] => {
                 let answer = asking::folder_matched(a, run, FolderNumber(n)).map(YesNo);
-                println!(rt; "  folder {n} {}", Answer("", answer))
+                print_asked(rt, "folder", n, Answer("", answer))
             }
-            [b'l', ..] => {
-                let answer = asking::prefix_length(a, run);
-                println!(rt; "  prefix {}", Answer("", answer))
-            }
+            [b'l', ..] => self.ask_prefix(rt),
             [b'n', ..] => self.ask_name(rt, n),
             [b'b', ..] => self.print_ends(rt),
             _ => self.print_counters(rt),
         }
+    }
+
+    fn ask_step(&self, rt: &impl Print, n: usize, step: usize) -> io::Result<()> {
+        let answer = asking::step_active(self.automaton.get(), self.run.get(), PathPlace(n), step);
+        print_short(
+            rt,
+            &format_args!("  path {n} step {step} {}\n", Answer("", answer.map(YesNo))),
+        )
+    }
+
+    fn ask_prefix(&self, rt: &impl Print) -> io::Result<()> {
+        let answer = asking::prefix_length(self.automaton.get(), self.run.get());
+        print_short(rt, &format_args!("  prefix {}\n", Answer("", answer)))
     }
 
     // The name between brackets, and the refusal beside it.
@@ -131,9 +141,9 @@ impl Bench {
         let a = self.automaton.get();
         let run = self.run.get();
         let answer = asking::name_refusal(a, run, depth).map(|()| "accepted");
-        print!(rt; "  name {depth} (")?;
+        print_short(rt, &format_args!("  name {depth} ("))?;
         rt.write_all(asking::open_name(a, run, depth))?;
-        println!(rt; ") {}", Answer("", answer))
+        print_short(rt, &format_args!(") {}\n", Answer("", answer)))
     }
 
     // The last byte that is lent of each buffer, and the byte after it.
@@ -143,7 +153,7 @@ impl Bench {
             (self.run.get(), RUN_SIZE),
         ] {
             for at in [size - 1, size] {
-                println!(rt; "  byte {at} {}", reads::byte_at(buffer, at))?;
+                print_byte(rt, buffer, at)?;
             }
         }
         Ok(())
@@ -155,7 +165,7 @@ impl Bench {
             closes,
             moves,
         } = self.counters;
-        println!(rt; "  counters {opens} {closes} {moves}")
+        print_short(rt, &format_args!("  counters {opens} {closes} {moves}\n"))
     }
 
     // `=automaton AT BYTE`, `=run AT BYTE`, `=sizes AUTOMATON RUN`, `=counters OPENS CLOSES MOVES`. The first byte tells them apart.
@@ -186,6 +196,30 @@ fn put_byte(part: &mut [u8], at: usize, value: usize) {
     }
 }
 
+// What is shorter than the text, printed by way of it: `println!` takes 2.6 kB of stack, and the buffers leave no such room. For the same
+// reason each form of answer has a function: what they hold then shares its place once they are inlined.
+#[inline(never)]
+fn print_short<D: Display>(rt: &impl Print, shown: &D) -> io::Result<()> {
+    let mut text = Text::<MAX_SHORT>::new();
+    let _ = write!(text, "{shown}");
+    rt.write_all(text.as_slice())
+}
+
+fn print_asked(rt: &impl Print, asked: &str, n: usize, answer: Answer<YesNo>) -> io::Result<()> {
+    print_short(rt, &format_args!("  {asked} {n} {answer}\n"))
+}
+
+fn print_started<D: Display + Drop>(rt: &impl Print, answer: D) -> io::Result<()> {
+    print_short(rt, &format_args!("  start {answer}\n"))
+}
+
+fn print_byte(rt: &impl Print, buffer: &[u8], at: usize) -> io::Result<()> {
+    print_short(
+        rt,
+        &format_args!("  byte {at} {}\n", reads::byte_at(buffer, at)),
+    )
+}
+
 // A call of a name, and what it answered.
 fn print_called<D: Display + Drop>(
     rt: &impl Print,
@@ -193,7 +227,7 @@ fn print_called<D: Display + Drop>(
     name: &[u8],
     answer: D,
 ) -> io::Result<()> {
-    print!(rt; "  {call} ")?;
+    print_short(rt, &format_args!("  {call} "))?;
     rt.write_all(name)?;
-    println!(rt; " {answer}")
+    print_short(rt, &format_args!(" {answer}\n"))
 }

@@ -56,22 +56,33 @@ impl script::Bench for Bench {
 
 impl Bench {
     fn build(&mut self, rt: &impl Print, line: &[u8]) -> io::Result<()> {
+        let answer = self.expand_and_build(line);
+        print_named(rt, b"built", answer)
+    }
+
+    // Never inlined: the text's array is gone when the answer is printed.
+    #[inline(never)]
+    fn expand_and_build(&mut self, line: &[u8]) -> Number {
         let mut set = Text::<MAX_TEXT>::new();
         expand(&mut set, line);
-        let answer = build::build(set.as_slice(), self.automaton.whole_mut());
-        println!(rt; "built: {}", Number(answer))
+        Number(build::build(set.as_slice(), self.automaton.whole_mut()))
     }
 
     // A report stands as it is: its tags would be taken for folders.
     fn file(&mut self, rt: &impl Print, line: &[u8]) -> io::Result<()> {
-        let mut counters = Counters::none();
-        let answer = file_report(
+        let answer = self.file_whole(line);
+        print_named(rt, b"filed", answer)
+    }
+
+    // Never inlined, as what filing holds would stay beside the buffers.
+    #[inline(never)]
+    fn file_whole(&mut self, report: &[u8]) -> Number {
+        Number(file_report(
             self.automaton.whole(),
             self.run.whole_mut(),
-            &mut counters,
-            line,
-        );
-        println!(rt; "filed: {}", Number(answer))
+            &mut Counters::none(),
+            report,
+        ))
     }
 
     // `automaton AT BYTE`, `run AT BYTE`, `sizes AUTOMATON RUN SHEET`, `filler BYTE`. The first byte tells them apart.
@@ -93,6 +104,7 @@ impl Bench {
 
     // The sheet, and how many bytes after it were not written to, up to the first that was; the name alone where the sheet's size is past
     // its buffer.
+    #[inline(never)]
     fn show(&mut self, rt: &impl Print, name: &[u8]) -> io::Result<()> {
         if !self.out.fits() {
             return rt.write_all(name);

@@ -142,11 +142,12 @@ fn print_span(rt: &impl Print, bytes: &[u8], at: usize) -> io::Result<()> {
 }
 
 fn print_cases(rt: &impl Print) -> io::Result<()> {
-    for bytes in CASES {
+    // By reference: the arrays are not copied.
+    for bytes in &CASES {
         print_case(rt, bytes)?;
     }
-    for (bytes, at) in SPANS {
-        print_span(rt, bytes, at)?;
+    for (bytes, at) in &SPANS {
+        print_span(rt, bytes, *at)?;
     }
     Ok(())
 }
