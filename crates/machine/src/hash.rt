@@ -1,5 +1,5 @@
-// The hash of a name: every byte of it, 31 h + b modulo the count of hashes. The count divides where sum and product wrap, so that no bound of them
-// is carried along.
+// The hash of a name: every byte of it, 31 h + b modulo the count of hashes. What a turn begins with is below the count, and taken modulo it once more
+// so that no bound of it is carried along; the compiler leaves that out.
 ghost use Rattle.std.specs.Prelude.{◌≡◌, ◌<◌};
 ghost use Rattle.stored.specs.Automaton.{hashes, hash};
 
@@ -9,6 +9,6 @@ pub fn hash_of(e: &[u8]) -> usize
     ensures { (result ≡ hash e.now) × (result < hashes) }
 {
     e.iter().fold(0, |h: usize, b| {
-        h.wrapping_mul(31).wrapping_add(usize::from(*b)) % HASHES
+        (h % HASHES * 31 + usize::from(*b)) % HASHES
     })
 }

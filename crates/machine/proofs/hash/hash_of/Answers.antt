@@ -1,5 +1,5 @@
--- `hash::hash_of`: a turn is the definition's, as the count of hashes divides 2 ^ 64.
-use Prim.Native.Nat.{ℕ, ◌+◌, ◌*◌, ◌%◌, ◌^◌}
+-- `hash::hash_of`: a turn is the definition's.
+use Prim.Native.Nat.{ℕ, ◌+◌, ◌*◌, ◌%◌}
 use mathlib.Core.Path.{◌≡◌, refl, ap, ◌∙◌}
 use mathlib.Core.List.{List, [], ◌∷◌}
 use native.Mathlib.Omega.{arith}
@@ -10,7 +10,7 @@ use Rattle.stored.proofs.Laws.Tables.Chained.{hash-small}
 use Rattle.machine.proofs.hash.hash_of.Goals as goal
 
 abbrev one_more : ℕ → ℕ → ℕ
-one_more h b = (h * 31 % 2 ^ 64 + b) % 2 ^ 64 % hashes
+one_more h b = (h % hashes * 31 + b) % hashes
 
 folded : (e : List ℕ) (h : ℕ) → fold one_more h e ≡ hash_from h e
 unfolding hash_from hashes
