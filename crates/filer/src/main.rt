@@ -6,10 +6,11 @@ ghost use Rattle.std.specs.Result.{result_unwrap_or};
 ghost use Rattle.filing.specs.Printed.{PrintedFor};
 ghost use Rattle.programs.specs.Shows.{Shows};
 
+use filing::limits::LISTING_SIZE;
 use filing::printing::print_filing;
 use machine::layout::AUTOMATON_SIZE;
 use machine::run::layout::RUN_SIZE;
-use programs::output::{MAX_PAGE, print_page};
+use programs::output::print_page;
 use std::io;
 use text::refusals::Refusal;
 
@@ -19,7 +20,7 @@ fn filed(
     report: &[u8],
     automaton: &mut [u8; AUTOMATON_SIZE],
     run: &mut [u8; RUN_SIZE],
-    out: &mut [u8; MAX_PAGE],
+    out: &mut [u8; LISTING_SIZE],
 ) -> Result<usize, Refusal>
     ensures { Shows PrintedFor set.now report.now (result_unwrap_or result 0) out.new }
 {
@@ -27,5 +28,6 @@ fn filed(
 }
 
 fn main(rt: HostRuntime) -> io::Result<()> {
-    print_page(&rt, filed)
+    let mut out = [0; LISTING_SIZE];
+    print_page(&rt, &mut out, filed)
 }

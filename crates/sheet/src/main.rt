@@ -8,7 +8,8 @@ ghost use Rattle.programs.specs.Shows.{Shows};
 
 use machine::layout::AUTOMATON_SIZE;
 use machine::run::layout::RUN_SIZE;
-use programs::output::{MAX_PAGE, print_page};
+use programs::output::print_page;
+use sheets::limits::SHEET_SIZE;
 use sheets::printing::print_sheet;
 use std::io;
 use text::refusals::Refusal;
@@ -19,7 +20,7 @@ fn shown(
     report: &[u8],
     automaton: &mut [u8; AUTOMATON_SIZE],
     run: &mut [u8; RUN_SIZE],
-    out: &mut [u8; MAX_PAGE],
+    out: &mut [u8; SHEET_SIZE],
 ) -> Result<usize, Refusal>
     ensures { Shows SheetFor set.now report.now (result_unwrap_or result 0) out.new }
 {
@@ -27,5 +28,6 @@ fn shown(
 }
 
 fn main(rt: HostRuntime) -> io::Result<()> {
-    print_page(&rt, shown)
+    let mut out = [0; SHEET_SIZE];
+    print_page(&rt, &mut out, shown)
 }
