@@ -1,74 +1,57 @@
-// A buffer of which the first bytes are lent to a call.
-ghost use Rattle.std.specs.Prelude.{◌≡◌, ◌<◌, ◌≤◌, length};
-
+// A buffer of which the first bytes are lent to a call, of as many as are asked for, on the heap. `bytes::lent` has it in an array.
+use crate::script::place;
+use anyhow::{Context, Result, ensure};
+use std::alloc::Global;
 use std::marker::Model;
 
 #[derive(Drop)]
-pub struct Lent<const ROOM: usize> {
-    bytes: [u8; ROOM],
-    // Whether there were as many as were to be lent. Beside the bytes: where padding follows them, a new buffer is copied into its bench.
-    fits: bool,
+pub struct Lent {
+    bytes: Vec<u8>,
     size: usize,
 }
 
-impl<const ROOM: usize> Model for Lent<ROOM> {
-    ghost use Rattle.std.specs.Prelude.{List, ℕ, take, ◌≤◌};
+impl Model for Lent {
+    ghost use Rattle.std.specs.Prelude.{List, ℕ, take, vec_len, ◌≤◌};
 
     ghost Value = { List ℕ };
 
-    ghost view = { λ l. take l.size l.bytes };
+    ghost view = { λ l. take l.size l.bytes.items };
 
-    ghost invariant = { λ l. l.size ≤ ROOM };
+    ghost invariant = { λ l. l.size ≤ vec_len l.bytes };
 }
 
-impl<const ROOM: usize> Lent<ROOM> {
-    // Equal bytes; how many of them are lent.
-    pub fn new(value: u8, size: usize) -> Self {
-        let mut lent = Lent {
-            bytes: [value; ROOM],
-            size: 0,
-            fits: true,
-        };
-        lent.lend(size);
-        lent
+impl Lent {
+    // So many equal bytes; how many of them are lent.
+    pub fn new(alloc: Global, value: u8, room: usize, size: usize) -> Result<Self> {
+        let bytes = vec![in alloc; value; room]?;
+        ensure!(size <= room, "{size} bytes of {room}");
+        Ok(Lent { bytes, size })
     }
 
-    // From now on so many are lent, none where there are fewer.
-    pub fn lend(&mut self, size: usize)
-        ensures within { size ≤ ROOM → length self.new ≡ size }
-        ensures past { ROOM < size → length self.new ≡ 0 }
-    {
-        self.fits = size <= ROOM;
-        self.size = if self.fits { size } else { 0 };
+    // From now on so many are lent.
+    pub fn lend(&mut self, size: usize) -> Result<()> {
+        let room = self.bytes.len();
+        ensure!(size <= room, "{size} bytes of {room}");
+        self.size = size;
+        Ok(())
     }
 
-    pub fn fits(&self) -> bool {
-        self.fits
+    pub fn put(&mut self, at: usize, value: u8) -> Result<()> {
+        *self.bytes.get_mut(at).context("past the buffer")? = value;
+        Ok(())
     }
 
-    pub fn get(&self) -> &[u8]
-        ensures { result.now ≡ self.now }
-    {
+    // `AT BYTE`: a byte is put at a place.
+    pub fn put_placed(&mut self, text: &str) -> Result<()> {
+        let (at, value) = place(text)?;
+        self.put(at, value)
+    }
+
+    pub fn get(&self) -> &[u8] {
         &self.bytes[..self.size]
     }
 
     pub fn get_mut(&mut self) -> &mut [u8] {
         &mut self.bytes[..self.size]
-    }
-
-    // The whole buffer, whatever is lent of it.
-    pub fn whole(&self) -> &[u8] {
-        &self.bytes
-    }
-
-    pub fn whole_mut(&mut self) -> &mut [u8] {
-        &mut self.bytes
-    }
-}
-
-// What would lie past the part is not written.
-pub fn put(part: &mut [u8], at: usize, value: u8) {
-    if let Some(place) = part.get_mut(at) {
-        *place = value;
     }
 }

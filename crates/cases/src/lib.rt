@@ -2,6 +2,7 @@
 #![tactic(auto)]
 
 pub mod answers;
+pub mod bytes;
 pub mod lent;
 pub mod script;
 pub mod texts;

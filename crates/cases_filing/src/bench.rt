@@ -1,8 +1,8 @@
 // Files a report with a set and prints what the program prints. The buffers of a case are arrays of its function: in a struct with a
 // constructor they are copied. It is never inlined: buffers of several cases would stand in one frame.
 use cases::answers::{Number, Shown};
-use cases::lent::put;
-use cases::script::front;
+use cases::bytes::lent::put;
+use cases::bytes::script::front;
 use filing::limits::LISTING_SIZE;
 use filing::listing::{write_listing, write_refused};
 use filing::report::file_report;

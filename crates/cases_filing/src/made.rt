@@ -1,6 +1,6 @@
 // Reports made of repeated pieces. What holds an array is never inlined: arrays of several cases would stand in one frame.
 use crate::bench::file;
-use cases::texts::Text;
+use cases::bytes::texts::Text;
 use std::fmt::Write;
 use std::io;
 

@@ -2,9 +2,9 @@
 // bytes, is built. `!AT BYTE NAME`: the worked example with one byte changed is written back. `?`: something asked. `=`: something put in
 // place. `;`: a remark, shown: what the offsets after it are.
 use cases::answers::{Answer, Number, print_line, print_named};
-use cases::lent::{Lent, put};
-use cases::script::{self, Line, byte, front, number, numbers, split_word, trimmed};
-use cases::texts::{MAX_TEXT, Text, expand, split_name};
+use cases::bytes::lent::{Lent, put};
+use cases::bytes::script::{self, Line, byte, front, number, numbers, split_word, trimmed};
+use cases::bytes::texts::{MAX_TEXT, Text, expand, split_name};
 use machine::build;
 use machine::layout::AUTOMATON_SIZE;
 use machine::write::write_set;

@@ -3,9 +3,9 @@
 // `;`: a remark.
 use crate::stored;
 use cases::answers::{Number, YesNo, print_named};
-use cases::lent::Lent;
-use cases::script::{self, Line, byte, number, split_word, trimmed};
-use cases::texts::{MAX_TEXT, Text, expand, split_name};
+use cases::bytes::lent::Lent;
+use cases::bytes::script::{self, Line, byte, number, split_word, trimmed};
+use cases::bytes::texts::{MAX_TEXT, Text, expand, split_name};
 use notation::layout::SET_SIZE;
 use notation::read::read_set;
 use notation::write::write_text;

@@ -5,7 +5,7 @@ mod bench;
 mod stored;
 
 use bench::Bench;
-use cases::script::carry_out;
+use cases::bytes::script::carry_out;
 
 fn main(rt: HostRuntime) {
     carry_out::<Bench>(&rt);

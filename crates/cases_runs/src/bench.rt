@@ -1,9 +1,9 @@
 // A line of the script is carried out. `# TITLE`. `(`: a set, built. `?`: something asked. `=`: something put in place. `;`: a remark.
 // Any other line is a call that changes the run.
 use cases::answers::{Answer, YesNo};
-use cases::lent::{Lent, put};
-use cases::script::{self, Line, number, numbers, split_word, trimmed};
-use cases::texts::{Text, expand};
+use cases::bytes::lent::{Lent, put};
+use cases::bytes::script::{self, Line, number, numbers, split_word, trimmed};
+use cases::bytes::texts::{Text, expand};
 use machine::build;
 use machine::layout::AUTOMATON_SIZE;
 use machine::run::layout::RUN_SIZE;

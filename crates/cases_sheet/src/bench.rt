@@ -1,9 +1,9 @@
 // A line of the script is carried out. `(`: a set, built. `<`: a report, filed. `=`: something put in place. `;`: a remark, shown. Any other
 // line names a case: the sheet is written and shown.
 use cases::answers::{Answer, Number, print_named};
-use cases::lent::{Lent, put};
-use cases::script::{self, Line, byte, numbers, place, split_word, trimmed};
-use cases::texts::{MAX_TEXT, Text, expand};
+use cases::bytes::lent::{Lent, put};
+use cases::bytes::script::{self, Line, byte, numbers, place, split_word, trimmed};
+use cases::bytes::texts::{MAX_TEXT, Text, expand};
 use filing::report::file_report;
 use machine::build;
 use machine::layout::AUTOMATON_SIZE;

@@ -4,7 +4,7 @@
 mod bench;
 
 use bench::Bench;
-use cases::script::carry_out;
+use cases::bytes::script::carry_out;
 
 fn main(rt: HostRuntime) {
     carry_out::<Bench>(&rt);

@@ -1,6 +1,6 @@
 -- Each turn fills more of the buffer.
 use Rattle.std.proofs.Common.{◌≤◌, ◌-◌, length}
-use Rattle.cases.proofs.script.read.Given as goal
+use Rattle.cases.proofs.bytes.script.read.Given as goal
 
 abbrev pub invariant-loop-more : goal.invariant-loop-more
 invariant-loop-more g l = l.size ≤ length l.buffer
