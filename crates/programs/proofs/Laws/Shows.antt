@@ -30,20 +30,20 @@ in-front {text = text} {before} {after} {answer} p =
     let within : length text ≤ length after = omega (arith, length-append text (drop (length text) before), ap length p.leaves) in
     rw (size-said answer (length text) p.answers) (within, ap (take (length text)) p.leaves ∙ take-append_seam text (drop (length text) before))
 
+-- buffers of their sizes are not too small
+enough : (size : ℕ) (a run out : List ℕ) → automaton_size ≤ length a → run_size ≤ length run → size ≤ length out → too_small size a run out ≡ false
+unfolding too_small
+enough size a run out h k l = rw (le-ltb (length a) automaton_size h, le-ltb (length run) run_size k, le-ltb (length out) size l)
+
 -- what is shown is printed, whether or not it is known that something is
 module _ (size : ℕ) (For : FolderSet → List ℕ → List ℕ → Type 0) (set report a run out : List ℕ) (answer : Result ℕ Refusal) (a' run' out' : List ℕ) where
   pub shown-text : automaton_size ≤ length a → run_size ≤ length run → size ≤ length out → PrintsBy size For set report a run out answer a' run' out'
       → (bytes : List ℕ) → ShownText For set report bytes → take (result_unwrap_or answer 0) out' ≡ bytes
-  unfolding too_small
-  shown-text h k l p bytes t =
-      let enough : too_small size a run out ≡ false = rw (le-ltb (length a) automaton_size h, le-ltb (length run) run_size k, le-ltb (length out) size l) in
-      (in-front (p.printed enough bytes t)).1
+  shown-text h k l p bytes t = (in-front (p.printed (enough size a run out h k l) bytes t)).1
 
 module _ (size : ℕ) (For : FolderSet → List ℕ → List ℕ → Type 0) (total : Total For) (set report a run out : List ℕ) (answer : Result ℕ Refusal) (a' run' out' : List ℕ) where
   pub shows : automaton_size ≤ length a → run_size ≤ length run → size ≤ length out → PrintsBy size For set report a run out answer a' run' out'
       → Shows For set report (result_unwrap_or answer 0) out'
-  unfolding too_small
   shows h k l p =
-      let enough : too_small size a run out ≡ false = rw (le-ltb (length a) automaton_size h, le-ltb (length run) run_size k, le-ltb (length out) size l) in
-      let (text, x) = some-printed size For set report a run out answer a' run' out' p enough total in
+      let (text, x) = some-printed size For set report a run out answer a' run' out' p (enough size a run out h k l) total in
       record { counts = (in-front x).0; shown = shown-text size For set report a run out answer a' run' out' h k l p }
